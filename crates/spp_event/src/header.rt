@@ -1,0 +1,251 @@
+//! The header of a trace, with the names of its functions and sites.
+
+ghost use Rattle.std.specs.Prelude.{◌≡◌, ◌≢◌, ◌<◌, ◌≤◌, ◌+◌, ◌^◌, [], Some, true, if◌then◌else◌, not, List, ℕ, length, map, take, drop, IfOk, IfErr, OnOk, Ok, Err, MatchResult};
+ghost use Rattle.std.specs.Int.{w16, from_be_bytes};
+ghost use Rattle.spp_event.specs.Seen.{has};
+ghost use Rattle.std.specs.Str.{bytes_eq};
+ghost use Rattle.spp_event.specs.declared.header.HeaderFault.TheVariants.{Memory};
+ghost use Rattle.spp_event.specs.Records.{word_at};
+ghost use Rattle.spp_event.specs.Recordings.{Recording};
+ghost use Rattle.spp_event.specs.Texts.{header_fault_text};
+ghost use Rattle.spp_event.specs.Header.{IsTraceOf, IsHeaderFault, root_name, magic};
+ghost use Rattle.spp_event.specs.Checks.{Gives, is_printable as printable, name_at, funcs_at, sites_at, trace_at, are_limits};
+
+use crate::traces::Trace;
+use std::alloc::{AllocError, AllocFailed, Global};
+use std::collections::BTreeSet;
+use std::error::Error;
+use std::fmt;
+
+/// Why bytes open as no trace: what is wrong first, or want of memory.
+///
+/// Names are numbered on: function names from 0, then site names from the number of functions.
+#[derive(Clone, Copy, Debug, PartialEq, Eq)]
+pub enum HeaderFault {
+    /// The bytes end within the header.
+    Short,
+    /// The first eight bytes are not those of a trace.
+    Magic,
+    /// The number of functions, sites or events is outside its limits.
+    Limits,
+    /// A name has a length outside 1 to 200, or a byte that is not printable ASCII.
+    Name {
+        /// The number of the name.
+        number: u32,
+    },
+    /// A site has the name of an earlier site, or that of the root's row.
+    SameName {
+        /// The number of the later name.
+        number: u32,
+    },
+    /// The root function is not below the number of functions.
+    RootFunc,
+    /// More bytes follow the header than all events have.
+    Trailing,
+    /// No memory was left for the names.
+    Memory,
+}
+
+impl fmt::Display for HeaderFault {
+    ghost output = { λ f. Some (header_fault_text f) };
+
+    fn fmt<W: fmt::Write>(&self, f: &mut fmt::Formatter<W>) -> fmt::Result {
+        match self {
+            HeaderFault::Short => write!(f, "short"),
+            HeaderFault::Magic => write!(f, "magic"),
+            HeaderFault::Limits => write!(f, "limits"),
+            HeaderFault::Name { number } => write!(f, "name {number}"),
+            HeaderFault::SameName { number } => write!(f, "same name {number}"),
+            HeaderFault::RootFunc => write!(f, "root function"),
+            HeaderFault::Trailing => write!(f, "trailing"),
+            HeaderFault::Memory => write!(f, "out of memory"),
+        }
+    }
+}
+
+impl Error for HeaderFault {}
+
+impl From<AllocError> for HeaderFault {
+    ghost from_gives = { λ _ e. e ≡ Memory };
+
+    fn from(_e: AllocError) -> HeaderFault {
+        HeaderFault::Memory
+    }
+}
+
+impl<T: Drop> From<AllocFailed<T>> for HeaderFault {
+    ghost from_gives = { λ _ e. e ≡ Memory };
+
+    fn from(_e: AllocFailed<T>) -> HeaderFault {
+        HeaderFault::Memory
+    }
+}
+
+/// Whether each byte is a printable one.
+fn is_printable(name: &[u8]) -> bool
+    ensures { result ≡ printable name.now }
+{
+    name.iter().all(|b| (0x20..=0x7e).contains(b))
+}
+
+/// The name at the front, and the bytes after it.
+#[tactic(auto, unfolding(crate::specs::Checks::name_at))]
+fn name_of(number: u32, bytes: &[u8]) -> Result<(&str, &[u8]), HeaderFault>
+    ensures { Gives (λ x. (x.0.now, x.1.now)) result (name_at number bytes.now) }
+{
+    if bytes.len() < 2 {
+        return Err(HeaderFault::Short);
+    }
+    let (front, rest) = bytes.split_at(2);
+    let len = usize::from(u16::from_be_bytes([front[0], front[1]]));
+    if len == 0 || len > 200 {
+        return Err(HeaderFault::Name { number });
+    }
+    if rest.len() < len {
+        return Err(HeaderFault::Short);
+    }
+    let (name, others) = rest.split_at(len);
+    if !is_printable(name) {
+        return Err(HeaderFault::Name { number });
+    }
+    match str::from_utf8(name) {
+        Ok(text) => Ok((text, others)),
+        Err(_) => Err(HeaderFault::Name { number }),
+    }
+}
+
+/// The names of the functions, and the bytes after them.
+fn funcs_of(alloc: Global, count: u32, bytes: &[u8]) -> Result<(Vec<&str>, &[u8]), HeaderFault>
+    ensures names { Gives (λ x. (map (λ s. s.now) x.0.items, x.1.now)) result (funcs_at count [] bytes.now) }
+    ensures count { IfOk result (λ x. length x.0.items ≡ count) }
+{
+    let mut names = Vec::new(alloc);
+    let mut rest = bytes;
+    for number in 0..count {
+        let (name, others) = name_of(number, rest)?;
+        names.push(name)?;
+        rest = others;
+    }
+    Ok((names, rest))
+}
+
+/// Whether it is the name of the root's row, which no site may have.
+fn is_root_name(name: &str) -> bool
+    ensures { result ≡ bytes_eq name.now root_name }
+{
+    name == "(root)"
+}
+
+/// Notes a site's name, and says whether it was new.
+fn note<'a>(seen: &mut BTreeSet<&'a str>, name: &'a str) -> Result<bool, AllocError>
+    ensures new { IfOk result (λ new. new ≡ not (has seen.old name.now)) }
+    ensures has { OnOk result ((q : List ℕ) → has seen.new q ≡ (if bytes_eq name.now q then true else has seen.old q)) }
+{
+    Ok(seen.insert(name)?)
+}
+
+/// The names of the sites, and the bytes after them.
+fn sites_of(
+    alloc: Global,
+    count: u32,
+    first: u32,
+    bytes: &[u8],
+) -> Result<(Vec<&str>, &[u8]), HeaderFault>
+    requires { first + count < 2 ^ 32 }
+    ensures names { Gives (λ x. (map (λ s. s.now) x.0.items, x.1.now)) result (sites_at count first [] bytes.now) }
+    ensures count { IfOk result (λ x. length x.0.items ≡ count) }
+{
+    let mut names = Vec::new(alloc);
+    let mut seen: BTreeSet<&str> = BTreeSet::new(alloc);
+    let mut rest = bytes;
+    for number in 0..count {
+        let (name, others) = name_of(first + number, rest)?;
+        let fresh = note(&mut seen, name)?;
+        if is_root_name(name) || !fresh {
+            return Err(HeaderFault::SameName {
+                number: first + number,
+            });
+        }
+        names.push(name)?;
+        rest = others;
+    }
+    Ok((names, rest))
+}
+
+/// Whether they are the first eight bytes of a trace.
+fn is_magic(front: &[u8]) -> bool
+    ensures { result ≡ bytes_eq front.now magic }
+{
+    front == b"SPTRACE1".as_slice()
+}
+
+/// The number of four bytes at a place of the header.
+fn word_of(bytes: &[u8], at: usize) -> u32
+    requires { at + 4 ≤ length bytes.now }
+    ensures { result ≡ word_at bytes.now at }
+{
+    let field = &bytes[at..at + 4];
+    u32::from_be_bytes([field[0], field[1], field[2], field[3]])
+}
+
+/// Whether the numbers of a header are within the limits of a trace.
+fn are_in_limits(funcs: u32, sites: u32, count: u32) -> bool
+    ensures { result ≡ are_limits funcs sites count }
+{
+    0 < funcs && funcs <= 65536 && sites <= 65536 && count <= 1 << 28
+}
+
+/// The trace that the bytes are, or the first check that fails, unless memory runs out.
+#[tactic(auto, unfolding(crate::specs::Checks::trace_at))]
+fn checked<'a>(alloc: Global, bytes: &'a [u8]) -> Result<Trace<'a>, HeaderFault>
+    ensures { Gives (λ t. t) result (trace_at bytes.now) }
+{
+    if bytes.len() < 24 {
+        return Err(HeaderFault::Short);
+    }
+    if !is_magic(&bytes[..8]) {
+        return Err(HeaderFault::Magic);
+    }
+    let funcs = word_of(bytes, 8);
+    let sites = word_of(bytes, 12);
+    let root = word_of(bytes, 16);
+    let count = word_of(bytes, 20);
+    if !are_in_limits(funcs, sites, count) {
+        return Err(HeaderFault::Limits);
+    }
+    if funcs <= root {
+        return Err(HeaderFault::RootFunc);
+    }
+    let (func_names, rest) = funcs_of(alloc, funcs, &bytes[24..])?;
+    let (site_names, body) = sites_of(alloc, sites, funcs, rest)?;
+    if 16 * u64::from(count) < body.len() as u64 {
+        return Err(HeaderFault::Trailing);
+    }
+    Ok(Trace {
+        funcs: func_names,
+        sites: site_names,
+        root,
+        count,
+        body,
+    })
+}
+
+/// Opens the bytes of a trace, whose names and records are borrowed from them.
+///
+/// Events aren't looked at: a bad record is told by [`Trace::event_at`] alone. The time is that of reading all names
+/// and of about S log S comparisons of names, S being the number of sites. The memory is linear in the number of names
+/// that are there: nothing is allocated for a number that the header only claims.
+///
+/// # Errors
+///
+/// The first fault of the header, by what stands before it being good; `Memory` where a growth was refused.
+pub fn open_trace<'a>(alloc: Global, bytes: &'a [u8]) -> Result<Trace<'a>, HeaderFault>
+    // What is opened is a trace.
+    ensures found { IfOk result (λ t. (body : List ℕ) × IsTraceOf bytes.now t body) }
+    // What is a trace is opened, unless memory runs out.
+    ensures only { (t : Recording) (body : List ℕ) → IsTraceOf bytes.now t body → MatchResult result (λ u. u ≡ t) (λ f. f ≡ Memory) }
+    // What is refused has that fault first, unless memory ran out.
+    ensures refused { IfErr result (λ f. f ≢ Memory → IsHeaderFault bytes.now f) }
+{
+    checked(alloc, bytes)
+}

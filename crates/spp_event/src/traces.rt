@@ -1,0 +1,107 @@
+//! An opened trace.
+
+ghost use Rattle.std.specs.Prelude.{◌≡◌, ◌<◌, length, slice_index_or, [], IfOk};
+ghost use Rattle.spp_event.specs.Records.{IsEventOf};
+ghost use Rattle.spp_event.specs.Header.{HasGoodNames};
+ghost use Rattle.spp_event.specs.Recordings.{InLimits, record_at};
+
+use crate::records::{Event, EventFault, event_of};
+use std::marker::Model;
+
+/// The bytes of one record.
+const RECORD: usize = 16;
+
+/// An opened trace: its names, its root function, and its events. Names and events are borrowed from the bytes that
+/// it was opened from.
+///
+/// Contracts see it as a recording: the names of its functions and of its sites, the root function, and one record
+/// for each event, which is that event or what is wrong with its bytes.
+#[derive(Drop)]
+pub struct Trace<'a> {
+    pub(crate) funcs: Vec<&'a str>,
+    pub(crate) sites: Vec<&'a str>,
+    pub(crate) root: u32,
+    pub(crate) count: u32,
+    pub(crate) body: &'a [u8],
+}
+
+impl<'a> Model for Trace<'a> {
+    ghost use Rattle.std.specs.Prelude.{◌≡◌, ◌<◌, ◌≤◌, ◌^◌, length, map};
+    ghost use Rattle.spp_event.specs.Recordings.{Recording, InLimits, records_of};
+    ghost use Rattle.spp_event.specs.Header.{HasGoodNames, IsSound};
+
+    ghost Value = { Recording };
+
+    ghost view = { λ t. record { funcs = map (λ s. s.now) t.funcs.items; sites = map (λ s. s.now) t.sites.items; root = t.root; records = records_of (length t.sites.items) (length t.funcs.items) t.count t.body.now } };
+
+    ghost invariant = { λ t. IsSound (map (λ s. s.now) t.funcs.items) (map (λ s. s.now) t.sites.items) t.root t.count };
+}
+
+impl<'a> Trace<'a> {
+    /// How many events the trace has, bad ones among them: at most 2^28.
+    pub fn count(&self) -> u32
+        ensures count { result ≡ length self.now.records }
+        ensures limits { InLimits self.now }
+        ensures names { HasGoodNames self.now }
+    {
+        self.count
+    }
+
+    /// How many functions it names: 1 to 65,536.
+    pub fn funcs(&self) -> u32
+        ensures { result ≡ length self.now.funcs }
+    {
+        self.funcs.len() as u32
+    }
+
+    /// How many call sites it names: at most 65,536.
+    pub fn sites(&self) -> u32
+        ensures { result ≡ length self.now.sites }
+    {
+        self.sites.len() as u32
+    }
+
+    /// The function of the root frame, which is open from the start and closed by the end.
+    pub fn root(&self) -> u32
+        ensures { result ≡ self.now.root }
+    {
+        self.root
+    }
+
+    /// The name of function `n`, which is below [`Trace::funcs`].
+    pub fn func_name(&self, n: u32) -> &'a str
+        requires { n < length self.now.funcs }
+        ensures { result.now ≡ slice_index_or self.now.funcs n [] }
+    {
+        self.funcs[n as usize]
+    }
+
+    /// The name of call site `n`, which is below [`Trace::sites`].
+    pub fn site_name(&self, n: u32) -> &'a str
+        requires { n < length self.now.sites }
+        ensures { result.now ≡ slice_index_or self.now.sites n [] }
+    {
+        self.sites[n as usize]
+    }
+
+    /// The event at position `i`, which is below [`Trace::count`]. It takes no memory and a constant time.
+    ///
+    /// # Errors
+    ///
+    /// The first fault of the record, in the order of [`EventFault`].
+    pub fn event_at(&self, i: u32) -> Result<Event, EventFault>
+        requires { i < length self.now.records }
+        ensures said { result ≡ record_at self.now.records i }
+        ensures within { IfOk result (λ e. IsEventOf (length self.now.sites) (length self.now.funcs) e) }
+    {
+        let sites = self.sites.len() as u32;
+        let funcs = self.funcs.len() as u32;
+        let Some(rest) = self.body.get(i as usize * RECORD..) else {
+            return Err(EventFault::Truncated);
+        };
+        let Some(record) = rest.first_chunk::<RECORD>() else {
+            return Err(EventFault::Truncated);
+        };
+        event_of(record, sites, funcs)
+    }
+}

@@ -1,0 +1,117 @@
+//! Whether the frames of a trace nest, and its work.
+#![tactic(auto)]
+
+ghost use Rattle.std.specs.Prelude.{◌≡◌, ◌<◌, ◌++◌, List, length, IfOk, IfErr, MatchResult, Some, codes, decimal};
+ghost use Rattle.spp_event.specs.Texts.{event_fault_text};
+ghost use Rattle.spp_frame.specs.Texts.{why_text, fault_text};
+ghost use Rattle.spp_frame.specs.Nesting.{IsWellFormed, IsFirstBad, work, FirstBadIsOne, WellFormedHasNone, WellFormedAreEvents};
+
+use spp_event::{Event, EventFault, Trace};
+use std::error::Error;
+use std::fmt;
+
+/// What is wrong at a position of a trace.
+#[derive(Clone, Copy, Debug, PartialEq, Eq)]
+pub enum Why {
+    /// The record spells no event of the trace.
+    Event(EventFault),
+    /// A return stands where only the root frame is open.
+    RootReturn,
+    /// Frames are open at the end.
+    Unclosed {
+        /// How many, the root frame not counted.
+        depth: u32,
+    },
+}
+
+/// The first bad event of a trace that isn't well-formed.
+#[derive(Clone, Copy, Debug, PartialEq, Eq)]
+pub struct Fault {
+    /// Its position, from 0. The end of the trace is the position after the last event.
+    pub at: u32,
+    /// What is wrong there.
+    pub why: Why,
+}
+
+impl fmt::Display for Why {
+    ghost output = { λ w. Some (why_text w) };
+
+    fn fmt<W: fmt::Write>(&self, f: &mut fmt::Formatter<W>) -> fmt::Result {
+        match self {
+            Why::Event(fault) => write!(f, "{fault}"),
+            Why::RootReturn => write!(f, "root return"),
+            Why::Unclosed { depth } => write!(f, "unclosed {depth}"),
+        }
+    }
+}
+
+impl Error for Why {}
+
+impl fmt::Display for Fault {
+    ghost output = { λ f. Some (fault_text f) };
+
+    fn fmt<W: fmt::Write>(&self, f: &mut fmt::Formatter<W>) -> fmt::Result {
+        let Fault { at, why } = self;
+        write!(f, "{at}: {why}")
+    }
+}
+
+impl Error for Fault {}
+
+/// The work of a well-formed trace, in instructions: the sum of the counts of all its strands.
+///
+/// The time is linear in the number of events. It takes no memory.
+///
+/// # Errors
+///
+/// The first bad event: the least position at which the record is bad, or at which a return stands while only the
+/// root frame is open; if there is none and frames are open at the end, that.
+pub fn check(trace: &Trace<'_>) -> Result<u128, Fault>
+    ensures work { IfOk result (λ w. IsWellFormed trace.now.records × (w ≡ work trace.now.records)) }
+    ensures fault { IfErr result (λ f. IsFirstBad trace.now.records f) }
+{
+    let mut work: u128 = 0;
+    let mut depth: u32 = 0;
+    for at in 0..trace.count() {
+        let event = match trace.event_at(at) {
+            Ok(event) => event,
+            Err(fault) => {
+                return Err(Fault {
+                    at,
+                    why: Why::Event(fault),
+                });
+            }
+        };
+        match event {
+            Event::Strand { count } => work += u128::from(count),
+            Event::Call { .. } | Event::Spawn { .. } => depth += 1,
+            Event::Ret => {
+                if depth == 0 {
+                    return Err(Fault {
+                        at,
+                        why: Why::RootReturn,
+                    });
+                }
+                depth -= 1;
+            }
+            Event::Sync => {}
+        }
+    }
+    if depth > 0 {
+        return Err(Fault {
+            at: trace.count(),
+            why: Why::Unclosed { depth },
+        });
+    }
+    Ok(work)
+}
+
+/// The laws of first bad events and well-formed traces. Its contract is what it is for.
+pub fn nesting_laws()
+    ensures one { FirstBadIsOne }
+    ensures none { WellFormedHasNone }
+    ensures events { WellFormedAreEvents }
+{}
+
+#[cfg(test)]
+mod tests;

@@ -1,0 +1,4 @@
+pub mod Devices
+pub mod Sinks
+pub mod Known
+pub mod OutSinks

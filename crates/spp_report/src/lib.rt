@@ -1,0 +1,10 @@
+//! Writing a whole text to a device that may take it in pieces, be interrupted, or fail.
+#![tactic(auto)]
+
+mod out_sink;
+mod sink;
+mod writing;
+
+pub use out_sink::OutSink;
+pub use sink::{Sink, SinkFault, WriteFault};
+pub use writing::write_out;

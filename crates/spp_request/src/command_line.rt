@@ -1,0 +1,29 @@
+//! The commands and their options, as `clap` is told of them. It writes the texts of help and usage.
+
+use clap::Command;
+use std::alloc::{AllocError, Global};
+
+const ABOUT: &str = "A call-site profiler for recorded fork-join runs";
+
+const STATUSES: &str = "Exit status:
+  0  the answer stands on standard output, whole
+  1  the input is no good trace; standard error has the reason in one line
+  2  the command line is wrong
+  3  a file or stream could not be read or written
+  4  out of memory";
+
+fn check_command<'a>(alloc: Global) -> Command<'a> {
+    Command::new(alloc, "check")
+        .about("Check the trace on standard input, and print its work")
+        .after_help(STATUSES)
+}
+
+/// The whole command line. It lives as long as the words that it is to read.
+pub(crate) fn command_line<'a>(alloc: Global) -> Result<Command<'a>, AllocError> {
+    Command::new(alloc, "spprof")
+        .about(ABOUT)
+        .after_help(STATUSES)
+        .subcommand_required(true)
+        .disable_help_subcommand(true)
+        .subcommand(check_command(alloc))
+}

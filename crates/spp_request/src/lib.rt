@@ -1,0 +1,10 @@
+//! The command line: from words to a request, or the text that the user is shown in its place.
+#![tactic(auto)]
+
+mod command_line;
+mod request;
+
+pub use request::{Command, Request, UsageFault, read_request};
+
+#[cfg(test)]
+mod tests;

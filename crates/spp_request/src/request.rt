@@ -1,0 +1,94 @@
+//! What a user asks for.
+ghost use Rattle.std.specs.Prelude.{◌≡◌, ◌⊎◌, IfErr};
+ghost use Rattle.spp_request.specs.Usage.{EndsByUsage};
+ghost use Rattle.spp_request.specs.declared.request.UsageFault.TheVariants.{Memory};
+
+use crate::command_line::command_line;
+use clap::Error;
+use clap::error::ErrorKind;
+use std::alloc::{AllocError, Global};
+use std::convert::AsStr;
+
+/// What to do with the input.
+#[derive(Clone, Copy, Debug, PartialEq, Eq)]
+pub enum Command {
+    /// Check a trace and print its work.
+    Check,
+}
+
+/// What a user asks for.
+#[derive(Clone, Copy, Debug, PartialEq, Eq)]
+pub struct Request {
+    /// The command.
+    pub command: Command,
+}
+
+/// Why words are no request.
+#[derive(Debug, Drop)]
+pub enum UsageFault {
+    /// The user is shown a text, and the program ends with a status.
+    Shown {
+        /// The text: help, or what is wrong with the words.
+        text: String,
+        /// 0 for help, which goes to standard output; 2 else, for standard error.
+        status: u8,
+    },
+    /// No memory was left.
+    Memory,
+}
+
+impl From<AllocError> for UsageFault {
+    ghost from_gives = { λ _ e. e ≡ Memory };
+
+    fn from(_e: AllocError) -> UsageFault {
+        UsageFault::Memory
+    }
+}
+
+/// What the user is shown where `clap` gives no matches.
+fn shown(alloc: Global, error: Error) -> UsageFault
+    ensures { EndsByUsage result }
+{
+    if error.kind() == ErrorKind::OutOfMemory {
+        return UsageFault::Memory;
+    }
+    let status = if error.use_stderr() { 2 } else { 0 };
+    match error.to_string(alloc) {
+        Ok(text) => UsageFault::Shown { text, status },
+        Err(_) => UsageFault::Memory,
+    }
+}
+
+fn command_of(name: &str) -> Option<Command> {
+    match name {
+        "check" => Some(Command::Check),
+        _ => None,
+    }
+}
+
+/// Reads a request from the words of a command line, of which the first is the program's name. The texts of help
+/// and usage are those of `clap`, and which words give which request is shown by tests alone.
+///
+/// # Errors
+///
+/// The text that the user is to be shown, or want of memory.
+pub fn read_request<S: AsStr>(alloc: Global, words: &[S]) -> Result<Request, UsageFault>
+    ensures { IfErr result EndsByUsage }
+{
+    let matches = match command_line(alloc)?.try_get_matches_from(words) {
+        Ok(matches) => matches,
+        Err(error) => return Err(shown(alloc, error)),
+    };
+    let command = match matches.subcommand() {
+        Some((name, _)) => command_of(name),
+        None => None,
+    };
+    match command {
+        Some(command) => Ok(Request { command }),
+        // `clap` has refused words without one of the commands already.
+        None => Err(UsageFault::Shown {
+            text: "error: no such command\n".to_string(alloc)?,
+            status: 2,
+        }),
+    }
+}

@@ -1,0 +1,11 @@
+use Rattle.std.proofs.Common.{inl, inr, refl, [], ◌∷◌}
+use Rattle.spp_report.proofs.Taking.{stopped_somewhere}
+use Rattle.spp_shell.proofs.running.run_task.Goals as goal
+
+pub returns : goal.returns
+returns g c =
+    let stopped = rw c.as_slice-3.ensures.value at c.in-Err-Device-write_out.ensures.stopped in
+    let text = rw c.as_slice-2.ensures.value at c.in-Ok-answer.ensures.text in
+    let told = rw c.as_slice-in-Err-Device-write_out.ensures at c.tell-in-Err-Device-write_out.ensures in
+    let part = stopped_somewhere g.O.Sink.took g.O.Sink.failures _ _ _ _ stopped in
+    record { ends = inr (inr (inl (refl, inl (c.in-Ok.bytes.items ∷ [], c.in-Ok-answer.text.items, part.0, c.in-Ok.ensures.all, text, part.1, part.2, part.3, told)))) }

@@ -1,0 +1,39 @@
+-- What `check` answers: the work of the trace that the input is, or the line of its first fault.
+use Rattle.std.specs.Prelude.{◌≡◌, ◌≢◌, ◌⊎◌, ℕ, List, [], ◌∷◌, ◌++◌, codes, decimal}
+use Rattle.spp_event.specs.declared.header.HeaderFault.{HeaderFault}
+use Rattle.spp_event.specs.Recordings.{Recording}
+use Rattle.spp_event.specs.Header.{IsTraceOf, IsHeaderFault}
+use Rattle.spp_event.specs.Texts.{header_fault_text}
+use Rattle.spp_frame.specs.declared.Fault.{Fault}
+use Rattle.spp_frame.specs.Nesting.{IsWellFormed, IsFirstBad, work}
+use Rattle.spp_frame.specs.Texts.{fault_text}
+use Rattle.spp_shell.specs.Lines.{line}
+
+abbrev pub work_text : ℕ → List ℕ
+work_text n = line (codes "work " ++ decimal n)
+
+abbrev pub header_line : HeaderFault → List ℕ
+header_line fault = line (codes "bad header: " ++ header_fault_text fault)
+
+abbrev pub event_line : Fault → List ℕ
+event_line fault = line (codes "bad event " ++ fault_text fault)
+
+-- the bytes are those of a well-formed trace, and the text tells its work
+abbrev pub TellsWork : List ℕ → List ℕ → Type 0
+TellsWork bytes text = (t : Recording) × (body : List ℕ) × IsTraceOf bytes t body × IsWellFormed t.records × (text ≡ work_text (work t.records))
+
+-- the bytes open as no trace, and the line tells the fault that they have first
+abbrev pub TellsHeader : List ℕ → List ℕ → Type 0
+TellsHeader bytes line = (fault : HeaderFault) × IsHeaderFault bytes fault × (line ≡ header_line fault)
+
+-- the bytes are those of a trace that has a bad event, and the line tells the first
+abbrev pub TellsEvent : List ℕ → List ℕ → Type 0
+TellsEvent bytes line = (t : Recording) × (body : List ℕ) × (fault : Fault) × IsTraceOf bytes t body × IsFirstBad t.records fault × (line ≡ event_line fault)
+
+-- the text for one input
+abbrev pub IsCheckText : List (List ℕ) → List ℕ → Type 0
+IsCheckText inputs text = (bytes : List ℕ) × (inputs ≡ bytes ∷ []) × TellsWork bytes text
+
+-- the line for one input that is refused
+abbrev pub IsCheckLine : List (List ℕ) → List ℕ → Type 0
+IsCheckLine inputs line = (bytes : List ℕ) × (inputs ≡ bytes ∷ []) × (TellsHeader bytes line ⊎ TellsEvent bytes line)

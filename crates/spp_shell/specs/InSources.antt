@@ -1,0 +1,9 @@
+-- What clauses name of a source over a reader.
+use Rattle.std.specs.Prelude.{ℕ}
+use Rattle.spp_shell.specs.declared.in_source.InSource.{InSource}
+
+abbrev pub reader_of : {R : Type 0} → InSource R → R
+reader_of s = s.reader
+
+abbrev pub failures_of : {R : Type 0} → InSource R → ℕ
+failures_of s = s.failures

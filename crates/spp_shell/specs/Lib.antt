@@ -1,0 +1,10 @@
+pub mod Lines
+pub mod Reading
+pub mod Refusals
+pub mod InSources
+pub mod Check
+pub mod Requests
+pub mod Refused
+pub mod Endings
+pub mod Usage
+pub mod Fakes

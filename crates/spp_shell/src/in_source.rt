@@ -1,0 +1,49 @@
+//! A source over one of std's readers.
+ghost use Rattle.std.specs.Prelude.{◌≡◌, ◌≢◌, ℕ, ◌+◌, ◌-◌, ◌^◌, ◌<◌, ◌≤◌, List, [], length, take, IfOk, IfSome, OnOk, OnErr};
+ghost use Rattle.spp_shell.specs.Reading.{KnownAnswer};
+
+use crate::source::{Source, SourceFault};
+use std::io::{ErrorKind, Read};
+
+/// A source over one of std's readers.
+#[derive(Drop)]
+pub struct InSource<R: Read> {
+    reader: R,
+    failures: u64,
+}
+
+impl<R: Read> InSource<R> {
+    ghost use Rattle.spp_shell.specs.InSources.{reader_of, failures_of};
+
+    /// A source over the reader that has not failed yet.
+    pub fn new(reader: R) -> InSource<R>
+        ensures reader { reader_of result ≡ reader }
+        ensures failures { failures_of result ≡ 0 }
+    {
+        InSource {
+            reader,
+            failures: 0,
+        }
+    }
+}
+
+impl<R: Read> Source for InSource<R> {
+    ghost answered = { λ a o b. KnownAnswer (R.remaining a.reader) o (R.remaining b.reader) };
+
+    ghost failures = { λ s. s.failures };
+
+    fn pull(&mut self, buf: &mut [u8]) -> Result<Option<usize>, SourceFault> {
+        match self.reader.read(buf) {
+            Ok(n) => Ok(Some(n)),
+            Err(e) if e.kind() == ErrorKind::Interrupted => Ok(None),
+            Err(_) => {
+                self.failures = self.failures.saturating_add(1);
+                Err(SourceFault)
+            }
+        }
+    }
+
+    fn failures(&self) -> u64 {
+        self.failures
+    }
+}

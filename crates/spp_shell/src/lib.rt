@@ -1,0 +1,20 @@
+//! The shell of the program: reads a request's input, answers it, and writes the answer or one line of fault.
+#![tactic(auto)]
+
+mod check_task;
+mod in_source;
+mod reading;
+mod running;
+mod source;
+pub mod status;
+mod task;
+mod usage;
+
+pub use in_source::InSource;
+pub use reading::{ReadFault, read_all, read_within};
+pub use running::run;
+pub use source::{Source, SourceFault};
+pub use usage::show_usage;
+
+#[cfg(test)]
+mod tests;

@@ -1,0 +1,37 @@
+//! A task of the program over the bytes that were read.
+ghost use Rattle.std.specs.Prelude.{◌≡◌, ℕ, List, [], ◌∷◌, IfOk, IfErr};
+ghost use Rattle.spp_shell.specs.Refused.{IfLine};
+ghost use Rattle.spp_shell.specs.declared.task.Refusal.TheVariants.{Memory};
+
+use std::alloc::{AllocError, Global};
+
+/// Why there is no text.
+#[derive(Drop)]
+pub(crate) enum Refusal {
+    /// The bytes are refused, and this line says why.
+    Line(String),
+    /// No memory was left.
+    Memory,
+}
+
+impl From<AllocError> for Refusal {
+    ghost from_gives = { λ _ e. e ≡ Memory };
+
+    fn from(_e: AllocError) -> Refusal {
+        Refusal::Memory
+    }
+}
+
+/// A task over one input, as its definitions say.
+pub(crate) trait Task {
+    // The text for these inputs.
+    ghost text_for: { Self → List (List ℕ) → List ℕ → Type 0 };
+
+    // The line of fault for these inputs, where they are refused.
+    ghost line_for: { Self → List (List ℕ) → List ℕ → Type 0 };
+
+    /// The text for one input, or why there is none.
+    fn answer(&self, alloc: Global, bytes: &[u8]) -> Result<Vec<u8>, Refusal>
+        ensures text { IfOk result (λ text. text_for self.now (bytes.now ∷ []) text.items) }
+        ensures line { IfErr result (λ refusal. IfLine refusal (λ line. line_for self.now (bytes.now ∷ []) line)) };
+}
