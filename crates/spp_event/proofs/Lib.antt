@@ -10,3 +10,4 @@ pub mod Again
 pub mod Refused
 pub mod Answered
 pub mod Unique
+pub mod HeaderLaws

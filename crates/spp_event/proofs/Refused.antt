@@ -265,7 +265,7 @@ trails_behind bytes funcs sites middle rest f n g apart parts more =
     let has = site_names bytes funcs sites middle rest f.head f.count f.good g apart f.taken parts (omega arith) in
     (funcs ++ sites, rest, has, omega (arith, length-append funcs sites), more)
 
-within : (bytes : List ℕ) → are_limits (funcs_in bytes) (sites_in bytes) (events_in bytes) ≡ true → IsWithinLimits bytes
+pub within : (bytes : List ℕ) → are_limits (funcs_in bytes) (sites_in bytes) (events_in bytes) ≡ true → IsWithinLimits bytes
 within bytes e = let l = limited (funcs_in bytes) (sites_in bytes) (events_in bytes) e in record { some_func = l.some; funcs = l.funcs; sites = l.sites; events = let n = l.events in omega arith }
 
 not_within : (bytes : List ℕ) → are_limits (funcs_in bytes) (sites_in bytes) (events_in bytes) ≡ false → IsWithinLimits bytes → ⊥

@@ -1,5 +1,5 @@
 -- What has a fault by the relations is refused by the checks with that fault. So a fault is the only one.
-use Rattle.std.proofs.Common.{◌≡◌, ℕ, zero, suc, ◌+◌, ◌-◌, ◌*◌, ◌≤◌, ◌<◌, ◌⊎◌, Bool, true, false, cond, eqb, ltb, leb, ◌||◌, not, List, [], ◌∷◌, ◌++◌, length, take, drop, Result, Ok, Err, refl, sym, ap, subst, ◌∙◌, append_assoc, arith, inl, inr}
+use Rattle.std.proofs.Common.{◌≡◌, ℕ, zero, suc, ◌+◌, ◌-◌, ◌*◌, ◌≤◌, ◌<◌, ◌⊎◌, Bool, true, false, cond, eqb, ltb, leb, ◌||◌, not, List, [], ◌∷◌, ◌++◌, length, get_or, take, drop, Result, Ok, Err, refl, sym, ap, subst, ◌∙◌, append_assoc, arith, inl, inr}
 use Rattle.std.specs.Prelude.{Contains}
 use Rattle.std.specs.List.{flat_map, list_any, AllByRecursion}
 use Rattle.std.specs.Int.{IsInRange, is_in_range}
@@ -7,7 +7,6 @@ use Rattle.std.specs.Str.{bytes_eq}
 use Rattle.std.proofs.lemmas.Bool.{cases_Bool, cases_lt, cases_eq, ltb-true, ltb-false, lt-ltb, le-ltb, le-leb, lt-leb, leb-true, eq-eqb, ne_eqb, and_parts, not-false}
 use Rattle.std.proofs.lemmas.List.{append-nil, length-drop, length-append, length-take, take-append-drop}
 use Rattle.std.proofs.lemmas.List.Concat.{flat_map-cons, flat_map-append}
-use Rattle.std.proofs.lemmas.Map.Views.{list_any-from_Contains}
 use Rattle.std.proofs.lemmas.Slice.Eq.{bytes_eq-Decides}
 use Rattle.spp_event.specs.declared.header.HeaderFault.{HeaderFault}
 use Rattle.spp_event.specs.declared.header.HeaderFault.TheVariants.{Short, Magic, Limits, Name, SameName, RootFunc, Trailing, Memory}
@@ -17,7 +16,7 @@ use Rattle.spp_event.specs.Header.{magic, name_spelling, root_name, IsName, AreA
 use Rattle.spp_event.specs.Checks.{is_printable, is_taken, are_limits, name_at, funcs_at, sites_at, trace_at}
 use Rattle.spp_event.proofs.Again.{name_again, limits_again, Cross, cross_none, cross_more, is_free}
 use Rattle.spp_event.proofs.Opening.{Head, opens, funcs_fail, sites_fail, trails}
-use Rattle.spp_event.proofs.Refused.{NameFault}
+use Rattle.spp_event.proofs.Refused.{NameFault, within}
 
 -- ---- one name
 
@@ -209,3 +208,67 @@ name_fault_again bytes names rest e h few fault =
           (sites_from bytes names rest (take (funcs_in bytes) names) (drop (funcs_in bytes) names) (sites_in bytes - length (drop (funcs_in bytes) names)) s (omega arith)
           ∙ sites_stop_at (drop (funcs_in bytes) names) (sites_in bytes - length (drop (funcs_in bytes) names)) (funcs_in bytes) rest e (omega arith) (subst (λ (k : ℕ). NameFault k rest e) both fault))
     ]
+
+or_true : (a b : Bool) → b ≡ true → (a || b) ≡ true
+or_true true b e = refl
+or_true false b e = e
+
+or_left : (a b : Bool) → a ≡ true → (a || b) ≡ true
+or_left true b e = refl
+or_left false b e = absurd cc
+
+any_at : (name : List ℕ) (names : List (List ℕ)) (k : ℕ) → k < length names → get_or names k name ≡ name → list_any (λ n. bytes_eq name n) names ≡ true
+any_at name [] k lt e = absurd (omega arith)
+any_at name (n ∷ names) zero lt e = or_left (bytes_eq name n) (list_any (λ n. bytes_eq name n) names) ((bytes_eq-Decides name n).1 (sym e))
+any_at name (n ∷ names) (suc k) lt e = or_true (bytes_eq name n) (list_any (λ n. bytes_eq name n) names) (any_at name names k (omega arith) e)
+
+taken_again : (names : List (List ℕ)) (name : List ℕ) → (name ≡ root_name) ⊎ Contains names name → is_taken names name ≡ true
+taken_again names name (inl r) = or_left (bytes_eq name root_name) (list_any (λ n. bytes_eq name n) names) ((bytes_eq-Decides name root_name).1 r)
+taken_again names name (inr c) = or_true (bytes_eq name root_name) (list_any (λ n. bytes_eq name n) names) (any_at name names c.0 c.1 c.2)
+
+same_name_again : (bytes : List ℕ) (names : List (List ℕ)) (name rest : List ℕ) → HasNames bytes names (name_spelling name ++ rest) → WantsName bytes names → funcs_in bytes ≤ length names → IsName name → (name ≡ root_name) ⊎ Contains (drop (funcs_in bytes) names) name → trace_at bytes ≡ Err (SameName (length names))
+same_name_again bytes names name rest h few le good before =
+    let q = drop (funcs_in bytes) names in
+    let s = split bytes names (name_spelling name ++ rest) h le in
+    let both = s.both in
+    fails_in_sites bytes (SameName (length names)) (take (funcs_in bytes) names) (Spelled (drop (funcs_in bytes) names) (name_spelling name ++ rest)) h.head
+    (funcs_read bytes names (name_spelling name ++ rest) (take (funcs_in bytes) names) (drop (funcs_in bytes) names) s)
+    (sites_from bytes names (name_spelling name ++ rest) (take (funcs_in bytes) names) (drop (funcs_in bytes) names) (sites_in bytes - length (drop (funcs_in bytes) names)) s (omega arith)
+    ∙ sites_same_at (drop (funcs_in bytes) names) name (sites_in bytes - length (drop (funcs_in bytes) names)) (funcs_in bytes) rest (omega arith) good (taken_again (drop (funcs_in bytes) names) name before)
+    ∙ ap (λ (k : ℕ). Err (SameName k)) (sym both))
+
+trailing_again : (bytes : List ℕ) (names : List (List ℕ)) (rest : List ℕ) → HasNames bytes names rest → length names ≡ funcs_in bytes + sites_in bytes → 16 * events_in bytes < length rest → trace_at bytes ≡ Err Trailing
+unfolding sites_at
+trailing_again bytes names rest h all more =
+    let p = take (funcs_in bytes) names in
+    let q = drop (funcs_in bytes) names in
+    let s = split bytes names rest h (omega arith) in
+    let both = s.both in
+    trails bytes (funcs_in bytes) (sites_in bytes) (root_in bytes) (events_in bytes) (take (funcs_in bytes) names, Spelled (drop (funcs_in bytes) names) rest) (drop (funcs_in bytes) names, rest) (good_head bytes h.head)
+    (funcs_read bytes names rest (take (funcs_in bytes) names) (drop (funcs_in bytes) names) s)
+    (sites_from bytes names rest (take (funcs_in bytes) names) (drop (funcs_in bytes) names) 0 s (omega arith))
+    more
+
+limits_broken : (bytes : List ℕ) → (IsWithinLimits bytes → ⊥) → are_limits (funcs_in bytes) (sites_in bytes) (events_in bytes) ≡ false
+limits_broken bytes h = elim (cases_Bool (are_limits (funcs_in bytes) (sites_in bytes) (events_in bytes))) [ inl t ↦ absurd (h (within bytes t)) | inr f ↦ f ]
+
+limits_kept : (bytes : List ℕ) → IsWithinLimits bytes → are_limits (funcs_in bytes) (sites_in bytes) (events_in bytes) ≡ true
+limits_kept bytes l = let n = l.events in limits_again (funcs_in bytes) (sites_in bytes) (events_in bytes) l.some_func l.funcs l.sites (omega arith)
+
+differs : (p q : List ℕ) → (p ≡ q → ⊥) → bytes_eq p q ≡ false
+differs p q h = elim (cases_Bool (bytes_eq p q)) [ inl t ↦ absurd (h ((bytes_eq-Decides p q).0 t)) | inr f ↦ f ]
+
+-- bytes with a fault are refused with it
+pub fault_again : (bytes : List ℕ) (e : HeaderFault) → IsHeaderFault bytes e → trace_at bytes ≡ Err e
+unfolding trace_at
+fault_again bytes Short (inl lt) = rw (lt-ltb (length bytes) 24 lt) refl
+fault_again bytes Short (inr h) = name_fault_again bytes h.0 h.1 Short h.2 h.3 h.4
+fault_again bytes Magic h = rw (le-ltb (length bytes) 24 h.0, differs (take 8 bytes) magic h.1) refl
+fault_again bytes Limits h = let same = (bytes_eq-Decides (take 8 bytes) magic).1 h.1 in rw (le-ltb (length bytes) 24 h.0, same, limits_broken bytes h.2) refl
+fault_again bytes RootFunc h = let same = (bytes_eq-Decides (take 8 bytes) magic).1 h.1 in rw (le-ltb (length bytes) 24 h.0, same, limits_kept bytes h.2, le-leb (funcs_in bytes) (root_in bytes) h.3) refl
+fault_again bytes (Name number) h = name_fault_again bytes h.0 h.1 (Name number) h.2 h.3 (h.4, h.5)
+fault_again bytes (SameName number) h =
+    let same = h.5 in
+    same_name_again bytes h.0 h.1 h.2 h.3 h.4 (subst (λ (k : ℕ). funcs_in bytes ≤ k) h.5 h.6) h.7 h.8 ∙ ap (λ (k : ℕ). Err (SameName k)) (sym h.5)
+fault_again bytes Trailing h = trailing_again bytes h.0 h.1 h.2 h.3 h.4
+fault_again bytes Memory h = absurd h

@@ -1,5 +1,5 @@
 -- The laws of first bad events.
-use Rattle.std.proofs.Common.{◌≡◌, ℕ, zero, suc, ◌<◌, List, [], ◌∷◌, length, map, Option, Some, None, Ok, Err, refl, ap, subst, ◌∙◌, arith, inl, inr}
+use Rattle.std.proofs.Common.{◌≡◌, ℕ, zero, suc, ◌<◌, ◌≤◌, ◌⊎◌, List, [], ◌∷◌, length, map, Option, Some, None, Ok, Err, refl, ap, subst, ◌∙◌, arith, inl, inr}
 use Rattle.std.specs.Prelude.{slice_get}
 use Rattle.std.proofs.lemmas.Bool.{cases_order}
 use Rattle.spp_event.specs.declared.records.Event.{Event}
@@ -8,7 +8,8 @@ use Rattle.spp_event.specs.Recordings.{Record}
 use Rattle.spp_frame.specs.declared.Why.{Why}
 use Rattle.spp_frame.specs.declared.Why.TheVariants as why
 use Rattle.spp_frame.specs.declared.Fault.{Fault}
-use Rattle.spp_frame.specs.Nesting.{wrong, wrong_at, depth, FirstBadIsOne, WellFormedHasNone, WellFormedAreEvents}
+use Rattle.spp_frame.proofs.Far.{good_more}
+use Rattle.spp_frame.specs.Nesting.{wrong, wrong_at, depth, FirstBadIsOne, WellFormedHasNone, WellFormedOrBad, WellFormedAreEvents, IsGoodBefore, IsFirstBad}
 
 none_some : {P : Type 0} (o : Option Why) (w : Why) → o ≡ None → o ≡ Some w → P
 none_some o w e f = absurd cc
@@ -47,3 +48,15 @@ within (x ∷ rs) (suc i) r e = let l = within rs i r e in omega arith
 
 pub well_formed_are_events : WellFormedAreEvents
 well_formed_are_events rs g = events_of rs (λ i f e. none_some (wrong_at rs i) (why.Event f) (let l = within rs i (Err f) e in g i (omega arith)) (ap (λ (o : Option Record). wrong o (depth rs i)) e))
+
+-- as far as n nothing is wrong, or something is
+good_or_bad : (rs : List Record) (n : ℕ) → n ≤ suc (length rs) → IsGoodBefore rs n ⊎ ((f : Fault) × IsFirstBad rs f)
+good_or_bad rs zero le = inl (λ i lt. absurd (omega arith))
+good_or_bad rs (suc n) le = elim (good_or_bad rs n (omega arith)) [ inl g ↦ here (wrong_at rs n) refl g | inr b ↦ inr b ]
+  where
+    here : (o : Option Why) → wrong_at rs n ≡ o → IsGoodBefore rs n → IsGoodBefore rs (suc n) ⊎ ((f : Fault) × IsFirstBad rs f)
+    here None e g = inl (good_more rs n g e)
+    here (Some w) e g = inr (record { at = n; why = w }, record { within = omega arith; is_wrong = e; first = g })
+
+pub well_formed_or_bad : WellFormedOrBad
+well_formed_or_bad rs = good_or_bad rs (suc (length rs)) (omega arith)

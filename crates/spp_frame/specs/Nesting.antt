@@ -1,6 +1,6 @@
 -- How the records of a trace nest, its work, and its first bad event. A position is a number from 0 to the
 -- length, which is the end. A bad record opens and closes nothing.
-use Rattle.std.specs.Prelude.{◌≡◌, ℕ, zero, suc, ◌-◌, ◌<◌, ◌≤◌, Bool, true, false, List, length, map, take, slice_get, Option, Some, None, Ok, Err}
+use Rattle.std.specs.Prelude.{◌≡◌, ℕ, zero, suc, ◌-◌, ◌<◌, ◌≤◌, ◌⊎◌, Bool, true, false, List, length, map, take, slice_get, Option, Some, None, Ok, Err}
 use Rattle.std.specs.List.{count_by, sum_by}
 use Rattle.spp_event.specs.declared.records.Event.{Event}
 use Rattle.spp_event.specs.declared.records.Event.TheVariants.{Strand, Call, Spawn, Ret}
@@ -73,3 +73,7 @@ WellFormedHasNone = (rs : List Record) (f : Fault) → IsWellFormed rs → IsFir
 -- the records of a well-formed trace are events
 abbrev pub WellFormedAreEvents : Type 0
 WellFormedAreEvents = (rs : List Record) → IsWellFormed rs → (es : List Event) × AreEvents rs es
+
+-- and each trace is well-formed or has one
+abbrev pub WellFormedOrBad : Type 0
+WellFormedOrBad = (rs : List Record) → IsWellFormed rs ⊎ ((f : Fault) × IsFirstBad rs f)

@@ -4,7 +4,7 @@
 ghost use Rattle.std.specs.Prelude.{◌≡◌, ◌<◌, ◌++◌, List, length, IfOk, IfErr, MatchResult, Some, codes, decimal};
 ghost use Rattle.spp_event.specs.Texts.{event_fault_text};
 ghost use Rattle.spp_frame.specs.Texts.{why_text, fault_text};
-ghost use Rattle.spp_frame.specs.Nesting.{IsWellFormed, IsFirstBad, work, FirstBadIsOne, WellFormedHasNone, WellFormedAreEvents};
+ghost use Rattle.spp_frame.specs.Nesting.{IsWellFormed, IsFirstBad, work, FirstBadIsOne, WellFormedHasNone, WellFormedOrBad, WellFormedAreEvents};
 
 use spp_event::{Event, EventFault, Trace};
 use std::error::Error;
@@ -110,6 +110,7 @@ pub fn check(trace: &Trace<'_>) -> Result<u128, Fault>
 pub fn nesting_laws()
     ensures one { FirstBadIsOne }
     ensures none { WellFormedHasNone }
+    ensures either { WellFormedOrBad }
     ensures events { WellFormedAreEvents }
 {}
 
