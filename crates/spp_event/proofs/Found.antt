@@ -1,18 +1,16 @@
 -- What passes the checks is a trace.
-use Rattle.std.proofs.Common.{◌≡◌, ℕ, ◌+◌, ◌*◌, ◌≤◌, ◌<◌, true, not, ltb, leb, ◌&&◌, List, [], ◌++◌, length, take, drop, Result, Ok, Err, refl, sym, ap, subst, ◌∙◌, arith}
-use Rattle.std.specs.Prelude.{IfOk}
+use Rattle.std.proofs.Common.{◌≡◌, ℕ, ◌+◌, ◌*◌, ◌≤◌, ◌<◌, true, not, ltb, leb, ◌&&◌, List, [], ◌++◌, length, take, drop, Ok, refl, sym, ap, subst, ◌∙◌, arith}
 use Rattle.std.specs.List.{flat_map, AllByRecursion}
 use Rattle.std.specs.Str.{bytes_eq}
 use Rattle.std.proofs.lemmas.Bool.{ltb-true, ltb-false, leb-true, leb-false, and_parts, not-false}
 use Rattle.std.proofs.lemmas.List.{take-append-drop, length-take, length-drop, drop-drop}
 use Rattle.std.proofs.lemmas.Nat.{be_bytes_4}
 use Rattle.std.proofs.lemmas.Slice.Eq.{bytes_eq-Decides}
-use Rattle.spp_event.specs.declared.header.HeaderFault.{HeaderFault}
 use Rattle.spp_event.specs.declared.header.HeaderFault.TheVariants.{Short, Magic, Limits, RootFunc, Trailing}
 use Rattle.spp_event.specs.Records.{word, word_at}
 use Rattle.spp_event.specs.Recordings.{Recording, records_of}
 use Rattle.spp_event.specs.Header.{magic, name_spelling, header_spelling, IsName, IsTraceOf}
-use Rattle.spp_event.specs.Checks.{are_limits, funcs_at, sites_at, trace_at, Gives}
+use Rattle.spp_event.specs.Checks.{are_limits, funcs_at, sites_at, trace_at}
 use Rattle.spp_event.proofs.Places.{length-records_of}
 use Rattle.spp_event.proofs.Taken.{IsBytes, IsBytes-drop, IsBytes-take, bind_ok, guard_ok, ok_is, Takes, Takes-then, funcs_take, sites_take}
 

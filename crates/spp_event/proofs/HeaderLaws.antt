@@ -5,7 +5,6 @@ use Rattle.spp_event.specs.Recordings.{Recording}
 use Rattle.spp_event.specs.Header.{IsTraceOf, IsHeaderFault}
 use Rattle.spp_event.specs.Checks.{trace_at}
 use Rattle.spp_event.specs.Laws.{HeaderFaultIsOne, TraceHasNoFault, TraceIsOne, TraceOrFault}
-use Rattle.spp_event.proofs.Taken.{IsBytes}
 use Rattle.spp_event.proofs.Found.{trace_found}
 use Rattle.spp_event.proofs.Refused.{trace_refused}
 use Rattle.spp_event.proofs.Again.{trace_again}

@@ -1,21 +1,19 @@
 -- What has a fault by the relations is refused by the checks with that fault. So a fault is the only one.
-use Rattle.std.proofs.Common.{◌≡◌, ℕ, zero, suc, ◌+◌, ◌-◌, ◌*◌, ◌≤◌, ◌<◌, ◌⊎◌, Bool, true, false, cond, eqb, ltb, leb, ◌||◌, not, List, [], ◌∷◌, ◌++◌, length, get_or, take, drop, Result, Ok, Err, refl, sym, ap, subst, ◌∙◌, append_assoc, arith, inl, inr}
+use Rattle.std.proofs.Common.{◌≡◌, ℕ, zero, suc, ◌+◌, ◌-◌, ◌*◌, ◌≤◌, ◌<◌, ◌⊎◌, Bool, true, false, eqb, ltb, leb, ◌||◌, List, [], ◌∷◌, ◌++◌, length, get_or, take, drop, Ok, Err, refl, sym, ap, subst, ◌∙◌, append_assoc, arith, inl, inr}
 use Rattle.std.specs.Prelude.{Contains}
 use Rattle.std.specs.List.{flat_map, list_any, AllByRecursion}
 use Rattle.std.specs.Int.{IsInRange, is_in_range}
 use Rattle.std.specs.Str.{bytes_eq}
-use Rattle.std.proofs.lemmas.Bool.{cases_Bool, cases_lt, cases_eq, ltb-true, ltb-false, lt-ltb, le-ltb, le-leb, lt-leb, leb-true, eq-eqb, ne_eqb, and_parts, not-false}
-use Rattle.std.proofs.lemmas.List.{append-nil, length-drop, length-append, length-take, take-append-drop}
+use Rattle.std.proofs.lemmas.Bool.{cases_Bool, cases_lt, cases_eq, lt-ltb, le-ltb, le-leb, leb-true, eq-eqb, ne_eqb, and_parts}
+use Rattle.std.proofs.lemmas.List.{append-nil, length-drop, length-take, take-append-drop}
 use Rattle.std.proofs.lemmas.List.Concat.{flat_map-cons, flat_map-append}
 use Rattle.std.proofs.lemmas.Slice.Eq.{bytes_eq-Decides}
 use Rattle.spp_event.specs.declared.header.HeaderFault.{HeaderFault}
 use Rattle.spp_event.specs.declared.header.HeaderFault.TheVariants.{Short, Magic, Limits, Name, SameName, RootFunc, Trailing, Memory}
-use Rattle.spp_event.specs.Records.{word_at}
-use Rattle.spp_event.specs.Recordings.{Recording}
 use Rattle.spp_event.specs.Header.{magic, name_spelling, root_name, IsName, AreApart, name_len, funcs_in, sites_in, events_in, root_in, IsWithinLimits, HasGoodHead, HasNames, WantsName, EndsInName, HasBadName, IsHeaderFault}
 use Rattle.spp_event.specs.Checks.{is_printable, is_taken, are_limits, name_at, funcs_at, sites_at, trace_at}
 use Rattle.spp_event.proofs.Again.{name_again, limits_again, Cross, cross_none, cross_more, is_free}
-use Rattle.spp_event.proofs.Opening.{Head, opens, funcs_fail, sites_fail, trails}
+use Rattle.spp_event.proofs.Opening.{Head, opens, trails}
 use Rattle.spp_event.proofs.Refused.{NameFault, within}
 
 -- ---- one name

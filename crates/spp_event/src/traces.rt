@@ -3,13 +3,16 @@
 ghost use Rattle.std.specs.Prelude.{◌≡◌, ◌<◌, length, slice_index_or, [], IfOk};
 ghost use Rattle.spp_event.specs.Records.{IsEventOf};
 ghost use Rattle.spp_event.specs.Header.{HasGoodNames};
-ghost use Rattle.spp_event.specs.Recordings.{InLimits, record_at};
+ghost use Rattle.spp_event.specs.Recordings.{InLimits, record_at, HoldsBlock};
 
 use crate::records::{Event, EventFault, event_of};
 use std::marker::Model;
 
 /// The bytes of one record.
-const RECORD: usize = 16;
+pub(crate) const RECORD: usize = 16;
+
+/// The bytes of the records that a reader copies at a time.
+pub(crate) const BLOCK: usize = 16384;
 
 /// An opened trace: its names, its root function, and its events. Names and events are borrowed from the bytes that
 /// it was opened from.
@@ -103,5 +106,19 @@ impl<'a> Trace<'a> {
             return Err(EventFault::Truncated);
         };
         event_of(record, sites, funcs)
+    }
+
+    /// Copies records into the block, from position `first` on, as many as are whole and as it has room for. Gives
+    /// their number.
+    pub(crate) fn copy_records(&self, first: u32, block: &mut [u8; BLOCK]) -> u32
+        ensures { HoldsBlock self.now block.new first result }
+    {
+        let Some(rest) = self.body.get(first as usize * RECORD..) else {
+            return 0;
+        };
+        let records = rest.len().min(BLOCK) / RECORD;
+        let (front, _) = block.split_at_mut(records * RECORD);
+        front.copy_from_slice(&rest[..records * RECORD]);
+        records as u32
     }
 }

@@ -2,7 +2,6 @@
 use Rattle.std.proofs.Common.{◌≡◌, ℕ, ◌≤◌, List, length, take, sym, subst, inr}
 use Rattle.std.specs.String.{string_bytes}
 use Rattle.std.proofs.Common.{String, Global}
-use Rattle.spp_report.proofs.Taking.{stopped_somewhere}
 use Rattle.spp_request.specs.declared.request.UsageFault.{UsageFault}
 use Rattle.spp_request.specs.declared.request.UsageFault.TheVariants.{Shown, Memory}
 use Rattle.spp_shell.specs.Lines.{cannot_write, out_of_memory}

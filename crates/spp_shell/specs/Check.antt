@@ -1,5 +1,5 @@
 -- What `check` answers: the work of the trace that the input is, or the line of its first fault.
-use Rattle.std.specs.Prelude.{◌≡◌, ◌≢◌, ◌⊎◌, ℕ, List, [], ◌∷◌, ◌++◌, codes, decimal}
+use Rattle.std.specs.Prelude.{◌≡◌, ◌⊎◌, ℕ, List, [], ◌∷◌, ◌++◌, codes, decimal}
 use Rattle.spp_event.specs.declared.header.HeaderFault.{HeaderFault}
 use Rattle.spp_event.specs.Recordings.{Recording}
 use Rattle.spp_event.specs.Header.{IsTraceOf, IsHeaderFault}

@@ -1,4 +1,4 @@
-use Rattle.std.proofs.Common.{sym, ◌∙◌, ap, cond, true}
+use Rattle.std.proofs.Common.{◌∙◌, ap, cond, true}
 use Rattle.std.proofs.lemmas.Map.Text.{is_eq-slice_cmp}
 use Rattle.spp_event.specs.Seen.{has}
 use Rattle.spp_event.proofs.header.note.Goals as goal

@@ -1,4 +1,4 @@
-use Rattle.std.proofs.Common.{arith, subst}
+use Rattle.std.proofs.Common.{arith}
 use Rattle.spp_event.proofs.Answered.{is_found, is_only, is_refused}
 use Rattle.spp_event.proofs.Again.{trace_again}
 use Rattle.spp_event.proofs.header.open_trace.Goals as goal

@@ -1,4 +1,4 @@
-use Rattle.std.proofs.Common.{refl, sym}
+use Rattle.std.proofs.Common.{refl}
 use Rattle.spp_report.proofs.Taking.{stopped_somewhere}
 use Rattle.spp_shell.proofs.Usages.{memory_ends, help_stops}
 use Rattle.spp_shell.proofs.usage.show_usage.Goals as goal

@@ -1,5 +1,4 @@
 use Rattle.std.proofs.Common.{◌≡◌, length, sym, subst, arith}
-use Rattle.std.proofs.lemmas.List.{length-map}
 use Rattle.spp_event.specs.Header.{HasGoodNames}
 use Rattle.spp_event.specs.Recordings.{Recording, InLimits}
 use Rattle.spp_event.proofs.Places.{length-records_of}
