@@ -13,21 +13,28 @@ passed=0
 failed=0
 
 cc -O2 -Wall -shared -fPIC "$tests/refuse.c" -o "$folder/refuse.so" -ldl || exit 1
+printf 'out of memory\n' > "$folder/told"
+
+fails() { # WHAT: a case that failed
+    echo "FAILED memory: $1"
+    failed=$((failed + 1))
+}
 
 run() { # AT INPUT PROGRAM WORDS..: the program, of whose requests that of this number is refused
     local at=$1 input=$2
     shift 2
+    rm -f "$folder/count"
     LD_PRELOAD=$folder/refuse.so REFUSE_AT=$at REFUSE_COUNT=$folder/count \
         "$@" < "$input" > "$folder/out" 2> "$folder/err"
 }
 
-has_more() { # AT: whether the last run made as many requests
-    [ "$(cat "$folder/count")" -ge "$1" ]
+requests() { # how many requests the last run made; 0 where it didn't tell
+    cat "$folder/count" 2> /dev/null || echo 0
 }
 
 # one line of the output at most differs from what is wanted, by its answer `Memory`
 differs_by_one_memory() {
-    diff "$folder/wanted.out" "$folder/out" > "$folder/diff"
+    diff "$tests/../crates/memory_probe/stdout" "$folder/out" > "$folder/diff"
     [ "$(grep -c '^>' "$folder/diff")" -eq "$(grep -c '^> .*: Memory$' "$folder/diff")" ] &&
         [ "$(grep -c '^<' "$folder/diff")" -eq "$(grep -c '^>' "$folder/diff")" ] &&
         [ "$(grep -c '^>' "$folder/diff")" -le 1 ]
@@ -36,56 +43,47 @@ differs_by_one_memory() {
 probe_refused() {
     local at=1 told=0
     run 0 /dev/null "$probe"
-    cp "$folder/out" "$folder/wanted.out"
-    if ! grep -q 'Good$' "$folder/out" || grep -qv 'Good$' "$folder/out"; then
-        echo "FAILED memory: with nothing refused not every call is good"
-        failed=$((failed + 1))
-        return
-    fi
+    cmp -s "$folder/out" "$tests/../crates/memory_probe/stdout" || { fails 'with nothing refused not every call is good'; return; }
     while true; do
         run $at /dev/null "$probe"
         if [ $? -ne 0 ] || ! differs_by_one_memory; then
-            echo "FAILED memory: the calls, request $at refused: $(head -n 3 "$folder/diff" "$folder/err")"
-            failed=$((failed + 1))
+            fails "the calls, request $at refused: $(head -n 3 "$folder/diff" "$folder/err")"
             return
         fi
         [ ! -s "$folder/diff" ] || told=$((told + 1))
-        has_more $at || break
+        [ "$(requests)" -ge $at ] || break
         at=$((at + 1))
     done
+    # sixteen calls, each with a request at least
+    [ $told -ge 16 ] || { fails "the calls: $told refusals were told"; return; }
     echo "memory: the calls: $((at - 1)) requests refused in turn, $told times told by the call"
     passed=$((passed + 1))
 }
 
-each_refused() { # NAME INPUT WORDS..
-    local name=$1 input at=1 told=0 status wanted
-    shift
-    input=$1
-    shift
+each_refused() { # NAME STATUS OUT ERR INPUT WORDS..: what the program ends with when nothing is refused
+    local name=$1 wanted=$2 out=$3 err=$4 input=$5 at=1 told=0 status
+    shift 5
     run 0 "$input" "$spprof" "$@"
-    wanted=$?
+    status=$?
+    [ $status -eq "$wanted" ] && [[ $(cat "$folder/out") == $out ]] && [[ $(cat "$folder/err") == $err ]] ||
+        { fails "$name, nothing refused: status $status"; return; }
     cp "$folder/out" "$folder/wanted.out"
     cp "$folder/err" "$folder/wanted.err"
     while true; do
         run $at "$input" "$spprof" "$@"
         status=$?
-        if [ $status -eq 4 ] && [ ! -s "$folder/out" ] && [ "$(cat "$folder/err")" = "out of memory" ]; then
+        if [ $status -eq 4 ] && [ ! -s "$folder/out" ] && cmp -s "$folder/err" "$folder/told"; then
             told=$((told + 1))
-        elif [ $status -ne $wanted ] || ! cmp -s "$folder/out" "$folder/wanted.out" || ! cmp -s "$folder/err" "$folder/wanted.err"; then
-            echo "FAILED memory: $name, request $at refused: status $status, $(head -c 200 "$folder/err")"
-            failed=$((failed + 1))
+        elif [ $status -ne "$wanted" ] || ! cmp -s "$folder/out" "$folder/wanted.out" || ! cmp -s "$folder/err" "$folder/wanted.err"; then
+            fails "$name, request $at refused: status $status, $(head -c 200 "$folder/err")"
             return
         fi
-        has_more $at || break
+        [ "$(requests)" -ge $at ] || break
         at=$((at + 1))
     done
-    if [ $told -eq 0 ]; then
-        echo "FAILED memory: $name: no request was refused"
-        failed=$((failed + 1))
-    else
-        echo "memory: $name: $((at - 1)) requests refused in turn, $told times told as out of memory"
-        passed=$((passed + 1))
-    fi
+    [ $told -gt 0 ] || { fails "$name: no refusal was told"; return; }
+    echo "memory: $name: $((at - 1)) requests refused in turn, $told times told as out of memory"
+    passed=$((passed + 1))
 }
 
 probe_refused
@@ -93,12 +91,13 @@ probe_refused
 examples=$tests/../examples
 head -c 23 "$examples/small.sptrace" > "$folder/short"
 { head -c 100 "$examples/small.sptrace"; head -c 16 /dev/zero | tr '\0' '\5'; } > "$folder/tag"
-each_refused "check, a good trace" "$examples/small.sptrace" check
-each_refused "check, a recorded trace" "$examples/nqueens.sptrace" check
-each_refused "check, a bad header" "$folder/short" check
-each_refused "check, a bad event" "$folder/tag" check
-each_refused "help" /dev/null --help
-each_refused "a usage fault" /dev/null check --nothing
+each_refused 'check, a good trace' 0 'work 17' '' "$examples/small.sptrace" check
+# more than one read, so that what was read grows
+each_refused 'check, a recorded trace' 0 'work 136861' '' "$examples/cilksort.sptrace" check
+each_refused 'check, a bad header' 1 '' 'bad header: short' "$folder/short" check
+each_refused 'check, a bad event' 1 '' 'bad event 4: tag' "$folder/tag" check
+each_refused 'help' 0 'A call-site profiler*' '' /dev/null --help
+each_refused 'a usage fault' 2 '' 'error: *' /dev/null check --nothing
 
 echo "$passed passed, $failed failed"
 [ $failed -eq 0 ]

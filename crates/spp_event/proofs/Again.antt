@@ -88,7 +88,7 @@ trace_again bytes t body h =
     let f = length t.funcs in
     let s = length t.sites in
     let n = length t.records in
-    let a = h.some_func in let b = h.funcs in let c = h.sites in let d = h.events in let e = h.root in let m = h.room in
+    let l = h.limits in let a = l.some_func in let b = l.funcs in let c = l.sites in let d = l.events in let e = l.root in let m = h.room in
     let head : Head (header_spelling t ++ body) (length t.funcs) (length t.sites) t.root (length t.records) = record {
       long = omega arith;
       magic = refl;
@@ -100,7 +100,7 @@ trace_again bytes t body h =
       root = e;
     } in
     let regrouped : drop 24 (header_spelling t ++ body) ≡ flat_map name_spelling t.funcs ++ (flat_map name_spelling t.sites ++ body) = append_assoc (flat_map name_spelling t.funcs) (flat_map name_spelling t.sites) body in
-    let funcs : funcs_at (length t.funcs) [] (drop 24 (header_spelling t ++ body)) ≡ Ok (t.funcs, flat_map name_spelling t.sites ++ body) = ap (funcs_at (length t.funcs) []) regrouped ∙ funcs_again t.funcs [] (flat_map name_spelling t.sites ++ body) h.func_names in
-    let sites = sites_again t.sites [] (length t.funcs) body h.site_names h.apart (cross_none t.sites) in
+    let funcs : funcs_at (length t.funcs) [] (drop 24 (header_spelling t ++ body)) ≡ Ok (t.funcs, flat_map name_spelling t.sites ++ body) = ap (funcs_at (length t.funcs) []) regrouped ∙ funcs_again t.funcs [] (flat_map name_spelling t.sites ++ body) h.names.func_names in
+    let sites = sites_again t.sites [] (length t.funcs) body h.names.site_names h.names.apart (cross_none t.sites) in
     let made = is_made_of (header_spelling t ++ body) (length t.funcs) (length t.sites) t.root (length t.records) (length t.sites) (length t.funcs) (t.funcs, flat_map name_spelling t.sites ++ body) (t.sites, body) head funcs sites (omega arith) refl refl in
     ap trace_at h.header ∙ made ∙ ap (λ (rs : _). Ok (record { funcs = t.funcs; sites = t.sites; root = t.root; records = rs })) (sym h.records)

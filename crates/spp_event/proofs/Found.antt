@@ -85,14 +85,18 @@ trace_found bytes t fits e =
     let spelled : bytes ≡ header_spelling made ++ s.0.1 = spelled_of made bytes s.0.1 (word_at bytes 8) (word_at bytes 12) (word_at bytes 20) fn sn rn c0.parts in
     let good : IsTraceOf bytes made s.0.1 = record {
       header = spelled;
-      some_func = let p = lim.some in omega arith;
-      funcs = let p = lim.funcs in omega arith;
-      sites = let p = lim.sites in omega arith;
-      root = omega arith;
-      events = let p = lim.events in omega arith;
-      func_names = subst (λ (x : List (List ℕ)). AllByRecursion IsName x) (sym fr.all) fr.good;
-      site_names = subst (λ (x : List (List ℕ)). AllByRecursion IsName x) (sym sr.0.all) sr.0.good;
-      apart = sr.1;
+      limits = record {
+        some_func = let p = lim.some in omega arith;
+        funcs = let p = lim.funcs in omega arith;
+        sites = let p = lim.sites in omega arith;
+        root = omega arith;
+        events = let p = lim.events in omega arith;
+      };
+      names = record {
+        func_names = subst (λ (x : List (List ℕ)). AllByRecursion IsName x) (sym fr.all) fr.good;
+        site_names = subst (λ (x : List (List ℕ)). AllByRecursion IsName x) (sym sr.0.all) sr.0.good;
+        apart = sr.1;
+      };
       room = omega arith;
       records = ap (λ (k : ℕ). records_of (length s.0.0) (length f.0.0) k s.0.1) (sym rn);
     } in

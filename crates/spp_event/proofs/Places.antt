@@ -6,7 +6,8 @@ use Rattle.std.proofs.lemmas.List.FromFn.{length-map-range_with_len, get_or-map-
 use Rattle.spp_event.specs.declared.records.EventFault.TheVariants.{Truncated}
 use Rattle.spp_event.specs.declared.traces.TheConstants.{BLOCK}
 use Rattle.spp_event.specs.Records.{read_record}
-use Rattle.spp_event.specs.Recordings.{Recording, Record, place, records_of, record_at, HoldsBlock}
+use Rattle.spp_event.specs.Blocks.{HoldsBlock}
+use Rattle.spp_event.specs.Recordings.{Recording, Record, place, records_of, record_at}
 
 pub length-records_of : (sites funcs count : ℕ) (body : List ℕ) → length (records_of sites funcs count body) ≡ count
 length-records_of sites funcs count body = length-map-range_with_len (λ i. read_record sites funcs (place body i)) 0 count

@@ -6,7 +6,7 @@ use Rattle.std.specs.Int.{w16, to_be_bytes, from_be_bytes, IsInRange}
 use Rattle.spp_event.specs.declared.header.HeaderFault.{HeaderFault}
 use Rattle.spp_event.specs.declared.header.HeaderFault.TheVariants.{Short, Magic, Limits, Name, SameName, RootFunc, Trailing, Memory}
 use Rattle.spp_event.specs.Records.{word, word_at}
-use Rattle.spp_event.specs.Recordings.{Recording, records_of}
+use Rattle.spp_event.specs.Recordings.{Recording, InLimits, records_of}
 
 -- the first eight bytes of a trace of version 1
 abbrev pub magic : List ℕ
@@ -54,14 +54,8 @@ pub record IsSound (funcs sites : List (List ℕ)) (root events : ℕ) : Type 0 
 -- the bytes are those of the trace t: its header, and a body of at most 16 bytes for each event, which its records read
 pub record IsTraceOf (bytes : List ℕ) (t : Recording) (body : List ℕ) : Type 0 where
   pub header : bytes ≡ header_spelling t ++ body
-  pub some_func : 1 ≤ length t.funcs
-  pub funcs : length t.funcs ≤ 65536
-  pub sites : length t.sites ≤ 65536
-  pub root : t.root < length t.funcs
-  pub events : length t.records ≤ 2 ^ 28
-  pub func_names : AllByRecursion IsName t.funcs
-  pub site_names : AllByRecursion IsName t.sites
-  pub apart : AreApart t.sites
+  pub limits : InLimits t
+  pub names : HasGoodNames t
   pub room : length body ≤ 16 * length t.records
   pub records : t.records ≡ records_of (length t.sites) (length t.funcs) (length t.records) body
 

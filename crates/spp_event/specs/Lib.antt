@@ -1,5 +1,6 @@
 pub mod Records
 pub mod Recordings
+pub mod Blocks
 pub mod Header
 pub mod Checks
 pub mod Seen

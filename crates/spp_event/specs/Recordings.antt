@@ -1,11 +1,10 @@
 -- What contracts see of an opened trace: its names, its root function and its records. How the records
 -- lie in the bytes is not part of it.
-use Rattle.std.specs.Prelude.{◌≡◌, ℕ, ◌+◌, ◌*◌, ◌<◌, ◌≤◌, ◌^◌, List, length, map, take, drop, slice_index_or, Result, Err}
+use Rattle.std.specs.Prelude.{ℕ, ◌*◌, ◌<◌, ◌≤◌, ◌^◌, List, length, map, take, drop, slice_index_or, Result, Err}
 use Rattle.std.specs.List.{range_with_len}
 use Rattle.spp_event.specs.declared.records.Event.{Event}
 use Rattle.spp_event.specs.declared.records.EventFault.{EventFault}
 use Rattle.spp_event.specs.declared.records.EventFault.TheVariants.{Truncated}
-use Rattle.spp_event.specs.declared.traces.TheConstants.{BLOCK}
 use Rattle.spp_event.specs.Records.{read_record}
 
 -- an event, or the first fault of a record that spells none
@@ -37,8 +36,3 @@ pub record InLimits (t : Recording) : Type 0 where
   pub sites : length t.sites ≤ 65536
   pub root : t.root < length t.funcs
   pub events : length t.records ≤ 2 ^ 28
-
--- a block of bytes has at its front copies of some records of the trace, from a position on
-pub record HoldsBlock (t : Recording) (block : List ℕ) (first held : ℕ) : Type 0 where
-  pub room : held * 16 ≤ BLOCK
-  pub copied : (k : ℕ) → k < held → first + k < length t.records → record_at t.records (first + k) ≡ read_record (length t.sites) (length t.funcs) (place block k)

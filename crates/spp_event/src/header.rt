@@ -1,7 +1,6 @@
 //! The header of a trace, with the names of its functions and sites.
 
-ghost use Rattle.std.specs.Prelude.{◌≡◌, ◌≢◌, ◌<◌, ◌≤◌, ◌+◌, ◌^◌, [], Some, true, if◌then◌else◌, not, List, ℕ, length, map, take, drop, IfOk, IfErr, OnOk, Ok, Err, MatchResult};
-ghost use Rattle.std.specs.Int.{w16, from_be_bytes};
+ghost use Rattle.std.specs.Prelude.{◌≡◌, ◌≢◌, ◌<◌, ◌≤◌, ◌+◌, ◌^◌, [], Some, true, if◌then◌else◌, not, List, ℕ, length, map, IfOk, IfErr, OnOk, MatchResult};
 ghost use Rattle.spp_event.specs.Seen.{has};
 ghost use Rattle.std.specs.Str.{bytes_eq};
 ghost use Rattle.spp_event.specs.declared.header.HeaderFault.TheVariants.{Memory};

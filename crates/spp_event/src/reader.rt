@@ -8,8 +8,8 @@ use crate::records::{Event, EventFault, event_of};
 use crate::traces::{BLOCK, RECORD, Trace};
 use std::marker::Model;
 
-/// Reads the events of a trace as the trace itself does, and about twice as fast where they are asked for in rising
-/// order: it copies some hundreds of records at a time, which the processor fetches ahead of their use.
+/// Reads the events of a trace as the trace itself does, and faster where they are asked for in rising order: it copies
+/// 1,024 records at a time, which the processor fetches ahead of their use.
 ///
 /// Contracts see it as the recording of its trace.
 #[derive(Drop)]
@@ -21,7 +21,8 @@ pub struct EventReader<'t, 'a> {
 }
 
 impl<'t, 'a> Model for EventReader<'t, 'a> {
-    ghost use Rattle.spp_event.specs.Recordings.{Recording, HoldsBlock};
+    ghost use Rattle.spp_event.specs.Blocks.{HoldsBlock};
+    ghost use Rattle.spp_event.specs.Recordings.{Recording};
 
     ghost Value = { Recording };
 
@@ -51,6 +52,7 @@ impl<'t, 'a> EventReader<'t, 'a> {
     pub fn event_at(&mut self, i: u32) -> Result<Event, EventFault>
         requires { i < length self.old.records }
         ensures said { result ≡ record_at self.old.records i }
+        ensures within { IfOk result (λ e. IsEventOf (length self.old.sites) (length self.old.funcs) e) }
         ensures same { self.new ≡ self.old }
     {
         if self.first <= i && i - self.first < self.held {

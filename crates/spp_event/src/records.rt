@@ -1,6 +1,6 @@
 //! One record: 16 bytes, the one spelling of an event.
 
-ghost use Rattle.std.specs.Prelude.{◌≡◌, length, IfOk, Some};
+ghost use Rattle.std.specs.Prelude.{◌≡◌, IfOk, Some};
 ghost use Rattle.spp_event.specs.Records.{spelling, read_record, IsEventOf};
 ghost use Rattle.spp_event.specs.Texts.{event_fault_text};
 

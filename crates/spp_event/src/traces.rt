@@ -3,7 +3,8 @@
 ghost use Rattle.std.specs.Prelude.{◌≡◌, ◌<◌, length, slice_index_or, [], IfOk};
 ghost use Rattle.spp_event.specs.Records.{IsEventOf};
 ghost use Rattle.spp_event.specs.Header.{HasGoodNames};
-ghost use Rattle.spp_event.specs.Recordings.{InLimits, record_at, HoldsBlock};
+ghost use Rattle.spp_event.specs.Blocks.{HoldsBlock};
+ghost use Rattle.spp_event.specs.Recordings.{InLimits, record_at};
 
 use crate::records::{Event, EventFault, event_of};
 use std::marker::Model;
@@ -29,7 +30,7 @@ pub struct Trace<'a> {
 }
 
 impl<'a> Model for Trace<'a> {
-    ghost use Rattle.std.specs.Prelude.{◌≡◌, ◌<◌, ◌≤◌, ◌^◌, length, map};
+    ghost use Rattle.std.specs.Prelude.{◌≡◌, ◌<◌, length, map};
     ghost use Rattle.spp_event.specs.Recordings.{Recording, InLimits, records_of};
     ghost use Rattle.spp_event.specs.Header.{HasGoodNames, IsSound};
 

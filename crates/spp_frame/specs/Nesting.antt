@@ -27,16 +27,17 @@ weight _ = 0
 abbrev pub work : List Record → ℕ
 work rs = sum_by weight rs
 
--- how many frames besides the root are open before position i: the opens less the returns before it
+-- How many frames besides the root are open before position i: the opens less the returns before it. Behind a return of
+-- the root, where something is wrong already, this is the number that the subtraction leaves, 0 at least.
 abbrev pub depth : List Record → ℕ → ℕ
 depth rs i = count_by opens (take i rs) - count_by returns (take i rs)
 
 -- What is wrong at a position of that depth: a bad record, a return where only the root is open, or, at the
 -- end, where no record stands, frames that are still open.
 abbrev pub wrong : Option Record → ℕ → Option Why
-wrong (Some (Err fault)) depth = Some (why.Event fault)
+wrong (Some (Err fault)) d = Some (why.Event fault)
 wrong (Some (Ok Ret)) zero = Some why.RootReturn
-wrong (Some (Ok event)) depth = None
+wrong (Some (Ok event)) d = None
 wrong None zero = None
 wrong None (suc d) = Some (why.Unclosed (suc d))
 

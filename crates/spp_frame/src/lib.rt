@@ -1,8 +1,7 @@
 //! Whether the frames of a trace nest, and its work.
 #![tactic(auto)]
 
-ghost use Rattle.std.specs.Prelude.{◌≡◌, ◌<◌, ◌++◌, List, length, IfOk, IfErr, MatchResult, Some, codes, decimal};
-ghost use Rattle.spp_event.specs.Texts.{event_fault_text};
+ghost use Rattle.std.specs.Prelude.{◌≡◌, IfOk, IfErr, Some};
 ghost use Rattle.spp_frame.specs.Texts.{why_text, fault_text};
 ghost use Rattle.spp_frame.specs.Nesting.{IsWellFormed, IsFirstBad, work, FirstBadIsOne, WellFormedHasNone, WellFormedOrBad, WellFormedAreEvents};
 

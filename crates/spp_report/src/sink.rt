@@ -1,5 +1,5 @@
 //! What takes bytes.
-ghost use Rattle.std.specs.Prelude.{◌≡◌, ◌≢◌, ℕ, ◌+◌, ◌-◌, ◌^◌, ◌<◌, ◌≤◌, List, [], ◌++◌, length, take, IfOk, OnOk, OnErr, IfErr};
+ghost use Rattle.std.specs.Prelude.{◌≡◌, ℕ, ◌+◌, ◌<◌, ◌≤◌, List, [], ◌++◌, length, take, IfOk, OnOk, OnErr};
 ghost use Rattle.spp_report.specs.Devices.{Raised};
 
 /// A sink could not take bytes. Its count of failures rose, unless it stood at its greatest value already.
@@ -21,7 +21,7 @@ pub trait Sink {
     // From the first state to the second it took exactly these bytes.
     ghost took: { Self → List ℕ → Self → Type 0 };
 
-    // All that it took has gone on to where it was meant for.
+    // It says that all it took has gone on to where it was meant for.
     ghost finished: { Self → Type 0 };
 
     // Its failures so far.

@@ -1,5 +1,5 @@
 //! What a user asks for.
-ghost use Rattle.std.specs.Prelude.{◌≡◌, ◌⊎◌, IfErr};
+ghost use Rattle.std.specs.Prelude.{◌≡◌, IfErr};
 ghost use Rattle.spp_request.specs.Usage.{EndsByUsage};
 ghost use Rattle.spp_request.specs.declared.request.UsageFault.TheVariants.{Memory};
 

@@ -20,15 +20,17 @@ event_line fault = line (codes "bad event " ++ fault_text fault)
 
 -- the bytes are those of a well-formed trace, and the text tells its work
 abbrev pub TellsWork : List ℕ → List ℕ → Type 0
-TellsWork bytes text = (t : Recording) × (body : List ℕ) × IsTraceOf bytes t body × IsWellFormed t.records × (text ≡ work_text (work t.records))
+TellsWork bytes text =
+    (t : Recording) × (body : List ℕ) × IsTraceOf bytes t body × IsWellFormed t.records × (text ≡ work_text (work t.records))
 
 -- the bytes open as no trace, and the line tells the fault that they have first
 abbrev pub TellsHeader : List ℕ → List ℕ → Type 0
-TellsHeader bytes line = (fault : HeaderFault) × IsHeaderFault bytes fault × (line ≡ header_line fault)
+TellsHeader bytes told = (fault : HeaderFault) × IsHeaderFault bytes fault × (told ≡ header_line fault)
 
 -- the bytes are those of a trace that has a bad event, and the line tells the first
 abbrev pub TellsEvent : List ℕ → List ℕ → Type 0
-TellsEvent bytes line = (t : Recording) × (body : List ℕ) × (fault : Fault) × IsTraceOf bytes t body × IsFirstBad t.records fault × (line ≡ event_line fault)
+TellsEvent bytes told =
+    (t : Recording) × (body : List ℕ) × (fault : Fault) × IsTraceOf bytes t body × IsFirstBad t.records fault × (told ≡ event_line fault)
 
 -- the text for one input
 abbrev pub IsCheckText : List (List ℕ) → List ℕ → Type 0
@@ -36,4 +38,4 @@ IsCheckText inputs text = (bytes : List ℕ) × (inputs ≡ bytes ∷ []) × Tel
 
 -- the line for one input that is refused
 abbrev pub IsCheckLine : List (List ℕ) → List ℕ → Type 0
-IsCheckLine inputs line = (bytes : List ℕ) × (inputs ≡ bytes ∷ []) × (TellsHeader bytes line ⊎ TellsEvent bytes line)
+IsCheckLine inputs told = (bytes : List ℕ) × (inputs ≡ bytes ∷ []) × (TellsHeader bytes told ⊎ TellsEvent bytes told)

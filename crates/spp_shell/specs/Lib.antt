@@ -4,7 +4,7 @@ pub mod Refusals
 pub mod InSources
 pub mod Check
 pub mod Requests
-pub mod Refused
+pub mod Tasks
 pub mod Endings
 pub mod Usage
 pub mod Fakes

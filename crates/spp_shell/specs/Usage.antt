@@ -1,19 +1,19 @@
--- How the program ends where it was asked for help, or wrongly. The facts on the devices are handed in as those of
--- Endings are.
-use Rattle.std.specs.Prelude.{◌≡◌, ◌≢◌, ℕ, ◌≤◌, ◌⊎◌, List, length, take}
+-- How the program ends where it was asked for help, or wrongly.
+use Rattle.std.specs.Prelude.{◌≡◌, ◌≢◌, ℕ, ◌⊎◌, List}
 use Rattle.std.specs.String.{string_bytes}
 use Rattle.spp_request.specs.declared.request.UsageFault.{UsageFault}
 use Rattle.spp_request.specs.declared.request.UsageFault.TheVariants.{Shown, Memory}
-use Rattle.spp_shell.specs.Lines.{cannot_write, out_of_memory}
+use Rattle.spp_shell.specs.declared.status.TheConstants.{GOOD, DEVICE, MEMORY}
+use Rattle.spp_shell.specs.Lines.{out_of_memory}
+use Rattle.spp_shell.specs.Endings.{Devices, OutputFails}
 
--- help goes to the output, whole or as far as the output took it
-abbrev pub HelpEnds : List ℕ → ℕ → (List ℕ → Type 0) → Type 0 → Type 0 → (List ℕ → Type 0) → Type 0 → Type 0
-HelpEnds text status Took Finished OutFailed Told Silent =
-    ((status ≡ 0) × Took text × Finished × Silent)
-    ⊎ ((status ≡ 3) × ((n : ℕ) × (n ≤ length text) × Took (take n text) × OutFailed × Told cannot_write))
+module _ (d : Devices) where
+  -- help goes to the output, whole or as far as the output took it
+  abbrev pub HelpEnds : List ℕ → ℕ → Type 0
+  HelpEnds text status = ((status ≡ GOOD) × d.Took text × d.Finished × d.Silent) ⊎ ((status ≡ DEVICE) × OutputFails d text)
 
-abbrev pub UsageEnds : UsageFault → ℕ → (List ℕ → Type 0) → Type 0 → Type 0 → Type 0 → (List ℕ → Type 0) → Type 0 → Type 0
-UsageEnds (Shown text told) status Took Finished OutFailed OutUntouched Told Silent =
-    (told ≡ 0 → HelpEnds (string_bytes text) status Took Finished OutFailed Told Silent)
-    × (told ≢ 0 → (status ≡ told) × OutUntouched × Told (string_bytes text))
-UsageEnds Memory status Took Finished OutFailed OutUntouched Told Silent = (status ≡ 4) × OutUntouched × Told out_of_memory
+  -- the text of a usage fault goes to the device for faults, and the program ends with the status that came with it
+  abbrev pub UsageEnds : UsageFault → ℕ → Type 0
+  UsageEnds (Shown text told) status =
+      (told ≡ GOOD → HelpEnds (string_bytes text) status) × (told ≢ GOOD → (status ≡ told) × d.OutUntouched × d.Told (string_bytes text))
+  UsageEnds Memory status = (status ≡ MEMORY) × d.OutUntouched × d.Told out_of_memory

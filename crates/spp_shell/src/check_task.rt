@@ -1,9 +1,7 @@
 //! The task `check`: the work of a trace, or its first fault.
-ghost use Rattle.std.specs.Prelude.{◌≡◌, ◌≢◌, ◌∷◌, [], ◌++◌, codes, decimal, IfOk};
+ghost use Rattle.std.specs.Prelude.{◌≡◌, ◌≢◌, IfOk};
 ghost use Rattle.std.specs.String.{string_bytes};
-ghost use Rattle.spp_event.specs.Texts.{header_fault_text};
-ghost use Rattle.spp_frame.specs.Texts.{fault_text};
-ghost use Rattle.spp_shell.specs.Refused.{IfLine};
+ghost use Rattle.spp_shell.specs.Tasks.{IfLine};
 ghost use Rattle.spp_shell.specs.Check.{IsCheckText, IsCheckLine, work_text, header_line, event_line};
 
 use crate::task::{Refusal, Task};

@@ -1,5 +1,5 @@
 //! A source over one of std's readers.
-ghost use Rattle.std.specs.Prelude.{◌≡◌, ◌≢◌, ℕ, ◌+◌, ◌-◌, ◌^◌, ◌<◌, ◌≤◌, List, [], length, take, IfOk, IfSome, OnOk, OnErr};
+ghost use Rattle.std.specs.Prelude.{◌≡◌};
 ghost use Rattle.spp_shell.specs.Reading.{KnownAnswer};
 
 use crate::source::{Source, SourceFault};

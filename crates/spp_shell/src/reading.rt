@@ -1,5 +1,5 @@
 //! Reading all that a source gives up to its end.
-ghost use Rattle.std.specs.Prelude.{◌≡◌, ℕ, ◌+◌, ◌^◌, ◌<◌, ◌≤◌, List, length, IfOk, OnOk, IfErr};
+ghost use Rattle.std.specs.Prelude.{◌≡◌, ◌^◌, ◌≤◌, length, IfOk, OnOk, IfErr};
 ghost use Rattle.spp_shell.specs.Reading.{GaveAll};
 ghost use Rattle.spp_shell.specs.Refusals.{ReadRefused};
 
@@ -23,8 +23,7 @@ const PIECE: usize = 65536;
 /// All that the source gives up to its end, in at most `turns` reads and at most `most` bytes. An interrupted read
 /// is one of them.
 ///
-/// The time is linear in what is read. Memory grows with what is read, by growths that move no byte where the
-/// system can extend a block.
+/// The time is linear in what is read, and so is the memory.
 ///
 /// # Errors
 ///

@@ -1,8 +1,7 @@
 //! One run: read, answer, write.
-ghost use Rattle.std.specs.Prelude.{◌≡◌, ℕ, ◌⊎◌, List, length};
+ghost use Rattle.std.specs.Prelude.{◌≡◌};
 ghost use Rattle.spp_report.specs.Devices.{Raised};
-ghost use Rattle.spp_shell.specs.Lines.{out_of_memory};
-ghost use Rattle.spp_shell.specs.Endings.{Good, Refused, Unwritten, NotRead, ToldLine, OneRead, OneUnread};
+ghost use Rattle.spp_shell.specs.Endings.{RunEnds, ToldLine, OneRead, OneUnread};
 ghost use Rattle.spp_shell.specs.Requests.{text_for, line_for};
 
 use crate::check_task::Check;
@@ -16,9 +15,12 @@ use std::alloc::Global;
 
 /// Writes one line; whether the device took it is not told on.
 pub(crate) fn tell<E: Sink>(err: &mut E, line: &[u8])
-    ensures { ToldLine E.took E.failures err.old err.new line.now }
+    ensures { ToldLine E.took E.finished E.failures err.old err.new line.now }
 {
-    let _ = write_out(err, line);
+    match write_out(err, line) {
+        Ok(()) => {}
+        Err(WriteFault::Device { written: _ }) => {}
+    }
 }
 
 /// One run of a task over one input.
@@ -29,16 +31,16 @@ fn run_task<C: Task, S: Source, O: Sink, E: Sink>(
     out: &mut O,
     err: &mut E,
 ) -> u8
-    ensures ends { let WasRead = OneRead S.answered first.old first.new in
-        let Unread = OneUnread S.answered S.failures first.old first.new in
-        let Took = λ (text : List ℕ). O.took out.old text out.new in
-        let Untouched = out.new ≡ out.old in
-        let Told = ToldLine E.took E.failures err.old err.new in
-        ((result ≡ GOOD) × Good WasRead (C.text_for task.now) Took (O.finished out.new) (err.new ≡ err.old))
-        ⊎ ((result ≡ BAD_INPUT) × Refused WasRead (C.line_for task.now) Told Untouched)
-        ⊎ ((result ≡ DEVICE) × (Unwritten WasRead (C.text_for task.now) Took (Raised (O.failures out.old) (O.failures out.new)) Told
-        ⊎ NotRead Unread Untouched Told))
-        ⊎ ((result ≡ MEMORY) × Untouched × Told out_of_memory) }
+    ensures ends { RunEnds (record {
+      WasRead = OneRead S.answered first.old first.new;
+      Unread = OneUnread S.answered S.failures first.old first.new;
+      Took = λ text. O.took out.old text out.new;
+      Finished = O.finished out.new;
+      OutFailed = Raised (O.failures out.old) (O.failures out.new);
+      OutUntouched = out.new ≡ out.old;
+      Told = ToldLine E.took E.finished E.failures err.old err.new;
+      Silent = err.new ≡ err.old;
+    }) (C.text_for task.now) (C.line_for task.now) result }
 {
     let bytes = match read_all(alloc, first) {
         Ok(bytes) => bytes,
@@ -86,18 +88,16 @@ pub fn run<S: Source, O: Sink, E: Sink>(
     out: &mut O,
     err: &mut E,
 ) -> u8
-    ensures ends { let WasRead = OneRead S.answered first.old first.new in
-        let Unread = OneUnread S.answered S.failures first.old first.new in
-        let Took = λ (text : List ℕ). O.took out.old text out.new in
-        let Untouched = out.new ≡ out.old in
-        let Told = ToldLine E.took E.failures err.old err.new in
-        let TextFor = text_for request.now.command in
-        let LineFor = line_for request.now.command in
-        ((result ≡ GOOD) × Good WasRead TextFor Took (O.finished out.new) (err.new ≡ err.old))
-        ⊎ ((result ≡ BAD_INPUT) × Refused WasRead LineFor Told Untouched)
-        ⊎ ((result ≡ DEVICE) × (Unwritten WasRead TextFor Took (Raised (O.failures out.old) (O.failures out.new)) Told
-        ⊎ NotRead Unread Untouched Told))
-        ⊎ ((result ≡ MEMORY) × Untouched × Told out_of_memory) }
+    ensures ends { RunEnds (record {
+      WasRead = OneRead S.answered first.old first.new;
+      Unread = OneUnread S.answered S.failures first.old first.new;
+      Took = λ text. O.took out.old text out.new;
+      Finished = O.finished out.new;
+      OutFailed = Raised (O.failures out.old) (O.failures out.new);
+      OutUntouched = out.new ≡ out.old;
+      Told = ToldLine E.took E.finished E.failures err.old err.new;
+      Silent = err.new ≡ err.old;
+    }) (text_for request.now.command) (line_for request.now.command) result }
 {
     match request.command {
         Command::Check => run_task(alloc, &Check, first, out, err),

@@ -1,5 +1,5 @@
 //! What gives bytes.
-ghost use Rattle.std.specs.Prelude.{◌≡◌, ℕ, ◌-◌, ◌^◌, ◌<◌, ◌≤◌, List, length, take, IfOk, IfSome, OnOk, OnErr, Option};
+ghost use Rattle.std.specs.Prelude.{◌≡◌, ℕ, ◌<◌, ◌≤◌, List, length, take, IfOk, IfSome, OnOk, OnErr, Option};
 ghost use Rattle.std.specs.Option.{option_map};
 ghost use Rattle.spp_report.specs.Devices.{Raised};
 

@@ -1,6 +1,6 @@
 //! A task of the program over the bytes that were read.
 ghost use Rattle.std.specs.Prelude.{◌≡◌, ℕ, List, [], ◌∷◌, IfOk, IfErr};
-ghost use Rattle.spp_shell.specs.Refused.{IfLine};
+ghost use Rattle.spp_shell.specs.Tasks.{IfLine};
 ghost use Rattle.spp_shell.specs.declared.task.Refusal.TheVariants.{Memory};
 
 use std::alloc::{AllocError, Global};

@@ -1,5 +1,5 @@
 //! What the user is shown in place of an answer.
-ghost use Rattle.std.specs.Prelude.{◌≡◌, ℕ, ◌⊎◌, List, length};
+ghost use Rattle.std.specs.Prelude.{◌≡◌};
 ghost use Rattle.spp_report.specs.Devices.{Raised};
 ghost use Rattle.spp_shell.specs.Endings.{ToldLine};
 ghost use Rattle.spp_shell.specs.Usage.{UsageEnds};
@@ -11,9 +11,16 @@ use spp_request::UsageFault;
 
 /// Shows help on `out`, or the text of a usage fault on `err`. Gives the exit status.
 pub fn show_usage<O: Sink, E: Sink>(fault: UsageFault, out: &mut O, err: &mut E) -> u8
-    ensures ends { UsageEnds fault result (λ (text : List ℕ). O.took out.old text out.new) (O.finished out.new)
-        (Raised (O.failures out.old) (O.failures out.new)) (out.new ≡ out.old)
-        (ToldLine E.took E.failures err.old err.new) (err.new ≡ err.old) }
+    ensures ends { UsageEnds (record {
+      WasRead = λ inputs. Unit {0};
+      Unread = λ told. Unit {0};
+      Took = λ text. O.took out.old text out.new;
+      Finished = O.finished out.new;
+      OutFailed = Raised (O.failures out.old) (O.failures out.new);
+      OutUntouched = out.new ≡ out.old;
+      Told = ToldLine E.took E.finished E.failures err.old err.new;
+      Silent = err.new ≡ err.old;
+    }) fault result }
 {
     match fault {
         UsageFault::Shown { text, status } => {

@@ -4,7 +4,7 @@
 
 use spp_report::OutSink;
 use spp_request::{UsageFault, read_request};
-use spp_shell::{InSource, run, show_usage};
+use spp_shell::{InSource, run, show_usage, status};
 use std::alloc::Global;
 use std::env;
 use std::io::ErrorKind;
@@ -18,7 +18,7 @@ fn words<R: Env + AllocGlobal>(rt: &R) -> Result<Vec<String>, UsageFault> {
         Err(e) if e.kind() == ErrorKind::OutOfMemory => Err(UsageFault::Memory),
         Err(_) => Err(UsageFault::Shown {
             text: "error: an argument is not UTF-8 text\n".to_string(rt.alloc())?,
-            status: 2,
+            status: status::USAGE,
         }),
     }
 }
@@ -30,12 +30,12 @@ fn main(rt: HostRuntime) -> ExitCode {
         Ok(words) => read_request(rt.alloc(), words.as_slice()),
         Err(fault) => Err(fault),
     };
-    let status = match request {
+    let ends = match request {
         Ok(request) => {
             let mut first = InSource::new(rt.reader());
             run(rt.alloc(), &request, &mut first, &mut out, &mut err)
         }
         Err(fault) => show_usage(fault, &mut out, &mut err),
     };
-    ExitCode::from(status)
+    ExitCode::from(ends)
 }

@@ -6,7 +6,7 @@ use crate::{InSource, ReadFault, Source, read_all, read_within};
 use spp_report::{OutSink, Sink, WriteFault, write_out};
 use std::alloc::Global;
 use std::io;
-use std::io::{ErrorKind, Write};
+use std::io::{ErrorKind, Read, Write};
 use std::test::Fail;
 
 const TEXT: &[u8] = b"work 17\n";
@@ -67,6 +67,49 @@ impl Write for Balky {
             return Err(ErrorKind::Interrupted.into());
         }
         Ok(())
+    }
+}
+
+/// One of std's writers that takes all, and counts its flushes or fails at them.
+#[derive(Drop)]
+struct Flushed {
+    flushes: u32,
+    fails: bool,
+}
+
+impl Write for Flushed {
+    fn write(&mut self, buf: &[u8]) -> io::Result<usize> {
+        Ok(buf.len())
+    }
+
+    fn flush(&mut self) -> io::Result<()> {
+        if self.fails {
+            return Err(ErrorKind::Other.into());
+        }
+        self.flushes = self.flushes.saturating_add(1);
+        Ok(())
+    }
+}
+
+/// One of std's readers that gives one byte at a time, and is interrupted before each.
+#[derive(Drop)]
+struct Stutter<'a> {
+    bytes: &'a [u8],
+    is_ready: bool,
+}
+
+impl Read for Stutter<'_> {
+    fn read(&mut self, buf: &mut [u8]) -> io::Result<usize> {
+        self.is_ready = !self.is_ready;
+        if !self.is_ready {
+            return Err(ErrorKind::Interrupted.into());
+        }
+        let (Some(place), Some((first, rest))) = (buf.first_mut(), self.bytes.split_first()) else {
+            return Ok(0);
+        };
+        *place = *first;
+        self.bytes = rest;
+        Ok(1)
     }
 }
 
@@ -197,4 +240,42 @@ fn interruptions_are_borne_up_to_64_in_a_row(rt: HostRuntime) {
         Err(WriteFault::Device { written: 0 })
     );
     assert_eq!(rt; full.failures(), 1);
+}
+
+#[test]
+fn a_whole_text_is_flushed_once(rt: HostRuntime) {
+    let mut sink = OutSink::new(Flushed {
+        flushes: 0,
+        fails: false,
+    });
+    assert!(rt; write_out(&mut sink, TEXT).is_ok());
+    assert_eq!(rt; sink.into_inner().flushes, 1);
+    let mut sink = OutSink::new(Flushed {
+        flushes: 0,
+        fails: true,
+    });
+    assert_eq!(rt;
+        write_out(&mut sink, TEXT),
+        Err(WriteFault::Device { written: 8 })
+    );
+    assert_eq!(rt; sink.failures(), 1);
+    // A flush that is interrupted too often fails, though no write was.
+    let mut sink = interrupted_sink(65, 1);
+    assert!(rt; sink.finish().is_err());
+    let mut sink = interrupted_sink(64, 1);
+    assert!(rt; sink.finish().is_ok());
+}
+
+#[test]
+fn a_reader_that_is_interrupted_is_read_on(rt: HostRuntime) -> Result<(), Fail> {
+    let mut source = InSource::new(Stutter {
+        bytes: TEXT,
+        is_ready: true,
+    });
+    let Ok(all) = read_all(rt.alloc(), &mut source) else {
+        return Err("read".into());
+    };
+    assert_eq!(rt; all.as_slice(), TEXT);
+    assert_eq!(rt; source.failures(), 0);
+    Ok(())
 }

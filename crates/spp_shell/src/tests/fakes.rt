@@ -1,5 +1,5 @@
 //! Sources and sinks in memory.
-ghost use Rattle.std.specs.Prelude.{◌≡◌, ◌≢◌, ℕ, ◌+◌, ◌-◌, ◌<◌, ◌≤◌, List, [], ◌∷◌, length, None, Some, true, IsTrue};
+ghost use Rattle.std.specs.Prelude.{◌≡◌, None, Some, IsTrue};
 ghost use Rattle.spp_shell.specs.Reading.{KnownAnswer};
 ghost use Rattle.spp_shell.specs.Fakes.{Grows, grows_nothing, grows_both};
 

@@ -1,7 +1,8 @@
 use Rattle.std.proofs.Common.{◌≡◌, ℕ, ◌*◌, ◌/◌, ◌≤◌, List, ◌++◌, refl, length, take, drop, map, sym, ap, subst, ◌∙◌, arith}
 use Rattle.std.proofs.lemmas.List.{take_rest, length-map}
 use Rattle.spp_event.specs.declared.traces.TheConstants.{BLOCK}
-use Rattle.spp_event.specs.Recordings.{Recording, records_of, HoldsBlock}
+use Rattle.spp_event.specs.Blocks.{HoldsBlock}
+use Rattle.spp_event.specs.Recordings.{Recording, records_of}
 use Rattle.spp_event.proofs.Places.{holds_copies}
 use Rattle.spp_event.proofs.traces.Trace.copy_records.Goals as goal
 

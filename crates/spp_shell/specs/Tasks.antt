@@ -6,5 +6,5 @@ use Rattle.spp_shell.specs.declared.task.Refusal.TheVariants.{Line, Memory}
 
 -- where a line of fault is given, the fact holds of it
 abbrev pub IfLine : Refusal → (List ℕ → Type 0) → Type 0
-IfLine (Line line) P = P (string_bytes line)
+IfLine (Line told) P = P (string_bytes told)
 IfLine Memory P = ⊤
