@@ -54,8 +54,8 @@ probe_refused() {
         [ "$(requests)" -ge $at ] || break
         at=$((at + 1))
     done
-    # sixteen calls, each with a request at least
-    [ $told -ge 16 ] || { fails "the calls: $told refusals were told"; return; }
+    # eighteen calls, each with a request at least
+    [ $told -ge 18 ] || { fails "the calls: $told refusals were told"; return; }
     echo "memory: the calls: $((at - 1)) requests refused in turn, $told times told by the call"
     passed=$((passed + 1))
 }

@@ -7,6 +7,7 @@ use spp_frame::check;
 use spp_report::OutSink;
 use spp_request::{Command, Request, UsageFault, read_request};
 use spp_shell::{InSource, ReadFault, read_all, read_within, run};
+use spp_text::{PrintFault, print_text};
 use std::alloc::Global;
 use std::io;
 
@@ -28,6 +29,21 @@ fn opened(alloc: Global) -> Answer {
     match open_trace(alloc, TRACE) {
         Ok(trace) if check(&trace) == Ok(17) => Answer::Good,
         Err(HeaderFault::Memory) => Answer::Memory,
+        _ => Answer::Other,
+    }
+}
+
+fn printed(alloc: Global) -> Answer {
+    let trace = match open_trace(alloc, TRACE) {
+        Ok(trace) => trace,
+        Err(HeaderFault::Memory) => return Answer::Memory,
+        Err(_) => return Answer::Other,
+    };
+    match print_text(alloc, &trace) {
+        Ok(text)
+            if text.as_str() == "func main\nfunc f\nsite A\nsite B\nroot 0\nstrand 17\nsync\n" =>
+            Answer::Good,
+        Err(PrintFault::Memory) => Answer::Memory,
         _ => Answer::Other,
     }
 }
@@ -81,6 +97,7 @@ fn main(rt: HostRuntime) -> io::Result<()> {
     let alloc = rt.alloc();
     for _ in 0..2 {
         println!(rt; "open_trace: {:?}", opened(alloc))?;
+        println!(rt; "print_text: {:?}", printed(alloc))?;
         println!(rt;
             "read_all: {:?}",
             of_reading(read_all(alloc, &mut InSource::new(TRACE)))

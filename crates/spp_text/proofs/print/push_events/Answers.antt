@@ -1,0 +1,29 @@
+use Rattle.std.proofs.Common.{◌≡◌, ℕ, ◌<◌, List, [], ◌∷◌, ◌++◌, length, Ok, Err, refl, sym, ap, subst, ◌∙◌, arith, inl, inr}
+use Rattle.std.specs.Prelude.{IsOk}
+use Rattle.std.specs.List.{flat_map}
+use Rattle.std.specs.String.{string_bytes}
+use Rattle.std.proofs.lemmas.Bool.{cases_lt}
+use Rattle.std.proofs.lemmas.List.{flat_map_more}
+use Rattle.spp_event.specs.declared.records.EventFault.TheVariants.{Truncated}
+use Rattle.spp_event.specs.Recordings.{Recording, Record, record_at}
+use Rattle.spp_text.specs.Text.{event_line}
+use Rattle.spp_text.proofs.Lines.{event_more}
+use Rattle.spp_text.proofs.print.push_events.Goals as goal
+
+pub loop-at-preserved : goal.loop-at-preserved
+loop-at-preserved c =
+    let rs = c.args.trace.now.records in
+    let i = c.loop-at.at in
+    let inv = c.loop-at.invariant in
+    let lt : i < length rs = omega (arith, c.count-at-end.ensures.count) in
+    let read : record_at c.loop-at.events.records i ≡ Ok c.in-Ok.event = sym c.event_at.ensures.said ∙ c.in-Ok.is in
+    let said : record_at rs i ≡ Ok c.in-Ok.event = subst (λ (v : Recording). record_at v.records i ≡ Ok c.in-Ok.event) inv.same read in
+    let es = inv.printed.0 in
+    record {
+      same = c.event_at.ensures.same ∙ inv.same;
+      printed = (es ++ c.in-Ok.event ∷ [], event_more rs i (Err Truncated) es c.in-Ok.event lt said inv.printed.1, c.in_ok-push_event.ensures ∙ ap (λ (t : List ℕ). t ++ event_line c.in-Ok.event) inv.printed.2 ∙ flat_map_more event_line (string_bytes c.args.text.now) es c.in-Ok.event);
+      good = λ k less. elim (cases_lt k i) [
+        | inl l ↦ inv.good k l
+        | inr m ↦ let here : i ≡ k = omega arith in subst (λ (j : ℕ). IsOk (record_at rs j)) here (subst (λ (r : Record). IsOk r) (sym said) refl)
+      ];
+    }

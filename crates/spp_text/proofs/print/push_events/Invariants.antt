@@ -1,0 +1,16 @@
+use Rattle.std.proofs.Common.{◌≡◌, ℕ, ◌<◌, List, ◌++◌, take, map, Ok}
+use Rattle.std.specs.Prelude.{IsOk}
+use Rattle.std.specs.List.{flat_map}
+use Rattle.std.specs.String.{string_bytes}
+use Rattle.spp_event.specs.declared.records.Event.{Event}
+use Rattle.spp_event.specs.Recordings.{record_at}
+use Rattle.spp_text.specs.Text.{event_line}
+use Rattle.spp_text.specs.Printed.{PrintsEvents}
+use Rattle.spp_text.proofs.print.push_events.Given as goal
+
+abbrev pub invariant-loop-at : goal.invariant-loop-at
+invariant-loop-at l = record {
+  same : l.events ≡ l.trace;
+  printed : PrintsEvents (string_bytes l.fn.text) (take l.at l.trace.records) (string_bytes l.text);
+  good : (i : ℕ) → i < l.at → IsOk (record_at l.trace.records i);
+}
