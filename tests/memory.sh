@@ -94,6 +94,7 @@ head -c 23 "$examples/small.sptrace" > "$folder/short"
 each_refused 'check, a good trace' 0 'work 17' '' "$examples/small.sptrace" check
 # more than one read, so that what was read grows
 each_refused 'check, a recorded trace' 0 'work 136861' '' "$examples/cilksort.sptrace" check
+each_refused 'check, a file by name' 0 'work 17' '' /dev/null check "$examples/small.sptrace"
 each_refused 'check, a bad header' 1 '' 'bad header: short' "$folder/short" check
 each_refused 'check, a bad event' 1 '' 'bad event 4: tag' "$folder/tag" check
 each_refused 'help' 0 'A call-site profiler*' '' /dev/null --help

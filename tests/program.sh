@@ -2,7 +2,7 @@
 # Runs the built program over files, pipes and devices: its answers, its lines of fault and its statuses.
 # usage: tests/program.sh SPPROF
 set -u
-spprof=$1
+spprof=$(readlink -f "$1")
 top=$(cd "$(dirname "${BASH_SOURCE[0]}")/.." && pwd)
 folder=$(mktemp -d)
 trap 'rm -rf "$folder"' EXIT
@@ -58,6 +58,15 @@ timeout 30 "$spprof" check < "$folder/names" > "$folder/out" 2> "$folder/err"
 status=$?
 judge 'many long names' 0 "work 0$lf" ''
 
+expect 'a file by name' 0 "work 17$lf" '' /dev/null check "$small"
+cp "$small" "$folder/-a b"
+(cd "$folder" && "$spprof" check -- '-a b' > out 2> err)
+status=$?
+judge 'a file whose name begins with a dash' 0 "work 17$lf" ''
+expect 'a bad file by name' 1 '' "bad event 5: truncated$lf" /dev/null check "$folder/part"
+expect 'a file that is not there' 3 '' "cannot open input$lf" "$small" check "$folder/nothing"
+expect 'a folder by name' 3 '' "cannot read input$lf" "$small" check "$folder"
+
 expect 'a folder for input' 3 '' "cannot read input$lf" "$folder" check
 "$spprof" check <&- > "$folder/out" 2> "$folder/err"
 status=$?
@@ -85,9 +94,10 @@ status=$?
 judge 'a full device for faults' 1 '' ''
 
 expect 'help' 0 'A call-site profiler*' '' /dev/null --help
-expect 'help of a command' 0 'Check the trace*' '' /dev/null check --help
+expect 'help of a command' 0 'Check a trace*' '' /dev/null check --help
 expect 'no command' 2 '' 'error: *Usage: *' /dev/null
 expect 'another command' 2 '' 'error: *' /dev/null chek
+expect 'two files' 2 '' 'error: *' /dev/null check a b
 expect 'another option' 2 '' 'error: *' /dev/null check --parts 2
 expect 'a word that is no UTF-8' 2 '' "error: an argument is not UTF-8 text$lf" /dev/null $'\377'
 "$spprof" --help > /dev/full 2> "$folder/err"

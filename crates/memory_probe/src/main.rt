@@ -76,6 +76,7 @@ fn refused(alloc: Global) -> Answer {
 fn ran(alloc: Global, bytes: &[u8], wanted: u8) -> Answer {
     let request = Request {
         command: Command::Check,
+        files: Vec::new(alloc),
     };
     let (mut text, mut line) = ([0u8; 64], [0u8; 64]);
     let mut out = OutSink::new(text.as_mut_slice());

@@ -1,6 +1,6 @@
 //! The commands and their options, as `clap` is told of them. It writes the texts of help and usage.
 
-use clap::Command;
+use clap::{Arg, Command};
 use std::alloc::{AllocError, Global};
 
 const ABOUT: &str = "A call-site profiler for recorded fork-join runs";
@@ -12,18 +12,21 @@ const STATUSES: &str = "Exit status:
   3  a file or stream could not be read or written
   4  out of memory";
 
-fn check_command<'a>(alloc: Global) -> Command<'a> {
+fn check_command<'a>(alloc: Global) -> Result<Command<'a>, AllocError> {
+    let file = Arg::new(alloc, "FILE").help("The trace; without it standard input is read");
     Command::new(alloc, "check")
-        .about("Check the trace on standard input, and print its work")
+        .about("Check a trace, and print its work")
         .after_help(STATUSES)
+        .arg(file)
 }
 
 /// The whole command line. It lives as long as the words that it is to read.
 pub(crate) fn command_line<'a>(alloc: Global) -> Result<Command<'a>, AllocError> {
+    let check = check_command(alloc)?;
     Command::new(alloc, "spprof")
         .about(ABOUT)
         .after_help(STATUSES)
         .subcommand_required(true)
         .disable_help_subcommand(true)
-        .subcommand(check_command(alloc))
+        .subcommand(check)
 }

@@ -1,12 +1,12 @@
 //! What a user asks for.
-ghost use Rattle.std.specs.Prelude.{◌≡◌, IfErr};
+ghost use Rattle.std.specs.Prelude.{◌≡◌, IfErr, IfOk};
 ghost use Rattle.spp_request.specs.Usage.{EndsByUsage};
 ghost use Rattle.spp_request.specs.declared.request.UsageFault.TheVariants.{Memory};
 
 use crate::command_line::command_line;
 use clap::Error;
 use clap::error::ErrorKind;
-use std::alloc::{AllocError, Global};
+use std::alloc::{AllocError, AllocFailed, Global};
 use std::convert::AsStr;
 
 /// What to do with the input.
@@ -17,10 +17,12 @@ pub enum Command {
 }
 
 /// What a user asks for.
-#[derive(Clone, Copy, Debug, PartialEq, Eq)]
+#[derive(Debug, Drop)]
 pub struct Request {
     /// The command.
     pub command: Command,
+    /// The paths of its inputs, in order; where there is none, standard input is read.
+    pub files: Vec<String>,
 }
 
 /// Why words are no request.
@@ -35,6 +37,14 @@ pub enum UsageFault {
     },
     /// No memory was left.
     Memory,
+}
+
+impl<T: Drop> From<AllocFailed<T>> for UsageFault {
+    ghost from_gives = { λ _ e. e ≡ Memory };
+
+    fn from(_e: AllocFailed<T>) -> UsageFault {
+        UsageFault::Memory
+    }
 }
 
 impl From<AllocError> for UsageFault {
@@ -66,6 +76,16 @@ fn command_of(name: &str) -> Option<Command> {
     }
 }
 
+/// What the user is shown where there is none of the commands. `clap` has refused such words already.
+fn no_command(alloc: Global) -> Result<UsageFault, AllocError>
+    ensures { IfOk result EndsByUsage }
+{
+    Ok(UsageFault::Shown {
+        text: "error: no such command\n".to_string(alloc)?,
+        status: 2,
+    })
+}
+
 /// Reads a request from the words of a command line, of which the first is the program's name. The texts of help
 /// and usage are those of `clap`, and which words give which request is shown by tests alone.
 ///
@@ -79,16 +99,15 @@ pub fn read_request<S: AsStr>(alloc: Global, words: &[S]) -> Result<Request, Usa
         Ok(matches) => matches,
         Err(error) => return Err(shown(alloc, error)),
     };
-    let command = match matches.subcommand() {
-        Some((name, _)) => command_of(name),
-        None => None,
+    let Some((name, given)) = matches.subcommand() else {
+        return Err(no_command(alloc)?);
     };
-    match command {
-        Some(command) => Ok(Request { command }),
-        // `clap` has refused words without one of the commands already.
-        None => Err(UsageFault::Shown {
-            text: "error: no such command\n".to_string(alloc)?,
-            status: 2,
-        }),
+    let Some(command) = command_of(name) else {
+        return Err(no_command(alloc)?);
+    };
+    let mut files = Vec::new(alloc);
+    if let Some(path) = given.get_str("FILE") {
+        files.push(path.to_string(alloc)?)?;
     }
+    Ok(Request { command, files })
 }

@@ -11,6 +11,9 @@ line text = text ++ line_feed ∷ []
 abbrev pub cannot_write : List ℕ
 cannot_write = line (codes "cannot write output")
 
+abbrev pub cannot_open : List ℕ
+cannot_open = line (codes "cannot open input")
+
 abbrev pub cannot_read : List ℕ
 cannot_read = line (codes "cannot read input")
 

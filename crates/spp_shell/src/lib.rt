@@ -14,7 +14,7 @@ pub use in_source::InSource;
 pub use reading::{ReadFault, read_all, read_within};
 pub use running::run;
 pub use source::{Source, SourceFault};
-pub use usage::show_usage;
+pub use usage::{refuse_input, show_usage};
 
 #[cfg(test)]
 mod tests;

@@ -2,14 +2,14 @@
 //! gives.
 #![tactic(auto)]
 
-use spp_report::OutSink;
-use spp_request::{UsageFault, read_request};
-use spp_shell::{InSource, run, show_usage, status};
+use spp_report::{OutSink, Sink};
+use spp_request::{Request, UsageFault, read_request};
+use spp_shell::{InSource, refuse_input, run, show_usage, status};
 use std::alloc::Global;
-use std::env;
 use std::io::ErrorKind;
 use std::process::ExitCode;
-use std::rt::Env;
+use std::rt::{Env, Files};
+use std::{env, fs};
 
 /// The words of the command line.
 fn words<R: Env + AllocGlobal>(rt: &R) -> Result<Vec<String>, UsageFault> {
@@ -23,6 +23,22 @@ fn words<R: Env + AllocGlobal>(rt: &R) -> Result<Vec<String>, UsageFault> {
     }
 }
 
+/// Answers the request, from its file or from standard input.
+fn answer<R, O: Sink, E: Sink>(rt: &R, request: &Request, out: &mut O, err: &mut E) -> u8
+where
+    R: Files + Input + AllocGlobal,
+{
+    let Some(path) = request.files.first() else {
+        let mut first = InSource::new(rt.reader());
+        return run(rt.alloc(), request, &mut first, out, err);
+    };
+    match fs::open(rt, path.as_str()) {
+        Ok(file) => run(rt.alloc(), request, &mut InSource::new(file), out, err),
+        Err(e) if e.kind() == ErrorKind::OutOfMemory => show_usage(UsageFault::Memory, out, err),
+        Err(_) => refuse_input(err),
+    }
+}
+
 fn main(rt: HostRuntime) -> ExitCode {
     let mut out = OutSink::new(rt.stdout());
     let mut err = OutSink::new(rt.stderr());
@@ -31,10 +47,7 @@ fn main(rt: HostRuntime) -> ExitCode {
         Err(fault) => Err(fault),
     };
     let ends = match request {
-        Ok(request) => {
-            let mut first = InSource::new(rt.reader());
-            run(rt.alloc(), &request, &mut first, &mut out, &mut err)
-        }
+        Ok(request) => answer(&rt, &request, &mut out, &mut err),
         Err(fault) => show_usage(fault, &mut out, &mut err),
     };
     ExitCode::from(ends)

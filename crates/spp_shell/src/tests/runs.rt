@@ -1,15 +1,19 @@
 //! Whole runs: what goes out, what is told, and the status.
 
 use super::fakes::{Cup, dripping, empty_cup, failing};
-use crate::{run, show_usage, status};
+use crate::{refuse_input, run, show_usage, status};
 use spp_report::Sink;
 use spp_request::{Command, Request, UsageFault};
 use std::alloc::{AllocError, Global};
 use std::test::Fail;
 
-const CHECK: Request = Request {
-    command: Command::Check,
-};
+/// A request to check standard input.
+fn check_input(alloc: Global) -> Request {
+    Request {
+        command: Command::Check,
+        files: Vec::new(alloc),
+    }
+}
 
 /// A header of the functions `main` and `f`, the site `A` and two events.
 const HEADER: &[u8] = b"SPTRACE1\x00\x00\x00\x02\x00\x00\x00\x01\x00\x00\x00\x00\x00\x00\x00\x02\
@@ -34,7 +38,13 @@ fn trace_of(alloc: Global, records: [&[u8]; 2]) -> Result<Vec<u8>, AllocError> {
 /// Runs `check` on the bytes, and says whether it ended with this status, output and line of fault.
 fn ends_with(alloc: Global, bytes: &[u8], ends: u8, text: &[u8], line: &[u8]) -> bool {
     let (mut out, mut err) = (empty_cup(alloc, 100), empty_cup(alloc, 100));
-    let got = run(alloc, &CHECK, &mut dripping(bytes), &mut out, &mut err);
+    let got = run(
+        alloc,
+        &check_input(alloc),
+        &mut dripping(bytes),
+        &mut out,
+        &mut err,
+    );
     got == ends && out.taken.as_slice() == text && err.taken.as_slice() == line
 }
 
@@ -81,7 +91,13 @@ fn an_output_that_fails_ends_with_status_3(rt: HostRuntime) -> Result<(), Fail> 
     for room in 0..7usize {
         let (mut out, mut err) = (empty_cup(rt.alloc(), room), empty_cup(rt.alloc(), 100));
         let mut first = dripping(bytes.as_slice());
-        let ends = run(rt.alloc(), &CHECK, &mut first, &mut out, &mut err);
+        let ends = run(
+            rt.alloc(),
+            &check_input(rt.alloc()),
+            &mut first,
+            &mut out,
+            &mut err,
+        );
         assert_eq!(rt; ends, status::DEVICE);
         assert_eq!(rt;
             Some(out.taken.as_slice()),
@@ -98,7 +114,13 @@ fn an_input_that_fails_ends_with_status_3(rt: HostRuntime) -> Result<(), Fail> {
     for fails_at in [0, 1, 67, 68] {
         let (mut out, mut err) = (empty_cup(rt.alloc(), 100), empty_cup(rt.alloc(), 100));
         let mut first = failing(bytes.as_slice(), fails_at);
-        let ends = run(rt.alloc(), &CHECK, &mut first, &mut out, &mut err);
+        let ends = run(
+            rt.alloc(),
+            &check_input(rt.alloc()),
+            &mut first,
+            &mut out,
+            &mut err,
+        );
         assert_eq!(rt; ends, status::DEVICE);
         assert_eq!(rt; out.taken.len(), 0);
         assert_eq!(rt; err.taken.as_slice(), b"cannot read input\n".as_slice());
@@ -111,7 +133,7 @@ fn a_device_for_faults_that_fails_changes_nothing_else(rt: HostRuntime) {
     let (mut out, mut err) = (empty_cup(rt.alloc(), 100), empty_cup(rt.alloc(), 4));
     let ends = run(
         rt.alloc(),
-        &CHECK,
+        &check_input(rt.alloc()),
         &mut dripping(b"".as_slice()),
         &mut out,
         &mut err,
@@ -162,4 +184,11 @@ fn help_goes_to_the_output_and_the_rest_does_not(rt: HostRuntime) -> Result<(), 
         )
     );
     Ok(())
+}
+
+#[test]
+fn an_input_that_cannot_be_opened_is_told(rt: HostRuntime) {
+    let mut err = empty_cup(rt.alloc(), 100);
+    assert_eq!(rt; refuse_input(&mut err), status::DEVICE);
+    assert_eq!(rt; err.taken.as_slice(), b"cannot open input\n".as_slice());
 }

@@ -1,10 +1,7 @@
-use Rattle.std.proofs.Common.{◌≡◌, ℕ, ◌<◌, List, ◌++◌, take, map, Ok}
+use Rattle.std.proofs.Common.{◌≡◌, ℕ, ◌<◌, take}
 use Rattle.std.specs.Prelude.{IsOk}
-use Rattle.std.specs.List.{flat_map}
 use Rattle.std.specs.String.{string_bytes}
-use Rattle.spp_event.specs.declared.records.Event.{Event}
 use Rattle.spp_event.specs.Recordings.{record_at}
-use Rattle.spp_text.specs.Text.{event_line}
 use Rattle.spp_text.specs.Printed.{PrintsEvents}
 use Rattle.spp_text.proofs.print.push_events.Given as goal
 
