@@ -23,7 +23,8 @@ abbrev pub name_spelling : List ℕ → List ℕ
 name_spelling name = to_be_bytes w16 (length name) ++ name
 
 abbrev pub header_spelling : Recording → List ℕ
-header_spelling t = magic ++ word (length t.funcs) ++ word (length t.sites) ++ word t.root ++ word (length t.records) ++ flat_map name_spelling t.funcs ++ flat_map name_spelling t.sites
+header_spelling t = magic ++ word (length t.funcs) ++ word (length t.sites) ++ word t.root ++ word (length t.records)
+    ++ flat_map name_spelling t.funcs ++ flat_map name_spelling t.sites
 
 -- from 1 to 200 printable bytes
 abbrev pub IsName : List ℕ → Type 0
@@ -105,19 +106,33 @@ name_len bytes = from_be_bytes w16 (take 2 bytes)
 
 -- the bytes end within their first name: within its length, or, where the length is good, after it
 abbrev pub EndsInName : List ℕ → Type 0
-EndsInName bytes = (length bytes < 2) ⊎ ((1 ≤ name_len bytes) × (name_len bytes ≤ 200) × (length bytes < 2 + name_len bytes))
+EndsInName bytes = (length bytes < 2)
+    ⊎ ((1 ≤ name_len bytes) × (name_len bytes ≤ 200) × (length bytes < 2 + name_len bytes))
 
 -- their first name has a bad length, or is there and has a byte that is not printable
 abbrev pub HasBadName : List ℕ → Type 0
-HasBadName bytes = (2 ≤ length bytes) × ((name_len bytes ≡ 0) ⊎ (200 < name_len bytes) ⊎ ((2 + name_len bytes ≤ length bytes) × ¬ AllByRecursion (IsInRange 32 126) (take (name_len bytes) (drop 2 bytes))))
+HasBadName bytes = (2 ≤ length bytes)
+    × ((name_len bytes ≡ 0) ⊎ (200 < name_len bytes)
+    ⊎ ((2 + name_len bytes ≤ length bytes)
+    × ¬ AllByRecursion (IsInRange 32 126) (take (name_len bytes) (drop 2 bytes))))
 
 -- The fault that these bytes have first. All that stands before it is good.
 abbrev pub IsHeaderFault : List ℕ → HeaderFault → Type 0
-IsHeaderFault bytes Short = (length bytes < 24) ⊎ ((names : List (List ℕ)) × (rest : List ℕ) × HasNames bytes names rest × WantsName bytes names × EndsInName rest)
+IsHeaderFault bytes Short = (length bytes < 24)
+    ⊎ ((names : List (List ℕ)) × (rest : List ℕ) × HasNames bytes names rest × WantsName bytes names × EndsInName rest)
 IsHeaderFault bytes Magic = (24 ≤ length bytes) × (take 8 bytes ≢ magic)
 IsHeaderFault bytes Limits = (24 ≤ length bytes) × (take 8 bytes ≡ magic) × ¬ IsWithinLimits bytes
-IsHeaderFault bytes RootFunc = (24 ≤ length bytes) × (take 8 bytes ≡ magic) × IsWithinLimits bytes × (funcs_in bytes ≤ root_in bytes)
-IsHeaderFault bytes (Name number) = (names : List (List ℕ)) × (rest : List ℕ) × HasNames bytes names rest × WantsName bytes names × (number ≡ length names) × HasBadName rest
-IsHeaderFault bytes (SameName number) = (names : List (List ℕ)) × (name : List ℕ) × (rest : List ℕ) × HasNames bytes names (name_spelling name ++ rest) × WantsName bytes names × (number ≡ length names) × (funcs_in bytes ≤ number) × IsName name × ((name ≡ root_name) ⊎ Contains (drop (funcs_in bytes) names) name)
-IsHeaderFault bytes Trailing = (names : List (List ℕ)) × (rest : List ℕ) × HasNames bytes names rest × (length names ≡ funcs_in bytes + sites_in bytes) × (16 * events_in bytes < length rest)
+IsHeaderFault bytes RootFunc =
+    (24 ≤ length bytes) × (take 8 bytes ≡ magic) × IsWithinLimits bytes × (funcs_in bytes ≤ root_in bytes)
+IsHeaderFault bytes (Name number) =
+    (names : List (List ℕ)) × (rest : List ℕ) × HasNames bytes names rest × WantsName bytes names
+    × (number ≡ length names) × HasBadName rest
+IsHeaderFault bytes (SameName number) =
+    (names : List (List ℕ)) × (name : List ℕ) × (rest : List ℕ)
+    × HasNames bytes names (name_spelling name ++ rest) × WantsName bytes names
+    × (number ≡ length names) × (funcs_in bytes ≤ number) × IsName name
+    × ((name ≡ root_name) ⊎ Contains (drop (funcs_in bytes) names) name)
+IsHeaderFault bytes Trailing =
+    (names : List (List ℕ)) × (rest : List ℕ) × HasNames bytes names rest
+    × (length names ≡ funcs_in bytes + sites_in bytes) × (16 * events_in bytes < length rest)
 IsHeaderFault bytes Memory = ⊥

@@ -3,6 +3,6 @@ pub mod Recordings
 pub mod Blocks
 pub mod Header
 pub mod Checks
-pub mod Seen
+pub mod NameSets
 pub mod Texts
 pub mod Laws

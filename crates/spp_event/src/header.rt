@@ -1,7 +1,7 @@
 //! The header of a trace, with the names of its functions and sites.
 
 ghost use Rattle.std.specs.Prelude.{◌≡◌, ◌≢◌, ◌<◌, ◌≤◌, ◌+◌, ◌^◌, [], Some, true, if◌then◌else◌, not, List, ℕ, length, map, IfOk, IfErr, OnOk, MatchResult};
-ghost use Rattle.spp_event.specs.Seen.{has};
+ghost use Rattle.spp_event.specs.NameSets.{has};
 ghost use Rattle.std.specs.Str.{bytes_eq};
 ghost use Rattle.spp_event.specs.declared.header.HeaderFault.TheVariants.{Memory};
 ghost use Rattle.spp_event.specs.Records.{word_at};
@@ -242,7 +242,8 @@ pub fn open_trace<'a>(alloc: Global, bytes: &'a [u8]) -> Result<Trace<'a>, Heade
     // What is opened is a trace.
     ensures found { IfOk result (λ t. (body : List ℕ) × IsTraceOf bytes.now t body) }
     // What is a trace is opened, unless memory runs out.
-    ensures only { (t : Recording) (body : List ℕ) → IsTraceOf bytes.now t body → MatchResult result (λ u. u ≡ t) (λ f. f ≡ Memory) }
+    ensures only { (t : Recording) (body : List ℕ) → IsTraceOf bytes.now t body
+        → MatchResult result (λ u. u ≡ t) (λ f. f ≡ Memory) }
     // What is refused has that fault first, unless memory ran out.
     ensures refused { IfErr result (λ f. f ≢ Memory → IsHeaderFault bytes.now f) }
 {

@@ -36,13 +36,20 @@ impl<'a> Model for Trace<'a> {
 
     ghost Value = { Recording };
 
-    ghost view = { λ t. record { funcs = map (λ s. s.now) t.funcs.items; sites = map (λ s. s.now) t.sites.items; root = t.root; records = records_of (length t.sites.items) (length t.funcs.items) t.count t.body.now } };
+    ghost view = { λ t. record {
+      funcs = map (λ s. s.now) t.funcs.items;
+      sites = map (λ s. s.now) t.sites.items;
+      root = t.root;
+      records = records_of (length t.sites.items) (length t.funcs.items) t.count t.body.now;
+    } };
 
-    ghost invariant = { λ t. IsSound (map (λ s. s.now) t.funcs.items) (map (λ s. s.now) t.sites.items) t.root t.count };
+    ghost invariant = { λ t.
+        IsSound (map (λ s. s.now) t.funcs.items) (map (λ s. s.now) t.sites.items) t.root t.count };
 }
 
 impl<'a> Trace<'a> {
-    /// How many events the trace has, bad ones among them: at most 2^28.
+    /// How many events the trace has, bad ones among them: at most 2^28. Its clauses also give out what every opened
+    /// trace keeps: its limits, and that its names are good.
     pub fn count(&self) -> u32
         ensures count { result ≡ length self.now.records }
         ensures limits { InLimits self.now }

@@ -9,11 +9,11 @@ use Rattle.spp_event.specs.declared.records.Event.TheVariants.{Ret}
 use Rattle.spp_event.specs.declared.records.EventFault.TheVariants.{Truncated}
 use Rattle.spp_event.specs.Recordings.{Record, record_at}
 use Rattle.spp_frame.specs.declared.Why.TheVariants as why
-use Rattle.spp_frame.specs.Nesting.{opens, returns, weight, work, depth, wrong, wrong_at, IsGoodBefore, IsFirstBad, IsWellFormed}
+use Rattle.spp_frame.specs.Nesting.{opens_frame, closes_frame, weight, work, depth, wrong, wrong_at, IsGoodBefore, IsFirstBad, IsWellFormed}
 
 pub record Far (rs : List Record) (i d w : ℕ) : Type 0 where
   pub good : IsGoodBefore rs i
-  pub depth : count_by opens (take i rs) ≡ d + count_by returns (take i rs)
+  pub depth : count_by opens_frame (take i rs) ≡ d + count_by closes_frame (take i rs)
   pub work : w ≡ sum_by weight (take i rs)
 
 depth_is : (rs : List Record) (i d w : ℕ) → Far rs i d w → depth rs i ≡ d
@@ -39,13 +39,13 @@ returns_right zero pos = absurd (omega arith)
 returns_right (suc d) pos = refl
 
 -- one more record, at which nothing is wrong
-pub far_more : (rs : List Record) (i d w e v : ℕ) (r : Record) → i < length rs → record_at rs i ≡ r → Far rs i d w → wrong (Some r) d ≡ None → e + cond (returns r) 1 0 ≡ d + cond (opens r) 1 0 → v ≡ w + weight r → Far rs (i + 1) e v
+pub far_more : (rs : List Record) (i d w e v : ℕ) (r : Record) → i < length rs → record_at rs i ≡ r → Far rs i d w → wrong (Some r) d ≡ None → e + cond (closes_frame r) 1 0 ≡ d + cond (opens_frame r) 1 0 → v ≡ w + weight r → Far rs (i + 1) e v
 far_more rs i d w e v r lt is f ok counts works =
-    let o = sum_by_more (λ x. cond (opens x) 1 0) rs i (Err Truncated) lt in
-    let t = sum_by_more (λ x. cond (returns x) 1 0) rs i (Err Truncated) lt in
+    let o = sum_by_more (λ x. cond (opens_frame x) 1 0) rs i (Err Truncated) lt in
+    let t = sum_by_more (λ x. cond (closes_frame x) 1 0) rs i (Err Truncated) lt in
     let s = sum_by_more weight rs i (Err Truncated) lt in
-    let oo : count_by opens (take (i + 1) rs) ≡ count_by opens (take i rs) + cond (opens r) 1 0 = o ∙ ap (λ (x : Record). count_by opens (take i rs) + cond (opens x) 1 0) is in
-    let tt' : count_by returns (take (i + 1) rs) ≡ count_by returns (take i rs) + cond (returns r) 1 0 = t ∙ ap (λ (x : Record). count_by returns (take i rs) + cond (returns x) 1 0) is in
+    let oo : count_by opens_frame (take (i + 1) rs) ≡ count_by opens_frame (take i rs) + cond (opens_frame r) 1 0 = o ∙ ap (λ (x : Record). count_by opens_frame (take i rs) + cond (opens_frame x) 1 0) is in
+    let tt' : count_by closes_frame (take (i + 1) rs) ≡ count_by closes_frame (take i rs) + cond (closes_frame r) 1 0 = t ∙ ap (λ (x : Record). count_by closes_frame (take i rs) + cond (closes_frame x) 1 0) is in
     let ss : sum_by weight (take (i + 1) rs) ≡ sum_by weight (take i rs) + weight r = s ∙ ap (λ (x : Record). sum_by weight (take i rs) + weight x) is in
     let h = f.depth in let k = f.work in
     let here : wrong_at rs i ≡ None = wrong_here rs i d w lt f ∙ ap (λ (x : Record). wrong (Some x) d) is ∙ ok in

@@ -9,14 +9,14 @@ use Rattle.spp_frame.specs.declared.Why.{Why}
 use Rattle.spp_frame.specs.declared.Why.TheVariants as why
 use Rattle.spp_frame.specs.declared.Fault.{Fault}
 
-abbrev pub opens : Record → Bool
-opens (Ok (Call site func)) = true
-opens (Ok (Spawn site func)) = true
-opens _ = false
+abbrev pub opens_frame : Record → Bool
+opens_frame (Ok (Call site func)) = true
+opens_frame (Ok (Spawn site func)) = true
+opens_frame _ = false
 
-abbrev pub returns : Record → Bool
-returns (Ok Ret) = true
-returns _ = false
+abbrev pub closes_frame : Record → Bool
+closes_frame (Ok Ret) = true
+closes_frame _ = false
 
 -- the count of a strand, else 0
 abbrev pub weight : Record → ℕ
@@ -27,10 +27,10 @@ weight _ = 0
 abbrev pub work : List Record → ℕ
 work rs = sum_by weight rs
 
--- How many frames besides the root are open before position i: the opens less the returns before it. Behind a return of
--- the root, where something is wrong already, this is the number that the subtraction leaves, 0 at least.
+-- How many frames besides the root are open before position i: the opens less the returns before it. Behind a return
+-- of the root, where something is wrong already, this is the number that the subtraction leaves, 0 at least.
 abbrev pub depth : List Record → ℕ → ℕ
-depth rs i = count_by opens (take i rs) - count_by returns (take i rs)
+depth rs i = count_by opens_frame (take i rs) - count_by closes_frame (take i rs)
 
 -- What is wrong at a position of that depth: a bad record, a return where only the root is open, or, at the
 -- end, where no record stands, frames that are still open.

@@ -1,4 +1,4 @@
 pub mod Devices
 pub mod Sinks
-pub mod Known
+pub mod Appended
 pub mod OutSinks

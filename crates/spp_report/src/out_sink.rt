@@ -1,7 +1,7 @@
 //! A sink over one of std's writers.
 ghost use Rattle.std.specs.Prelude.{◌≡◌, IsTrue};
 ghost use Rattle.std.specs.Io.KnownBytes.{Appends};
-ghost use Rattle.spp_report.specs.Known.{appends_nothing, appends_both};
+ghost use Rattle.spp_report.specs.Appended.{appends_nothing, appends_both};
 
 use crate::sink::{Sink, SinkFault};
 use std::io::{ErrorKind, Write};

@@ -1,6 +1,6 @@
 use Rattle.std.proofs.Common.{◌∙◌, ap, cond, true}
 use Rattle.std.proofs.lemmas.Map.Text.{is_eq-slice_cmp}
-use Rattle.spp_event.specs.Seen.{has}
+use Rattle.spp_event.specs.NameSets.{has}
 use Rattle.spp_event.proofs.header.note.Goals as goal
 
 pub returns-clause-has : goal.returns-clause-has

@@ -2,7 +2,7 @@ use Rattle.std.proofs.Common.{◌≡◌, ◌-◌, length, map, [], List, ℕ}
 use Rattle.std.specs.List.{list_any}
 use Rattle.std.specs.Str.{bytes_eq}
 use Rattle.spp_event.specs.Checks.{sites_at}
-use Rattle.spp_event.specs.Seen.{has}
+use Rattle.spp_event.specs.NameSets.{has}
 use Rattle.spp_event.proofs.header.sites_of.Given as goal
 
 abbrev pub invariant-loop-number : goal.invariant-loop-number
