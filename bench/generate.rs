@@ -1,4 +1,4 @@
-//! Makes large well-formed traces: `generate KIND EVENTS > FILE`.
+//! Makes large well-formed traces: `generate KIND EVENTS > FILE`, or as text: `generate KIND EVENTS text > FILE`.
 //!
 //! A trace has about EVENTS events, never more, and at most 2^28. The same KIND and
 //! EVENTS always give the same bytes. The header holds the exact number of events,
@@ -8,7 +8,7 @@
 use std::io::{self, BufWriter, Write};
 use std::process::exit;
 
-const USAGE: &str = "usage: generate fib|loop|wide|deep|sites|random EVENTS > FILE";
+const USAGE: &str = "usage: generate fib|loop|wide|deep|sites|random EVENTS [text] > FILE";
 
 /// The most events that a header may announce.
 const MOST_EVENTS: u64 = 1 << 28;
@@ -55,6 +55,23 @@ impl Sink for Nowhere {
 impl<W: Write> Sink for BufWriter<W> {
     fn put(&mut self, record: [u8; 16]) {
         written(self.write_all(&record));
+    }
+}
+
+/// Writes each record as a line of text.
+struct Lines<W>(W);
+
+impl<W: Write> Sink for Lines<W> {
+    fn put(&mut self, record: [u8; 16]) {
+        let record = u128::from_be_bytes(record);
+        let (site, function, count) = ((record >> 64) as u32, (record >> 32) as u32, record as u64);
+        written(match record >> 120 {
+            0 => writeln!(self.0, "strand {count}"),
+            1 => writeln!(self.0, "call {site} {function}"),
+            2 => writeln!(self.0, "spawn {site} {function}"),
+            3 => writeln!(self.0, "return"),
+            _ => writeln!(self.0, "sync"),
+        });
     }
 }
 
@@ -319,25 +336,49 @@ fn write_header(out: &mut impl Write, kind: Kind, events: u64) -> io::Result<()>
     Ok(())
 }
 
+/// The lines before those of the events.
+fn write_names(out: &mut impl Write, kind: Kind) -> io::Result<()> {
+    let (functions, sites) = kind.names();
+    for name in functions {
+        writeln!(out, "func {name}")?;
+    }
+    for name in sites {
+        writeln!(out, "site {name}")?;
+    }
+    writeln!(out, "root 0")
+}
+
 fn main() {
     let words: Vec<String> = std::env::args().skip(1).collect();
-    let wanted = match &words[..] {
-        [kind, events] => Kind::of(kind).zip(events.parse::<u64>().ok()),
-        _ => None,
+    let (kind, events, text) = match &words[..] {
+        [kind, events] => (kind, events, false),
+        [kind, events, text] if text == "text" => (kind, events, true),
+        _ => wrong(),
     };
-    let Some((kind, events)) = wanted else {
-        eprintln!("{USAGE}");
-        exit(2);
-    };
+    let Some((kind, events)) = Kind::of(kind).zip(events.parse::<u64>().ok()) else { wrong() };
     let events = events.min(MOST_EVENTS);
 
     let mut counted = Trace::new(Nowhere, events);
     kind.events(&mut counted);
 
     let mut out = BufWriter::with_capacity(1 << 20, io::stdout().lock());
-    written(write_header(&mut out, kind, counted.count));
-    let mut trace = Trace::new(out, events);
-    kind.events(&mut trace);
-    written(trace.sink.flush());
-    assert!(trace.depth == 0 && trace.count == counted.count);
+    let (depth, count) = if text {
+        written(write_names(&mut out, kind));
+        let mut trace = Trace::new(Lines(out), events);
+        kind.events(&mut trace);
+        written(trace.sink.0.flush());
+        (trace.depth, trace.count)
+    } else {
+        written(write_header(&mut out, kind, counted.count));
+        let mut trace = Trace::new(out, events);
+        kind.events(&mut trace);
+        written(trace.sink.flush());
+        (trace.depth, trace.count)
+    };
+    assert!(depth == 0 && count == counted.count);
+}
+
+fn wrong() -> ! {
+    eprintln!("{USAGE}");
+    exit(2);
 }

@@ -3,6 +3,7 @@
 measure.py KIND TRACE ROUNDS SPPROF PLAIN WORD.. prints the rows of one kind, after
 ROUNDS runs of `SPPROF WORD.. < TRACE` and of `PLAIN WORD.. < TRACE`. Both must print
 the same and end with status 0. `measure.py` alone prints the head of the table."""
+import hashlib
 import os
 import signal
 import statistics
@@ -11,7 +12,7 @@ import sys
 import tempfile
 import time
 
-ROW = '%-8s %10s %9s  %-7s %8s %8s %9s %10s'
+ROW = '%-8s %9s  %-7s %8s %8s %8s %9s %10s'
 
 
 def settle(path):
@@ -25,7 +26,8 @@ def settle(path):
 
 
 def measured(words, path):
-    """One run: (its seconds, its peak memory in bytes), (status, output, messages)."""
+    """One run: (its seconds, its peak memory in bytes), (status, output, messages). A long output is cut, and ends
+    with its length and its digest."""
     with open(path, 'rb') as trace, tempfile.TemporaryFile() as out, \
             tempfile.TemporaryFile() as messages:
         start = time.perf_counter()
@@ -35,7 +37,10 @@ def measured(words, path):
         child.returncode = os.waitstatus_to_exitcode(status)
         out.seek(0)
         messages.seek(0)
-        return (seconds, 1024 * usage.ru_maxrss), (child.returncode, out.read(), messages.read())
+        answer = out.read()
+        if len(answer) > 100:
+            answer = answer[:20] + b'.. %d %s' % (len(answer), hashlib.sha256(answer).hexdigest().encode())
+        return (seconds, 1024 * usage.ru_maxrss), (child.returncode, answer, messages.read())
 
 
 def stop(kind, what, programs, answers):
@@ -64,22 +69,20 @@ def main(kind, path, rounds, spprof, plain, words):
         print('%s: round %d, %s: %.3f s' % (kind, turn // 2 + 1, ('spprof', 'plain')[which], run[0]), file=sys.stderr)
 
     size = os.path.getsize(path)
-    with open(path, 'rb') as trace:
-        events = int.from_bytes(trace.read(24)[20:], 'big')
-    first, times = (kind, events, '%.1f' % (size / 1e6)), []
+    first, times = (kind, '%.1f' % (size / 1e6)), []
     for name, own in zip(('spprof', 'plain'), runs):
         seconds, peak = [run[0] for run in own], max(run[1] for run in own)
         times.append((min(seconds), statistics.median(seconds)))
-        print(ROW % (first + (name, '%.3f' % times[-1][0], '%.3f' % times[-1][1],
+        print(ROW % (first + (name, '%.3f' % times[-1][0], '%.3f' % times[-1][1], '%.0f' % (size / 1e6 / times[-1][0]),
                               '%.1f' % (peak / 1e6), '%.3f' % (peak / size))))
-        first = ('', '', '')
+        first = ('', '')
     ratios = tuple('%.3f' % (a / b) for a, b in zip(*times))
-    print((ROW % (first + ('ratio',) + ratios + ('', ''))).rstrip())
+    print((ROW % (first + ('ratio',) + ratios + ('', '', ''))).rstrip())
 
 
 if __name__ == '__main__':
     signal.signal(signal.SIGINT, signal.SIG_DFL)
     if len(sys.argv) == 1:
-        print(ROW % ('kind', 'events', 'file MB', 'program', 'least s', 'median s', 'peak MB', 'peak/file'))
+        print(ROW % ('kind', 'file MB', 'program', 'least s', 'median s', 'MB/s', 'peak MB', 'peak/file'))
     else:
         main(sys.argv[1], sys.argv[2], int(sys.argv[3]), sys.argv[4], sys.argv[5], sys.argv[6:])

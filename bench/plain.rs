@@ -1,6 +1,7 @@
 //! What spprof is timed against: the same program in plain Rust, without any proof.
 //!
-//! `plain check < FILE` prints the work of a trace or the trace's first fault.
+//! `plain check < FILE` prints the work of a trace or the trace's first fault; `plain encode < FILE` writes the bytes
+//! of the trace that a text names, or prints the text's first fault.
 
 use std::collections::HashSet;
 use std::io::{self, Read, Write};
@@ -16,6 +17,7 @@ enum Fault {
     Write,
     Header(String),
     Event(u32, String),
+    Text(usize, &'static str),
 }
 
 enum Event {
@@ -125,25 +127,181 @@ impl<'a> Trace<'a> {
     }
 }
 
+/// What the lines of a text have said so far.
+#[derive(Default)]
+struct Draft<'a> {
+    functions: Vec<&'a str>,
+    sites: Vec<&'a str>,
+    seen: HashSet<&'a str>,
+    root: Option<u32>,
+    records: Vec<[u8; 16]>,
+}
+
+/// A number in digits alone, of at most `most`.
+fn number(word: &str, most: u64) -> Result<u64, &'static str> {
+    if !word.bytes().all(|byte| byte.is_ascii_digit()) {
+        return Err("number");
+    }
+    word.parse().ok().filter(|n| *n <= most).ok_or("number")
+}
+
+fn short_number(word: &str) -> Result<u32, &'static str> {
+    Ok(number(word, u32::MAX.into())? as u32)
+}
+
+impl<'a> Draft<'a> {
+    fn name(&self, name: &'a str, names: &[&str]) -> Result<&'a str, &'static str> {
+        if !self.records.is_empty() {
+            return Err("late");
+        }
+        if names.len() >= MOST_NAMES as usize {
+            return Err("limits");
+        }
+        if name.is_empty() || name.len() > 200 || !name.bytes().all(|byte| (0x20..=0x7e).contains(&byte)) {
+            return Err("name");
+        }
+        Ok(name)
+    }
+
+    /// What is missing for the first event.
+    fn opening(&self) -> Result<(), &'static str> {
+        if self.records.is_empty() && self.functions.is_empty() {
+            return Err("no function");
+        }
+        if self.records.is_empty() && self.root.unwrap_or(0) as usize >= self.functions.len() {
+            return Err("root");
+        }
+        Ok(())
+    }
+
+    fn set_root(&mut self, words: &[&str]) -> Result<(), &'static str> {
+        let [n] = words else { return Err("count") };
+        let n = short_number(n)?;
+        if !self.records.is_empty() {
+            return Err("late");
+        }
+        match self.root.replace(n) {
+            Some(_) => Err("root"),
+            None => Ok(()),
+        }
+    }
+
+    fn add(&mut self, tag: u8, site: u32, last: u64) -> Result<(), &'static str> {
+        if self.records.len() >= MOST_EVENTS as usize {
+            return Err("limits");
+        }
+        if (tag == 1 || tag == 2) && site as usize >= self.sites.len() {
+            return Err("site");
+        }
+        if (tag == 1 || tag == 2) && (last >> 32) as usize >= self.functions.len() {
+            return Err("function");
+        }
+        let first = u64::from(tag) << 56 | u64::from(site);
+        self.records.push((u128::from(first) << 64 | u128::from(last)).to_be_bytes());
+        Ok(())
+    }
+
+    fn line(&mut self, line: &'a str) -> Result<(), &'static str> {
+        if let Some(name) = line.strip_prefix("func ") {
+            self.functions.push(self.name(name, &self.functions)?);
+            return Ok(());
+        }
+        if let Some(name) = line.strip_prefix("site ") {
+            let name = self.name(name, &self.sites)?;
+            if name == "(root)" || !self.seen.insert(name) {
+                return Err("same name");
+            }
+            self.sites.push(name);
+            return Ok(());
+        }
+        if line.starts_with('#') {
+            return Ok(());
+        }
+        let mut words = line.split([' ', '\t']).filter(|word| !word.is_empty());
+        let Some(first) = words.next() else { return Ok(()) };
+        let mut rest = [""; 3];
+        let mut count = 0;
+        for word in words.take(3) {
+            rest[count] = word;
+            count += 1;
+        }
+        let rest = &rest[..count];
+        let tag = match first {
+            "root" => return self.set_root(rest),
+            "strand" => 0,
+            "call" => 1,
+            "spawn" => 2,
+            "return" => 3,
+            "sync" => 4,
+            _ => return Err("word"),
+        };
+        self.opening()?;
+        match (tag, rest) {
+            (0, [count]) => self.add(0, 0, number(count, u64::MAX)?),
+            (1 | 2, [site, function]) => {
+                let (site, function) = (short_number(site)?, short_number(function)?);
+                self.add(tag, site, u64::from(function) << 32)
+            }
+            (3 | 4, []) => self.add(tag, 0, 0),
+            _ => Err("count"),
+        }
+    }
+
+    fn bytes(&self) -> Vec<u8> {
+        let mut bytes = Vec::from(b"SPTRACE1");
+        let numbers = [self.functions.len(), self.sites.len(), self.root.unwrap_or(0) as usize, self.records.len()];
+        for number in numbers {
+            bytes.extend((number as u32).to_be_bytes());
+        }
+        for name in self.functions.iter().chain(&self.sites) {
+            bytes.extend((name.len() as u16).to_be_bytes());
+            bytes.extend(name.as_bytes());
+        }
+        bytes.extend(self.records.as_flattened());
+        bytes
+    }
+}
+
+/// The bytes of the trace that a text names.
+fn encoded(text: &str) -> Result<Vec<u8>, Fault> {
+    let mut draft = Draft::default();
+    let mut lines = 0;
+    for line in text.lines() {
+        lines += 1;
+        draft.line(line).map_err(|why| Fault::Text(lines, why))?;
+    }
+    draft.opening().map_err(|why| Fault::Text(lines + 1, why))?;
+    Ok(draft.bytes())
+}
+
 fn run() -> Result<(), Fault> {
     let words: Vec<String> = std::env::args().skip(1).collect();
-    if words != ["check"] {
-        return Err(Fault::Usage);
-    }
+    let command = match &words[..] {
+        [word] if word == "check" || word == "encode" => word.as_str(),
+        _ => return Err(Fault::Usage),
+    };
     let mut bytes = Vec::new();
     io::stdin().lock().read_to_end(&mut bytes).map_err(|_| Fault::Read)?;
-    let work = Trace::open(&bytes)?.work()?;
-    writeln!(io::stdout(), "work {work}").map_err(|_| Fault::Write)
+    if command == "check" {
+        let work = Trace::open(&bytes)?.work()?;
+        return writeln!(io::stdout(), "work {work}").map_err(|_| Fault::Write);
+    }
+    let text = std::str::from_utf8(&bytes).map_err(|e| {
+        let feeds = bytes[..e.valid_up_to()].iter().filter(|byte| **byte == b'\n').count();
+        Fault::Text(feeds + 1, "word")
+    })?;
+    io::stdout().write_all(&encoded(text)?).map_err(|_| Fault::Write)
 }
 
 fn main() {
     let Err(fault) = run() else { return };
     let (status, line) = match fault {
-        Fault::Usage => (2, "usage: plain check < FILE".into()),
+        Fault::Usage => (2, "usage: plain check|encode < FILE".into()),
         Fault::Read => (3, "cannot read input".into()),
         Fault::Write => (3, "cannot write output".into()),
         Fault::Header(why) => (1, format!("bad header: {why}")),
         Fault::Event(i, why) => (1, format!("bad event {i}: {why}")),
+        Fault::Text(line, why) => (1, format!("bad text line {line}: {why}")),
     };
     eprintln!("{line}");
     exit(status);

@@ -54,8 +54,8 @@ probe_refused() {
         [ "$(requests)" -ge $at ] || break
         at=$((at + 1))
     done
-    # eighteen calls, each with a request at least
-    [ $told -ge 18 ] || { fails "the calls: $told refusals were told"; return; }
+    # 28 calls, each with a request at least
+    [ $told -ge 28 ] || { fails "the calls: $told refusals were told"; return; }
     echo "memory: the calls: $((at - 1)) requests refused in turn, $told times told by the call"
     passed=$((passed + 1))
 }
@@ -65,7 +65,7 @@ each_refused() { # NAME STATUS OUT ERR INPUT WORDS..: what the program ends with
     shift 5
     run 0 "$input" "$spprof" "$@"
     status=$?
-    [ $status -eq "$wanted" ] && [[ $(cat "$folder/out") == $out ]] && [[ $(cat "$folder/err") == $err ]] ||
+    [ $status -eq "$wanted" ] && [[ $(tr -d '\0' < "$folder/out") == $out ]] && [[ $(cat "$folder/err") == $err ]] ||
         { fails "$name, nothing refused: status $status"; return; }
     cp "$folder/out" "$folder/wanted.out"
     cp "$folder/err" "$folder/wanted.err"
@@ -97,6 +97,11 @@ each_refused 'check, a recorded trace' 0 'work 136861' '' "$examples/cilksort.sp
 each_refused 'check, a file by name' 0 'work 17' '' /dev/null check "$examples/small.sptrace"
 each_refused 'check, a bad header' 1 '' 'bad header: short' "$folder/short" check
 each_refused 'check, a bad event' 1 '' 'bad event 4: tag' "$folder/tag" check
+each_refused 'encode, a good text' 0 'SPTRACE1*' '' "$examples/small.txt" encode
+printf 'func f\nsync\nsync 1 2 3 4 5\n' > "$folder/text"
+each_refused 'encode, a bad text' 1 '' 'bad text line 3: count' "$folder/text" encode
+printf 'func f\n\377' > "$folder/bytes"
+each_refused 'encode, bytes that are no text' 1 '' 'bad text line 2: word' "$folder/bytes" encode
 each_refused 'help' 0 'A call-site profiler*' '' /dev/null --help
 each_refused 'a usage fault' 2 '' 'error: *' /dev/null check --nothing
 

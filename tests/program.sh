@@ -1,17 +1,20 @@
 #!/usr/bin/env bash
 # Runs the built program over files, pipes and devices: its answers, its lines of fault and its statuses.
-# usage: tests/program.sh SPPROF
+# usage: tests/program.sh SPPROF TEXT_PRINTER
 set -u
 spprof=$(readlink -f "$1")
+printer=$(readlink -f "$2")
 top=$(cd "$(dirname "${BASH_SOURCE[0]}")/.." && pwd)
 folder=$(mktemp -d)
 trap 'rm -rf "$folder"' EXIT
 passed=0
 failed=0
 
-judge() { # NAME STATUS OUT ERR: the last run's, by $status, $folder/out and $folder/err; `*` for a text that isn't compared
+# The last run's answer is in $status, $folder/out and $folder/err. A `*` in what is wanted stands for any text; bytes
+# that are zero aren't seen.
+judge() { # NAME STATUS OUT ERR
     local name=$1 out err
-    out=$(cat "$folder/out" && echo .)
+    out=$(tr -d '\0' < "$folder/out" && echo .)
     err=$(cat "$folder/err" && echo .)
     if [ "$status" -eq "$2" ] && [[ $out == $3. ]] && [[ $err == $4. ]]; then
         passed=$((passed + 1))
@@ -92,6 +95,57 @@ judge 'an input that comes in pieces' 0 "work 17$lf" ''
 status=$?
 : > "$folder/err"
 judge 'a full device for faults' 1 '' ''
+
+# Texts and bytes, each made out of the other.
+gives() { # NAME FILE WORDS..: with the input `input`, the program writes just the bytes of the file
+    local name=$1 file=$2
+    shift 2
+    "$@" < "$folder/input" > "$folder/out" 2> "$folder/err"
+    status=$?
+    cmp -s "$folder/out" "$file" || status=125
+    : > "$folder/out"
+    judge "$name" 0 '' ''
+}
+for trace in small fib nqueens cilksort; do
+    "$printer" < "$top/examples/$trace.sptrace" > "$folder/input"
+    gives "the text of $trace brings its bytes back" "$top/examples/$trace.sptrace" "$spprof" encode
+done
+cp "$top/crates/text_printer/stdout" "$folder/input"
+gives 'the text of the small trace' "$small" "$spprof" encode
+cp "$top/examples/small.txt" "$folder/input"
+gives 'a text typed by hand' "$small" "$spprof" encode
+gives 'a text by name' "$small" "$spprof" encode "$top/examples/small.txt"
+sed 's/^strand 1$/strand 1x/' "$top/crates/text_printer/stdout" > "$folder/text"
+expect 'a text with a bad number' 1 '' "bad text line 5: number$lf" "$folder/text" encode
+expect 'a bad text by name' 1 '' "bad text line 5: number$lf" /dev/null encode "$folder/text"
+expect 'no text' 1 '' "bad text line 1: no function$lf" /dev/null encode
+printf 'frob\n\n\377\n' > "$folder/text"
+expect 'bytes that are no text' 1 '' "bad text line 3: word$lf" "$folder/text" encode
+expect 'a text that is not there' 3 '' "cannot open input$lf" "$small" encode "$folder/nothing"
+expect 'a folder for a text' 3 '' "cannot read input$lf" /dev/null encode "$folder"
+"$spprof" encode < "$top/examples/small.txt" > /dev/full 2> "$folder/err"
+status=$?
+: > "$folder/out"
+judge 'a full output for bytes' 3 '' "cannot write output$lf"
+
+# Long texts take a time that is linear in their length: many lines, one long line, one line of many words, many names.
+awk 'BEGIN { print "func f"; for (n = 0; n < 1000000; n++) print "strand", n; print "frob" }' > "$folder/text"
+timeout 30 "$spprof" encode < "$folder/text" > "$folder/out" 2> "$folder/err"
+status=$?
+judge 'a text of a million lines' 1 '' "bad text line 1000002: word$lf"
+{ printf 'func f\nsync'; head -c 20000000 /dev/zero | tr '\0' ' '; } > "$folder/input"
+timeout 30 "$spprof" encode < "$folder/input" > "$folder/out" 2> "$folder/err"
+status=$?
+judge 'a line of 20 million blanks' 0 'SPTRACE1*' ''
+{ printf 'func f\nsync'; head -c 20000000 /dev/zero | tr '\0' 'x' | sed 's/xx/ x/g'; } > "$folder/text"
+timeout 30 "$spprof" encode < "$folder/text" > "$folder/out" 2> "$folder/err"
+status=$?
+judge 'a line of many words' 1 '' "bad text line 2: *$lf"
+awk 'BEGIN { print "func f"; pad = sprintf("%195s", ""); for (n = 0; n < 65536; n++) printf "site %s%05d\n", pad, n }' > "$folder/text"
+timeout 30 "$spprof" encode < "$folder/text" > "$folder/bytes" 2> "$folder/err"
+"$spprof" check < "$folder/bytes" > "$folder/out" 2>> "$folder/err"
+status=$?
+judge 'a text of many long names' 0 "work 0$lf" ''
 
 expect 'help' 0 'A call-site profiler*' '' /dev/null --help
 expect 'help of a command' 0 'Check a trace*' '' /dev/null check --help

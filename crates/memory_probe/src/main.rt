@@ -7,7 +7,7 @@ use spp_frame::check;
 use spp_report::OutSink;
 use spp_request::{Command, Request, UsageFault, read_request};
 use spp_shell::{InSource, ReadFault, read_all, read_within, run};
-use spp_text::{PrintFault, print_text};
+use spp_text::{PrintFault, TextFault, TextWhy, parse_text, print_text};
 use std::alloc::Global;
 use std::io;
 
@@ -16,6 +16,9 @@ const TRACE: &[u8] = b"SPTRACE1\x00\x00\x00\x02\x00\x00\x00\x02\x00\x00\x00\x00\
 \x00\x04main\x00\x01f\x00\x01A\x00\x01B\
 \x00\x00\x00\x00\x00\x00\x00\x00\x00\x00\x00\x00\x00\x00\x00\x11\
 \x04\x00\x00\x00\x00\x00\x00\x00\x00\x00\x00\x00\x00\x00\x00\x00";
+
+/// The same as text.
+const TEXT: &str = "func main\nfunc f\nsite A\nsite B\nroot 0\nstrand 17\nsync\n";
 
 /// What a call answered.
 #[derive(Clone, Copy, Debug, PartialEq, Eq)]
@@ -40,10 +43,40 @@ fn printed(alloc: Global) -> Answer {
         Err(_) => return Answer::Other,
     };
     match print_text(alloc, &trace) {
-        Ok(text)
-            if text.as_str() == "func main\nfunc f\nsite A\nsite B\nroot 0\nstrand 17\nsync\n" =>
-            Answer::Good,
+        Ok(text) if text.as_str() == TEXT => Answer::Good,
         Err(PrintFault::Memory) => Answer::Memory,
+        _ => Answer::Other,
+    }
+}
+
+fn parsed(alloc: Global) -> Answer {
+    match parse_text(alloc, TEXT) {
+        Ok(bytes) if bytes.as_slice() == TRACE => Answer::Good,
+        Err(
+            TextFault {
+                line: _,
+                why: TextWhy::Memory,
+            },
+        ) => Answer::Memory,
+        _ => Answer::Other,
+    }
+}
+
+/// Words behind the first of an event's line, more than are kept without memory.
+fn misparsed(alloc: Global) -> Answer {
+    match parse_text(alloc, "func main\nsync 1 2 3 4 5\n") {
+        Err(
+            TextFault {
+                line: 2,
+                why: TextWhy::Count,
+            },
+        ) => Answer::Good,
+        Err(
+            TextFault {
+                line: _,
+                why: TextWhy::Memory,
+            },
+        ) => Answer::Memory,
         _ => Answer::Other,
     }
 }
@@ -72,13 +105,13 @@ fn refused(alloc: Global) -> Answer {
     }
 }
 
-/// A run of `check` on the bytes, over devices in memory of which the output has room for every text of a run.
-fn ran(alloc: Global, bytes: &[u8], wanted: u8) -> Answer {
+/// A run on the bytes, over devices in memory of which the output has room for every answer.
+fn ran(alloc: Global, command: Command, bytes: &[u8], wanted: u8) -> Answer {
     let request = Request {
-        command: Command::Check,
+        command,
         files: Vec::new(alloc),
     };
-    let (mut text, mut line) = ([0u8; 64], [0u8; 64]);
+    let (mut text, mut line) = ([0u8; 128], [0u8; 64]);
     let mut out = OutSink::new(text.as_mut_slice());
     let mut err = OutSink::new(line.as_mut_slice());
     match run(
@@ -99,6 +132,8 @@ fn main(rt: HostRuntime) -> io::Result<()> {
     for _ in 0..2 {
         println!(rt; "open_trace: {:?}", opened(alloc))?;
         println!(rt; "print_text: {:?}", printed(alloc))?;
+        println!(rt; "parse_text: {:?}", parsed(alloc))?;
+        println!(rt; "parse_text, a fault: {:?}", misparsed(alloc))?;
         println!(rt;
             "read_all: {:?}",
             of_reading(read_all(alloc, &mut InSource::new(TRACE)))
@@ -109,9 +144,16 @@ fn main(rt: HostRuntime) -> io::Result<()> {
         )?;
         println!(rt; "read_request, check: {:?}", requested(alloc))?;
         println!(rt; "read_request, a fault: {:?}", refused(alloc))?;
-        println!(rt; "run, a good trace: {:?}", ran(alloc, TRACE, 0))?;
-        println!(rt; "run, a bad header: {:?}", ran(alloc, &TRACE[..23], 1))?;
-        println!(rt; "run, a bad event: {:?}", ran(alloc, &TRACE[..60], 1))?;
+        for (name, command, bytes, wanted) in [
+            ("a good trace", Command::Check, TRACE, 0),
+            ("a bad header", Command::Check, &TRACE[..23], 1),
+            ("a bad event", Command::Check, &TRACE[..60], 1),
+            ("a good text", Command::Encode, TEXT.as_bytes(), 0),
+            ("a bad text", Command::Encode, b"sync".as_slice(), 1),
+            ("no text", Command::Encode, b"\xff".as_slice(), 1),
+        ] {
+            println!(rt; "run, {name}: {:?}", ran(alloc, command, bytes, wanted))?;
+        }
     }
     Ok(())
 }

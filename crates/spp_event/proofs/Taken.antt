@@ -53,7 +53,7 @@ pub record Takes (bytes text rest : List ℕ) : Type 0 where
 pub Takes-then : (a x b y c : List ℕ) → Takes a x b → Takes b y c → Takes a (x ++ y) c
 Takes-then a x b y c p q = record { parts = p.parts ∙ ap (λ (t : List ℕ). x ++ t) q.parts ∙ sym (append_assoc x y c); rest_fits = q.rest_fits }
 
-printable : (xs : List ℕ) → is_printable xs ≡ true → AllByRecursion (IsInRange 32 126) xs
+pub printable : (xs : List ℕ) → is_printable xs ≡ true → AllByRecursion (IsInRange 32 126) xs
 printable [] e = tt
 printable (x ∷ xs) e =
     let a = and_parts (is_in_range 32 126 x) (is_printable xs) e in

@@ -7,26 +7,44 @@ const ABOUT: &str = "A call-site profiler for recorded fork-join runs";
 
 const STATUSES: &str = "Exit status:
   0  the answer stands on standard output, whole
-  1  the input is no good trace; standard error has the reason in one line
+  1  the input is no good trace or text; standard error says why in one line
   2  the command line is wrong
   3  a file or stream could not be read or written
   4  out of memory";
 
-fn check_command<'a>(alloc: Global) -> Result<Command<'a>, AllocError> {
-    let file = Arg::new(alloc, "FILE").help("The trace; without it standard input is read");
-    Command::new(alloc, "check")
-        .about("Check a trace, and print its work")
+/// A command over one input, and the help for its file.
+fn command_over<'a>(
+    alloc: Global,
+    name: &'a str,
+    about: &'a str,
+    file: &'a str,
+) -> Result<Command<'a>, AllocError> {
+    let file = Arg::new(alloc, "FILE").help(file);
+    Command::new(alloc, name)
+        .about(about)
         .after_help(STATUSES)
         .arg(file)
 }
 
 /// The whole command line. It lives as long as the words that it is to read.
 pub(crate) fn command_line<'a>(alloc: Global) -> Result<Command<'a>, AllocError> {
-    let check = check_command(alloc)?;
+    let check = command_over(
+        alloc,
+        "check",
+        "Check a trace, and print its work",
+        "The trace; without it standard input is read",
+    )?;
+    let encode = command_over(
+        alloc,
+        "encode",
+        "Read a trace as text, and write its bytes",
+        "The text; without it standard input is read",
+    )?;
     Command::new(alloc, "spprof")
         .about(ABOUT)
         .after_help(STATUSES)
         .subcommand_required(true)
         .disable_help_subcommand(true)
-        .subcommand(check)
+        .subcommand(check)?
+        .subcommand(encode)
 }

@@ -14,6 +14,8 @@ use std::convert::AsStr;
 pub enum Command {
     /// Check a trace and print its work.
     Check,
+    /// Read a trace as text and write its bytes.
+    Encode,
 }
 
 /// What a user asks for.
@@ -72,6 +74,7 @@ fn shown(alloc: Global, error: Error) -> UsageFault
 fn command_of(name: &str) -> Option<Command> {
     match name {
         "check" => Some(Command::Check),
+        "encode" => Some(Command::Encode),
         _ => None,
     }
 }

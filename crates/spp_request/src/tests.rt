@@ -1,14 +1,14 @@
 use crate::{Command, Request, UsageFault, read_request};
 
-/// Whether the words ask for `check` of these files.
-fn asks(rt: &impl AllocGlobal, words: &[&str], files: &[&str]) -> bool {
+/// Whether the words ask for this command over these files.
+fn asks(rt: &impl AllocGlobal, words: &[&str], wanted: Command, files: &[&str]) -> bool {
     match read_request(rt.alloc(), words) {
         Ok(
             Request {
-                command: Command::Check,
+                command,
                 files: given,
             },
-        ) => given.iter().map(|f| f.as_str()).eq(files.iter().copied()),
+        ) => command == wanted && given.iter().map(|f| f.as_str()).eq(files.iter().copied()),
         Err(_) => false,
     }
 }
@@ -34,14 +34,15 @@ const HELP: &str = "A call-site profiler for recorded fork-join runs
 Usage: spprof <COMMAND>
 
 Commands:
-  check  Check a trace, and print its work
+  check   Check a trace, and print its work
+  encode  Read a trace as text, and write its bytes
 
 Options:
   -h, --help  Print help
 
 Exit status:
   0  the answer stands on standard output, whole
-  1  the input is no good trace; standard error has the reason in one line
+  1  the input is no good trace or text; standard error says why in one line
   2  the command line is wrong
   3  a file or stream could not be read or written
   4  out of memory
@@ -59,7 +60,25 @@ Options:
 
 Exit status:
   0  the answer stands on standard output, whole
-  1  the input is no good trace; standard error has the reason in one line
+  1  the input is no good trace or text; standard error says why in one line
+  2  the command line is wrong
+  3  a file or stream could not be read or written
+  4  out of memory
+";
+
+const HELP_OF_ENCODE: &str = "Read a trace as text, and write its bytes
+
+Usage: spprof encode [FILE]
+
+Arguments:
+  [FILE]  The text; without it standard input is read
+
+Options:
+  -h, --help  Print help
+
+Exit status:
+  0  the answer stands on standard output, whole
+  1  the input is no good trace or text; standard error says why in one line
   2  the command line is wrong
   3  a file or stream could not be read or written
   4  out of memory
@@ -72,8 +91,24 @@ Usage: spprof check [FILE]
 For more information, try '--help'.
 ";
 
+const TWO_TEXTS: &str = "error: unexpected argument 'b' found
+
+Usage: spprof encode [FILE]
+
+For more information, try '--help'.
+";
+
+const NO_OPTION: &str = "error: unexpected argument '--nothing' found
+
+  tip: to pass '--nothing' as a value, use '-- --nothing'
+
+Usage: spprof encode [FILE]
+
+For more information, try '--help'.
+";
+
 const NO_COMMAND: &str = "error: 'spprof' requires a subcommand but one was not provided
-  [subcommands: check]
+  [subcommands: check, encode]
 
 Usage: spprof <COMMAND>
 
@@ -81,43 +116,41 @@ For more information, try '--help'.
 ";
 
 #[test]
-fn check_is_a_request(rt: HostRuntime) {
-    assert!(rt; asks(&rt, ["spprof", "check"].as_slice(), [].as_slice()));
-    assert!(rt;
-        asks(
-            &rt,
-            ["spprof", "check", "a b"].as_slice(),
-            ["a b"].as_slice()
-        )
-    );
-    assert!(rt;
-        asks(
-            &rt,
-            ["spprof", "check", "--", "-a"].as_slice(),
-            ["-a"].as_slice()
-        )
-    );
+fn each_command_is_a_request(rt: HostRuntime) {
+    for (name, command) in [("check", Command::Check), ("encode", Command::Encode)] {
+        for (words, files) in [
+            (["spprof", name].as_slice(), [].as_slice()),
+            (["spprof", name, "a b"].as_slice(), ["a b"].as_slice()),
+            (["spprof", name, "--", "-a"].as_slice(), ["-a"].as_slice()),
+        ] {
+            assert!(rt; asks(&rt, words, command, files), "{name}");
+        }
+    }
 }
 
 #[test]
 fn help_is_shown_with_status_0(rt: HostRuntime) {
-    assert!(rt; shows(&rt, ["spprof", "--help"].as_slice(), 0, HELP));
-    assert!(rt; shows(&rt, ["spprof", "-h"].as_slice(), 0, HELP));
-    assert!(rt;
-        shows(
-            &rt,
-            ["spprof", "check", "--help"].as_slice(),
-            0,
-            HELP_OF_CHECK
-        )
-    );
+    for (words, text) in [
+        (["spprof", "--help"].as_slice(), HELP),
+        (["spprof", "-h"].as_slice(), HELP),
+        (["spprof", "check", "--help"].as_slice(), HELP_OF_CHECK),
+        (["spprof", "encode", "--help"].as_slice(), HELP_OF_ENCODE),
+    ] {
+        assert!(rt; shows(&rt, words, 0, text));
+    }
 }
 
 #[test]
 fn a_usage_fault_is_shown_with_status_2(rt: HostRuntime) {
-    assert!(rt; shows(&rt, ["spprof", "check", "a", "b"].as_slice(), 2, TWO_FILES));
-    assert!(rt; shows(&rt, ["spprof"].as_slice(), 2, NO_COMMAND));
-    assert!(rt; is_refused(&rt, ["spprof", "chek"].as_slice()));
-    assert!(rt; is_refused(&rt, ["spprof", "--nothing"].as_slice()));
-    assert!(rt; is_refused(&rt, ["spprof", ""].as_slice()));
+    for (words, text) in [
+        (["spprof", "check", "a", "b"].as_slice(), TWO_FILES),
+        (["spprof", "encode", "a", "b"].as_slice(), TWO_TEXTS),
+        (["spprof", "encode", "--nothing"].as_slice(), NO_OPTION),
+        (["spprof"].as_slice(), NO_COMMAND),
+    ] {
+        assert!(rt; shows(&rt, words, 2, text));
+    }
+    for word in ["chek", "encod", "--nothing", ""] {
+        assert!(rt; is_refused(&rt, ["spprof", word].as_slice()));
+    }
 }

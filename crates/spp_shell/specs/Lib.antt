@@ -3,6 +3,7 @@ pub mod Reading
 pub mod Refusals
 pub mod InSources
 pub mod Check
+pub mod Encode
 pub mod Requests
 pub mod Tasks
 pub mod Endings

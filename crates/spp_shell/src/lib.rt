@@ -2,6 +2,7 @@
 #![tactic(auto)]
 
 mod check_task;
+mod encode_task;
 mod in_source;
 mod reading;
 mod running;

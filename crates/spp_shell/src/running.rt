@@ -5,6 +5,7 @@ ghost use Rattle.spp_shell.specs.Endings.{RunEnds, ToldLine, OneRead, OneUnread}
 ghost use Rattle.spp_shell.specs.Requests.{text_for, line_for};
 
 use crate::check_task::Check;
+use crate::encode_task::Encode;
 use crate::reading::{ReadFault, read_all};
 use crate::source::Source;
 use crate::status::{BAD_INPUT, DEVICE, GOOD, MEMORY};
@@ -101,5 +102,6 @@ pub fn run<S: Source, O: Sink, E: Sink>(
 {
     match request.command {
         Command::Check => run_task(alloc, &Check, first, out, err),
+        Command::Encode => run_task(alloc, &Encode, first, out, err),
     }
 }

@@ -1,1 +1,13 @@
 pub mod Lines
+pub mod Numerals
+pub mod Kept
+pub mod Encoding
+pub mod LinesOf
+pub mod WordsOf
+pub mod NamesOf
+pub mod EventsOf
+pub mod TextLaws
+pub mod LineByLine
+pub mod LineAdds
+pub mod TextLines
+pub mod FirstFault

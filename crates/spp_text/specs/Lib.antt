@@ -1,2 +1,9 @@
 pub mod Text
 pub mod Printed
+pub mod Reading
+pub mod LineKinds
+pub mod Parsed
+pub mod FaultTexts
+pub mod Steps
+pub mod Drafts
+pub mod Laws

@@ -1,8 +1,18 @@
 //! The text form of a trace, in which people write and read traces by hand.
 #![tactic(auto)]
 
+mod bytes;
+mod draft;
+mod events;
+mod fault;
+mod laws;
+mod parse;
 mod print;
+mod words;
 
+pub use fault::{TextFault, TextWhy};
+pub use laws::text_laws;
+pub use parse::parse_text;
 pub use print::{PrintFault, print_text};
 
 #[cfg(test)]

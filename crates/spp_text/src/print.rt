@@ -1,9 +1,12 @@
 //! A trace as text.
 
-ghost use Rattle.std.specs.Prelude.{◌≡◌, ◌++◌, List, IfOk, IfErr, OnOk, decimal, codes, map, Ok};
+ghost use Rattle.std.specs.Prelude.{◌≡◌, ◌++◌, List, length, IfOk, IfErr, OnOk, decimal, codes, map, Ok};
 ghost use Rattle.std.specs.List.{flat_map};
 ghost use Rattle.std.specs.String.{string_bytes};
 ghost use Rattle.spp_event.specs.declared.records.Event.{Event as AnEvent};
+ghost use Rattle.spp_event.specs.Recordings.{InLimits};
+ghost use Rattle.spp_event.specs.Header.{HasGoodNames};
+ghost use Rattle.spp_text.specs.Parsed.{Names};
 ghost use Rattle.spp_text.specs.Text.{func_line, site_line, root_line, event_line, text_of};
 ghost use Rattle.spp_text.specs.Printed.{PrintsEvents, IsPrintFault};
 ghost use Rattle.spp_text.specs.declared.print.PrintFault.TheVariants.{Memory};
@@ -110,7 +113,9 @@ fn push_event(text: &mut String, event: Event) -> Result<(), AllocError>
 
 /// Adds the lines of all events.
 fn push_events(text: &mut String, trace: &Trace<'_>) -> Result<(), PrintFault>
-    ensures lines { OnOk result (PrintsEvents (string_bytes text.old) trace.now.records (string_bytes text.new)) }
+    ensures lines { OnOk result (PrintsEvents (length trace.now.sites) (length trace.now.funcs) (string_bytes text.old) trace.now.records (string_bytes text.new)) }
+    ensures limits { InLimits trace.now }
+    ensures names { HasGoodNames trace.now }
     ensures bad { IfErr result (λ fault. IsPrintFault trace.now.records fault) }
 {
     let mut events = EventReader::new(trace);
@@ -134,6 +139,8 @@ fn push_events(text: &mut String, trace: &Trace<'_>) -> Result<(), PrintFault>
 /// `Bad` where a record is bad, with the least; `Memory` where a growth was refused.
 pub fn print_text(alloc: Global, trace: &Trace<'_>) -> Result<String, PrintFault>
     ensures text { IfOk result (λ text. (es : List AnEvent) × (trace.now.records ≡ map (λ e. Ok e) es) × (string_bytes text ≡ text_of trace.now es)) }
+    // Read again, it names the trace.
+    ensures names { IfOk result (λ text. Names (string_bytes text) trace.now) }
     ensures bad { IfErr result (λ fault. IsPrintFault trace.now.records fault) }
 {
     let mut text = String::new(alloc);

@@ -1,5 +1,6 @@
 //! Whole runs: what goes out, what is told, and the status.
 
+use super::commands::{command_ends_with, request_for};
 use super::fakes::{Cup, dripping, empty_cup, failing};
 use crate::{refuse_input, run, show_usage, status};
 use spp_report::Sink;
@@ -9,10 +10,7 @@ use std::test::Fail;
 
 /// A request to check standard input.
 fn check_input(alloc: Global) -> Request {
-    Request {
-        command: Command::Check,
-        files: Vec::new(alloc),
-    }
+    request_for(alloc, Command::Check)
 }
 
 /// A header of the functions `main` and `f`, the site `A` and two events.
@@ -35,17 +33,9 @@ fn trace_of(alloc: Global, records: [&[u8]; 2]) -> Result<Vec<u8>, AllocError> {
     Ok(bytes)
 }
 
-/// Runs `check` on the bytes, and says whether it ended with this status, output and line of fault.
+/// Whether `check` of the bytes ends with this status, output and line of fault.
 fn ends_with(alloc: Global, bytes: &[u8], ends: u8, text: &[u8], line: &[u8]) -> bool {
-    let (mut out, mut err) = (empty_cup(alloc, 100), empty_cup(alloc, 100));
-    let got = run(
-        alloc,
-        &check_input(alloc),
-        &mut dripping(bytes),
-        &mut out,
-        &mut err,
-    );
-    got == ends && out.taken.as_slice() == text && err.taken.as_slice() == line
+    command_ends_with(alloc, Command::Check, bytes, ends, text, line)
 }
 
 #[test]

@@ -4,9 +4,11 @@ use Rattle.std.specs.String.{string_bytes}
 use Rattle.std.proofs.lemmas.Bool.{cases_lt}
 use Rattle.std.proofs.lemmas.List.{flat_map_more}
 use Rattle.spp_event.specs.declared.records.EventFault.TheVariants.{Truncated}
+use Rattle.spp_event.specs.Records.{IsEventOf}
 use Rattle.spp_event.specs.Recordings.{Recording, Record, record_at}
 use Rattle.spp_text.specs.Text.{event_line}
 use Rattle.spp_text.proofs.Lines.{event_more}
+use Rattle.spp_text.proofs.Kept.{all_more}
 use Rattle.spp_text.proofs.print.push_events.Goals as goal
 
 pub loop-at-preserved : goal.loop-at-preserved
@@ -18,9 +20,10 @@ loop-at-preserved c =
     let read : record_at c.loop-at.events.records i ≡ Ok c.in-Ok.event = sym c.event_at.ensures.said ∙ c.in-Ok.is in
     let said : record_at rs i ≡ Ok c.in-Ok.event = subst (λ (v : Recording). record_at v.records i ≡ Ok c.in-Ok.event) inv.same read in
     let es = inv.printed.0 in
+    let named : IsEventOf (length c.args.trace.now.sites) (length c.args.trace.now.funcs) c.in-Ok.event = subst (λ (v : Recording). IsEventOf (length v.sites) (length v.funcs) c.in-Ok.event) inv.same c.in-Ok.ensures.within in
     record {
       same = c.event_at.ensures.same ∙ inv.same;
-      printed = (es ++ c.in-Ok.event ∷ [], event_more rs i (Err Truncated) es c.in-Ok.event lt said inv.printed.1, c.in_ok-push_event.ensures ∙ ap (λ (t : List ℕ). t ++ event_line c.in-Ok.event) inv.printed.2 ∙ flat_map_more event_line (string_bytes c.args.text.now) es c.in-Ok.event);
+      printed = (es ++ c.in-Ok.event ∷ [], event_more rs i (Err Truncated) es c.in-Ok.event lt said inv.printed.1, c.in_ok-push_event.ensures ∙ ap (λ (t : List ℕ). t ++ event_line c.in-Ok.event) inv.printed.2 ∙ flat_map_more event_line (string_bytes c.args.text.now) es c.in-Ok.event, all_more (IsEventOf (length c.args.trace.now.sites) (length c.args.trace.now.funcs)) es c.in-Ok.event inv.printed.3 named);
       good = λ k less. elim (cases_lt k i) [
         | inl l ↦ inv.good k l
         | inr m ↦ let here : i ≡ k = omega arith in subst (λ (j : ℕ). IsOk (record_at rs j)) here (subst (λ (r : Record). IsOk r) (sym said) refl)

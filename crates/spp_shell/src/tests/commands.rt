@@ -1,0 +1,34 @@
+//! A command over bytes in memory.
+
+use super::fakes::{dripping, empty_cup};
+use crate::run;
+use spp_request::{Command, Request};
+use std::alloc::Global;
+
+/// A request for this over standard input.
+pub fn request_for(alloc: Global, command: Command) -> Request {
+    Request {
+        command,
+        files: Vec::new(alloc),
+    }
+}
+
+/// Runs the command on the bytes, and says whether it ended with this status, output and line of fault.
+pub fn command_ends_with(
+    alloc: Global,
+    command: Command,
+    bytes: &[u8],
+    ends: u8,
+    text: &[u8],
+    line: &[u8],
+) -> bool {
+    let (mut out, mut err) = (empty_cup(alloc, 100), empty_cup(alloc, 100));
+    let got = run(
+        alloc,
+        &request_for(alloc, command),
+        &mut dripping(bytes),
+        &mut out,
+        &mut err,
+    );
+    got == ends && out.taken.as_slice() == text && err.taken.as_slice() == line
+}

@@ -1,0 +1,37 @@
+-- What a step of reading, and the whole of it, answers.
+use Rattle.std.specs.Prelude.{◌≡◌, ◌≢◌, ℕ, List, map, unwrap_or, Result, Ok, Err}
+use Rattle.std.specs.List.{flat_map}
+use Rattle.spp_event.specs.Records.{spelling}
+use Rattle.spp_event.specs.Recordings.{Recording}
+use Rattle.spp_event.specs.Header.{IsTraceOf}
+use Rattle.spp_text.specs.declared.fault.TextWhy.{TextWhy}
+use Rattle.spp_text.specs.declared.fault.TextWhy.TheVariants.{Memory}
+use Rattle.spp_text.specs.declared.fault.TextFault.{TextFault}
+use Rattle.spp_text.specs.Reading.{Said, read_text}
+
+-- the fault is the one that was to come, or want of memory
+abbrev pub IsWhy : {T : Type 0} → TextWhy → Result T TextWhy → Type 0
+IsWhy Memory read = Unit {0}
+IsWhy why read = read ≡ Err why
+
+-- what a step answered, and what has been said after it, is what was to come
+abbrev pub Reads : {X : Type 0} → Result X TextWhy → Result Said TextWhy → Said → Type 0
+Reads (Ok x) read new = read ≡ Ok new
+Reads (Err why) read new = IsWhy why read
+
+-- the trace of which all this has been said
+abbrev pub recording_of : Said → Recording
+recording_of s = record { funcs = s.funcs; sites = s.sites; root = unwrap_or s.root 0; records = map (λ e. Ok e) s.events }
+
+-- the text names this trace
+abbrev pub Names : List ℕ → Recording → Type 0
+Names text t = (s : Said) × (read_text text ≡ Ok s) × (t ≡ recording_of s)
+
+-- the text says this, and these are the bytes of the trace of which it says so: its header and the spellings of its
+-- events, no more
+abbrev pub IsEncoded : List ℕ → List ℕ → Type 0
+IsEncoded text bytes = (s : Said) × (read_text text ≡ Ok s) × IsTraceOf bytes (recording_of s) (flat_map spelling s.events)
+
+-- the first fault of the text's least line that has one, or want of memory
+abbrev pub IsTextFault : List ℕ → TextFault → Type 0
+IsTextFault text fault = fault.why ≢ Memory → read_text text ≡ Err fault

@@ -1,0 +1,286 @@
+//! A trace while its lines are read.
+
+ghost use Rattle.std.specs.Prelude.{◌≡◌, ◌≢◌, if◌then◌else◌, not, true, None, List, ℕ, length, map, IfOk, OnErr, OnOk};
+ghost use Rattle.std.specs.List.{flat_map};
+ghost use Rattle.std.specs.Str.{bytes_eq};
+ghost use Rattle.spp_event.specs.NameSets.{has};
+ghost use Rattle.spp_event.specs.Header.{root_name, IsTraceOf};
+ghost use Rattle.spp_event.specs.Records.{names_site, names_func, spelling, IsEvent};
+ghost use Rattle.spp_event.specs.Checks.{is_printable as printable};
+ghost use Rattle.spp_text.specs.Reading.{nothing, has_event, is_name as good_name, begins_with, number_in, event_in, opening_fault, read_func, read_site, read_root, set_root as set_root_to, add_event as adds_event, read_event, read_words, read_line};
+ghost use Rattle.spp_text.specs.Parsed.{Reads, recording_of};
+ghost use Rattle.spp_text.specs.Steps.{AfterFront};
+
+use crate::bytes::{push_names, push_records, push_word};
+use crate::events::{event_of, short_number};
+use crate::fault::TextWhy;
+use crate::words::words_of;
+use spp_event::Event;
+use std::alloc::{AllocError, Global};
+use std::collections::BTreeSet;
+use std::marker::Model;
+
+/// What the lines that were read have said of a trace.
+#[derive(Drop)]
+pub(crate) struct Draft<'t> {
+    funcs: Vec<&'t [u8]>,
+    sites: Vec<&'t [u8]>,
+    site_names: BTreeSet<&'t [u8]>,
+    root: Option<u32>,
+    events: Vec<Event>,
+}
+
+impl<'t> Model for Draft<'t> {
+    ghost use Rattle.std.specs.Prelude.{map, unwrap_or};
+    ghost use Rattle.spp_text.specs.Reading.{Said};
+    ghost use Rattle.spp_text.specs.Drafts.{IsKept};
+
+    ghost Value = { Said };
+
+    ghost view = { λ d. record {
+      funcs = map (λ n. n.now) d.funcs.items;
+      sites = map (λ n. n.now) d.sites.items;
+      root = d.root;
+      events = d.events.items;
+    } };
+
+    ghost invariant = { λ d.
+        IsKept d.site_names (map (λ n. n.now) d.funcs.items) (map (λ n. n.now) d.sites.items) (unwrap_or d.root 0) d.events.items };
+}
+
+/// Whether each byte is a printable one.
+fn is_printable(name: &[u8]) -> bool
+    ensures { result ≡ printable name.now }
+{
+    name.iter().all(|b| (0x20..=0x7e).contains(b))
+}
+
+/// Whether it can be the name of a function or of a site.
+fn is_name(name: &[u8]) -> bool
+    ensures { result ≡ good_name name.now }
+{
+    !name.is_empty() && name.len() <= 200 && is_printable(name)
+}
+
+/// Whether it is the name of the root's row, which no site may have.
+fn is_root_name(name: &[u8]) -> bool
+    ensures { result ≡ bytes_eq name.now root_name }
+{
+    name == b"(root)".as_slice()
+}
+
+/// Notes a site's name, and says whether it was new.
+fn note<'a>(seen: &mut BTreeSet<&'a [u8]>, name: &'a [u8]) -> Result<bool, AllocError>
+    ensures new { IfOk result (λ new. new ≡ not (has seen.old name.now)) }
+    ensures has { OnOk result ((q : List ℕ) → has seen.new q ≡ (if bytes_eq name.now q then true else has seen.old q)) }
+    ensures stays { OnErr result ((q : List ℕ) → has seen.new q ≡ has seen.old q) }
+{
+    Ok(seen.insert(name)?)
+}
+
+/// What follows these bytes, where a line begins with them.
+fn after<'t>(front: &[u8], line: &'t [u8]) -> Option<&'t [u8]>
+    ensures { AfterFront front.now line.now result }
+{
+    line.strip_prefix(front)
+}
+
+impl<'t> Draft<'t> {
+    /// Nothing has been said.
+    pub(crate) fn new(alloc: Global) -> Self
+        ensures { result ≡ nothing }
+    {
+        Draft {
+            funcs: Vec::new(alloc),
+            sites: Vec::new(alloc),
+            site_names: BTreeSet::new(alloc),
+            root: None,
+            events: Vec::new(alloc),
+        }
+    }
+
+    /// Whether an event has come.
+    fn has_event(&self) -> bool
+        ensures { result ≡ has_event self.now }
+    {
+        !self.events.is_empty()
+    }
+
+    /// What has to be said before the first event, or the end of a text without events, and hasn't been.
+    #[tactic(auto, unfolding(crate::specs::Reading::opening_fault))]
+    pub(crate) fn opening_fault(&self) -> Option<TextWhy>
+        ensures { result ≡ opening_fault self.now }
+    {
+        if self.has_event() {
+            return None;
+        }
+        if self.funcs.is_empty() {
+            return Some(TextWhy::NoFunc);
+        }
+        if self.funcs.len() <= self.root.unwrap_or(0) as usize {
+            return Some(TextWhy::Root);
+        }
+        None
+    }
+
+    /// A line declares the next function.
+    #[tactic(auto, unfolding(crate::specs::Reading::read_func))]
+    fn add_func(&mut self, name: &'t [u8]) -> Result<(), TextWhy>
+        ensures { Reads result (read_func self.old name.now) self.new }
+    {
+        if self.has_event() {
+            return Err(TextWhy::Late);
+        }
+        if self.funcs.len() >= 65536 {
+            return Err(TextWhy::Limits);
+        }
+        if !is_name(name) {
+            return Err(TextWhy::Name);
+        }
+        self.funcs.push(name)?;
+        Ok(())
+    }
+
+    /// A line declares the next site.
+    #[tactic(auto, unfolding(crate::specs::Reading::read_site))]
+    fn add_site(&mut self, name: &'t [u8]) -> Result<(), TextWhy>
+        ensures { Reads result (read_site self.old name.now) self.new }
+    {
+        if self.has_event() {
+            return Err(TextWhy::Late);
+        }
+        if self.sites.len() >= 65536 {
+            return Err(TextWhy::Limits);
+        }
+        if !is_name(name) {
+            return Err(TextWhy::Name);
+        }
+        if is_root_name(name) {
+            return Err(TextWhy::SameName);
+        }
+        self.sites.reserve(1)?;
+        if !note(&mut self.site_names, name)? {
+            return Err(TextWhy::SameName);
+        }
+        self.sites.push(name)?;
+        Ok(())
+    }
+
+    /// A line declares the root function by these words behind its first.
+    #[tactic(auto, unfolding(crate::specs::Reading::read_root))]
+    fn set_root(&mut self, words: &[&[u8]]) -> Result<(), TextWhy>
+        ensures { Reads result (read_root self.old (map (λ w. w.now) words.now)) self.new }
+    {
+        let [word] = words else {
+            return Err(TextWhy::Count);
+        };
+        let Some(root) = short_number(word) else {
+            return Err(TextWhy::Number);
+        };
+        if self.has_event() {
+            return Err(TextWhy::Late);
+        }
+        if self.root.is_some() {
+            return Err(TextWhy::Root);
+        }
+        self.root = Some(root);
+        Ok(())
+    }
+
+    /// Whether the event's site, where it names one, has been declared.
+    fn names_site(&self, event: Event) -> bool
+        ensures { result ≡ names_site (length self.now.sites) event }
+    {
+        match event {
+            Event::Call { site, .. } | Event::Spawn { site, .. } => (site as usize)
+                < self.sites.len(),
+            _ => true,
+        }
+    }
+
+    /// Whether the event's function, where it names one, has been declared.
+    fn names_func(&self, event: Event) -> bool
+        ensures { result ≡ names_func (length self.now.funcs) event }
+    {
+        match event {
+            Event::Call { func, .. } | Event::Spawn { func, .. } => (func as usize)
+                < self.funcs.len(),
+            _ => true,
+        }
+    }
+
+    /// One event more.
+    #[tactic(auto, unfolding(crate::specs::Reading::add_event))]
+    fn add_event(&mut self, event: Event) -> Result<(), TextWhy>
+        requires opened { opening_fault self.old ≡ None }
+        requires fits { IsEvent event }
+        ensures { Reads result (adds_event self.old event) self.new }
+    {
+        if self.events.len() >= 1 << 28 {
+            return Err(TextWhy::Limits);
+        }
+        if !self.names_site(event) {
+            return Err(TextWhy::Site);
+        }
+        if !self.names_func(event) {
+            return Err(TextWhy::Func);
+        }
+        self.events.push(event)?;
+        Ok(())
+    }
+
+    /// A line has these words.
+    fn add_words(&mut self, words: &[&[u8]]) -> Result<(), TextWhy>
+        ensures { Reads result (read_words self.old (map (λ w. w.now) words.now)) self.new }
+    {
+        let Some((word, others)) = words.split_first() else {
+            return Ok(());
+        };
+        if *word == b"root".as_slice() {
+            return self.set_root(others);
+        }
+        let Some(event) = event_of(word, others) else {
+            return Err(TextWhy::Word);
+        };
+        if let Some(why) = self.opening_fault() {
+            return Err(why);
+        }
+        self.add_event(event?)
+    }
+
+    /// The bytes of the trace: its header, and the records of its events.
+    pub(crate) fn to_bytes(&self, alloc: Global) -> Result<Vec<u8>, AllocError>
+        requires { opening_fault self.now ≡ None }
+        ensures { IfOk result (λ bytes. IsTraceOf bytes.items (recording_of self.now) (flat_map spelling self.now.events)) }
+    {
+        let mut bytes = Vec::new(alloc);
+        bytes.extend_from_slice(b"SPTRACE1".as_slice())?;
+        push_word(&mut bytes, self.funcs.len() as u32)?;
+        push_word(&mut bytes, self.sites.len() as u32)?;
+        push_word(&mut bytes, self.root.unwrap_or(0))?;
+        push_word(&mut bytes, self.events.len() as u32)?;
+        push_names(&mut bytes, self.funcs.as_slice())?;
+        push_names(&mut bytes, self.sites.as_slice())?;
+        bytes.reserve(16 * self.events.len())?;
+        push_records(&mut bytes, self.events.as_slice())?;
+        Ok(bytes)
+    }
+
+    /// One line more.
+    #[tactic(auto, unfolding(crate::specs::Reading::read_line))]
+    pub(crate) fn add_line(&mut self, alloc: Global, line: &'t [u8]) -> Result<(), TextWhy>
+        ensures { Reads result (read_line self.old line.now) self.new }
+    {
+        if let Some(name) = after(b"func ".as_slice(), line) {
+            return self.add_func(name);
+        }
+        if let Some(name) = after(b"site ".as_slice(), line) {
+            return self.add_site(name);
+        }
+        if let Some(_) = after(b"#".as_slice(), line) {
+            return Ok(());
+        }
+        let words = words_of(alloc, line)?;
+        self.add_words(words.as_slice())
+    }
+}

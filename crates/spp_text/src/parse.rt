@@ -1,0 +1,43 @@
+//! A trace out of its text.
+
+ghost use Rattle.std.specs.Prelude.{IfOk, IfErr};
+ghost use Rattle.spp_text.specs.Parsed.{IsEncoded, IsTextFault};
+
+use crate::draft::Draft;
+use crate::fault::{TextFault, TextWhy};
+use std::alloc::Global;
+
+/// The bytes of the trace that a text names: its header and the record of each event, as they open as that trace.
+/// Whether its frames nest is not looked at.
+///
+/// The time is linear in the length of the text, but for about S log S comparisons of names, S being the number of
+/// sites. The memory is linear in the number of lines that name something: 16 bytes for each event while the text is
+/// read, and then the bytes.
+///
+/// # Errors
+///
+/// The first fault of the least line that has one, in the order of the checks of [`TextWhy`]'s documentation;
+/// `Memory`, with the number of the line that was read, where a growth was refused.
+pub fn parse_text(alloc: Global, text: &str) -> Result<Vec<u8>, TextFault>
+    ensures found { IfOk result (λ bytes. IsEncoded text.now bytes.items) }
+    ensures refused { IfErr result (λ fault. IsTextFault text.now fault) }
+{
+    let mut draft = Draft::new(alloc);
+    let mut number: u32 = 1;
+    for line in text.lines() {
+        if let Err(why) = draft.add_line(alloc, line.as_bytes()) {
+            return Err(TextFault { line: number, why });
+        }
+        number = number.saturating_add(1);
+    }
+    if let Some(why) = draft.opening_fault() {
+        return Err(TextFault { line: number, why });
+    }
+    match draft.to_bytes(alloc) {
+        Ok(bytes) => Ok(bytes),
+        Err(_) => Err(TextFault {
+            line: number,
+            why: TextWhy::Memory,
+        }),
+    }
+}
