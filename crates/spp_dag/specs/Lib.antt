@@ -1,0 +1,11 @@
+pub mod Ranges
+pub mod Trace
+pub mod Dag
+pub mod Stack
+pub mod Rows
+pub mod Profile
+pub mod Shares
+pub mod Laws
+pub mod Limits
+pub mod Choices
+pub mod WorkedRows

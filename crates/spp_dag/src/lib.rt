@@ -1,0 +1,14 @@
+//! The dag of a recorded run: what work, span and paths mean, and the laws that make two numbers for each open frame
+//! enough to find them.
+#![tactic(auto)]
+
+mod laws;
+mod row;
+mod stack;
+
+pub use laws::{
+    choice_laws, limit_laws, path_laws, profile_laws, share_laws, stack_laws, walk_laws,
+    worked_rows,
+};
+pub use row::Row;
+pub use stack::{EntryFrame, FrameKind, OpenFrame};

@@ -1,0 +1,50 @@
+use super::*;
+
+#[test]
+fn a_child_and_a_longer_continuation(rt: HostRuntime) {
+    let burdens = Burdens {
+        on_continuation: 3,
+        on_return: 5,
+    };
+    let waiting = State::start().after_strand(1).after_spawn(1, 10, burdens);
+    assert_eq!(rt;
+        waiting,
+        State {
+            spine: 4,
+            child: Some((16, 1)),
+        }
+    );
+    assert_eq!(rt; waiting.after_strand(4).taken(), Some(1));
+    assert_eq!(rt; waiting.after_strand(4).close(), 16);
+    assert_eq!(rt; waiting.after_strand(12).taken(), Some(1));
+    assert_eq!(rt; waiting.after_strand(13).taken(), None);
+    assert_eq!(rt; waiting.after_strand(13).close(), 17);
+}
+
+#[test]
+fn the_earlier_of_equal_children(rt: HostRuntime) {
+    let two = State::start()
+        .after_spawn(0, 5, Burdens::default())
+        .after_spawn(3, 5, Burdens::default());
+    assert_eq!(rt; two.child, Some((5, 0)));
+    assert_eq!(rt;
+        two.after_spawn(6, 6, Burdens::default()).child,
+        Some((6, 6))
+    );
+}
+
+#[test]
+fn a_sync_joins_the_child(rt: HostRuntime) {
+    let joined = State::start()
+        .after_spawn(0, 7, Burdens::default())
+        .after_strand(2)
+        .after_sync();
+    assert_eq!(rt;
+        joined,
+        State {
+            spine: 7,
+            child: None,
+        }
+    );
+    assert_eq!(rt; joined.after_call(4).close(), 11);
+}
