@@ -31,8 +31,9 @@ ghost use Rattle.spp_dag.specs.WorkedRows.{Empty, LargeStrands, OneChild, EqualW
 ghost use Rattle.spp_dag.specs.Limits.{WorkFits, WalkFits, StackFits, RowsFit};
 
 /// The laws of the stack machine: on a well-formed trace it ends with one frame, and each frame closes with the
-/// greatest weight of a walk through it, without burdens and with any; else it finds what is wrong with the nesting; and
-/// it runs on from where it stopped. Its contract is what it is for.
+/// greatest weight of a walk from its first position to where it closes, without burdens and with any; else it finds what
+/// is wrong with the nesting; and a run over two lists of events is one over the first and, if that didn't stop, one over
+/// the second. Its contract is what it is for.
 pub fn stack_laws()
     ensures stands { StackStands }
     ensures ends { MachineGivesSpans }
@@ -42,7 +43,7 @@ pub fn stack_laws()
     ensures follows { RunsFollow }
 {}
 
-/// The laws of walks: two walks with the same ends part first at a spawn, and the one that comes first in dictionary
+/// The laws of walks: two different walks with the same ends part first at a spawn, and the one that comes first in dictionary
 /// order enters its child. Its contract is what it is for.
 pub fn walk_laws()
     ensures parting { WalksPartAtSpawns }
@@ -50,7 +51,7 @@ pub fn walk_laws()
 {}
 
 /// The laws of the path: there is one, the choices of the stack machine are those of the path, and of the children that
-/// join at a place it takes the least of greatest weight. Its contract is what it is for.
+/// join at a place it goes through the first of those that a greatest walk goes through. Its contract is what it is for.
 pub fn path_laws()
     ensures exists { PathExists }
     ensures one { PathIsOne }
@@ -62,8 +63,9 @@ pub fn path_laws()
     ensures least { PathTakesLeast }
 {}
 
-/// The laws of what is told of ranges: each position has one entry, events of frames that run on are those on the path,
-/// and where children join the stack machine knows so, and takes what the path chooses. Its contract is what it is for.
+/// The laws of what is told of ranges: each position has one entry; an event other than a sync or a return is on the path
+/// exactly where its frame runs on there; and where children join the stack machine knows so, and takes what the path
+/// chooses. Its contract is what it is for.
 pub fn choice_laws()
     ensures entry { EntryIsOne }
     ensures running { RunningPasses }

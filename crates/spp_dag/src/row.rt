@@ -6,7 +6,7 @@
 pub struct Row {
     /// The number of frames.
     pub count: u64,
-    /// The strands directly in them.
+    /// The sum of the counts of the strands directly in them.
     pub local: u128,
     /// The number of the top frames by site: those that no frame of the same site encloses.
     pub site_count: u64,

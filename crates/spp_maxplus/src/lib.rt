@@ -90,7 +90,7 @@ impl State {
         }
     }
 
-    /// The weight with which the frame closes if it returns now, which is its span.
+    /// The weight with which the frame closes if it returns now: its span, or its burdened span.
     pub fn close(self) -> u128
         ensures { result ≡ close_of self }
     {
