@@ -5,14 +5,15 @@ use Rattle.std.proofs.lemmas.Bool.{cases_Bool, eq-eqb, ne_eqb, and_from}
 use Rattle.spp_event.specs.declared.records.Event.{Event}
 use Rattle.spp_event.specs.declared.records.Event.TheVariants.{Strand, Call, Spawn, Ret, Sync}
 use Rattle.spp_maxplus.specs.declared.Burdens.{Burdens}
-use Rattle.spp_dag.specs.Trace.{event_at, weight, opens, spawns, IsWellFormed, partner, owner, is_spawned, is_frame, closing}
+use Rattle.spp_dag.specs.Trace.{event_at, weight, opens, spawns, syncs, IsWellFormed, partner, owner, is_spawned, is_frame, closing}
 use Rattle.spp_dag.specs.Dag.{Before, FirstEnters, Walk, IsPath}
 use Rattle.spp_maxplus.specs.State.{close}
 use Rattle.spp_dag.proofs.Depth.{closed}
 use Rattle.spp_dag.proofs.Machine.{shape}
+use Rattle.spp_dag.proofs.Owner.{owner_is}
 use Rattle.spp_dag.proofs.Walks.{ReturnsTo, ReturnStep, StepOf, Trail}
 use Rattle.spp_dag.proofs.Upper.{spawns_opens}
-use Rattle.spp_dag.proofs.Span.{greatest, trail_of, walk_of}
+use Rattle.spp_dag.proofs.Span.{greatest, greatest_at, trail_of, walk_of}
 use Rattle.spp_dag.proofs.Parting.{forward, trail_forward, one_enters, enters_before, before_not_both, before_not_same}
 
 module _ (es : List Event) where
@@ -225,6 +226,14 @@ module _ (es : List Event) (wf : IsWellFormed es) (burdens : Burdens) where
       let h = shape es (room es 0) (λ _. room es 0 * burdens.on_continuation) (λ s. prize es s + room es 0 * burdens.on_return) wf (closing es f) (closing_inside es wf 0 0 f t) in
       let g = greatest es (room es 0) (λ _. room es 0 * burdens.on_continuation) (λ s. prize es s + room es 0 * burdens.on_return) wf (prize es) (λ _. room es 0 * burdens.on_return) (λ s. refl) f t h in
       (g.0.0, winner_is_path f (closing es f) (closing_inside es wf 0 0 f t) g.0.0 (close h.top.state) g.0.1 g.1)
+
+  -- and to each place where a frame waits
+  pub path_exists_to : (k : ℕ) → k ≤ length es → (k < length es → syncs (event_at es k) ≡ true) → (rest : List ℕ) × IsPath es burdens (owner es k) k rest
+  path_exists_to k l n =
+      let h = shape es (room es 0) (λ _. room es 0 * burdens.on_continuation) (λ s. prize es s + room es 0 * burdens.on_return) wf k l in
+      let g = greatest_at es (room es 0) (λ _. room es 0 * burdens.on_continuation) (λ s. prize es s + room es 0 * burdens.on_return) wf (prize es) (λ _. room es 0 * burdens.on_return) (λ s. refl) k l n h in
+      let own : owner es k ≡ h.top.first = owner_is es (room es 0) (λ _. room es 0 * burdens.on_continuation) (λ s. prize es s + room es 0 * burdens.on_return) wf k h in
+      subst (λ (f : ℕ). (rest : List ℕ) × IsPath es burdens f k rest) (sym own) (g.0.0, winner_is_path h.top.first k l g.0.0 (close h.top.state) g.0.1 g.1)
 
 -- the law: of two walks with the same ends, the one that comes first in dictionary order enters a child where the other goes on
 pub first_enters : (es : List Event) → IsWellFormed es → (burdens : Burdens) (x y v w : ℕ) (ps qs : List ℕ) → Walk es burdens x ps y v → Walk es burdens x qs y w → Before ps qs → FirstEnters es x ps qs

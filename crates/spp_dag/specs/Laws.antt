@@ -91,6 +91,10 @@ abbrev pub PathExists : Type 0
 PathExists = (es : List Event) → IsWellFormed es → (burdens : Burdens) (f : ℕ) → is_frame es f ≡ true
     → (ps : List ℕ) × IsPath es burdens f (closing es f) ps
 
+-- and to each place where a frame waits
+abbrev pub PathExistsTo : Type 0
+PathExistsTo = (es : List Event) → IsWellFormed es → (burdens : Burdens) (k : ℕ) → Waits es k → (ps : List ℕ) × IsPath es burdens (owner es k) k ps
+
 -- and it is one
 abbrev pub PathIsOne : Type 0
 PathIsOne = (es : List Event) (burdens : Burdens) (x y : ℕ) (ps qs : List ℕ)

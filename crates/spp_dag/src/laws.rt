@@ -10,6 +10,7 @@ ghost use Rattle.spp_dag.specs.Laws.{
   WalksPartAtSpawns,
   WalksAreOrdered,
   PathExists,
+  PathExistsTo,
   PathIsOne,
   PathEntersTaken,
   PathEntersCalled,
@@ -54,6 +55,7 @@ pub fn walk_laws()
 /// join at a place it goes through the first of those that a greatest walk goes through. Its contract is what it is for.
 pub fn path_laws()
     ensures exists { PathExists }
+    ensures exists_to { PathExistsTo }
     ensures one { PathIsOne }
     ensures taken { PathEntersTaken }
     ensures called { PathEntersCalled }

@@ -1,5 +1,5 @@
 -- The laws of the path.
-use Rattle.spp_dag.proofs.Ties.{path_exists, path_unique}
+use Rattle.spp_dag.proofs.Ties.{path_exists, path_exists_to, path_unique}
 use Rattle.spp_dag.proofs.Stacks.{path_enters_taken, path_takes_child, taken_join}
 use Rattle.spp_dag.proofs.PathLaws.{path_calls, path_passes}
 use Rattle.spp_dag.proofs.LeastChild.{path_takes_least}
@@ -7,6 +7,9 @@ use Rattle.spp_dag.proofs.laws.path_laws.Goals as goal
 
 pub returns-clause-exists : goal.returns-clause-exists
 returns-clause-exists c = path_exists
+
+pub returns-clause-exists_to : goal.returns-clause-exists_to
+returns-clause-exists_to c = λ es wf burdens k waits. path_exists_to es wf burdens k waits.0 waits.1
 
 pub returns-clause-one : goal.returns-clause-one
 returns-clause-one c = path_unique
