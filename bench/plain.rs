@@ -127,6 +127,88 @@ impl<'a> Trace<'a> {
     }
 }
 
+/// The default burden, as spprof's.
+const BURDEN: u128 = 15000;
+
+/// An open frame: its greatest weights along it and through a child, without burdens and with them. No child weighs 0.
+#[derive(Clone, Copy, Default)]
+struct Frame {
+    spawned: bool,
+    spine: [u128; 2],
+    child: [u128; 2],
+}
+
+impl Frame {
+    fn close(&self) -> [u128; 2] {
+        [self.spine[0].max(self.child[0]), self.spine[1].max(self.child[1])]
+    }
+
+    /// After the return of a child.
+    fn after(mut self, child: &Frame) -> Frame {
+        let span = child.close();
+        for (k, burden) in [0, BURDEN].into_iter().enumerate() {
+            if child.spawned {
+                self.child[k] = self.child[k].max(self.spine[k] + span[k] + burden);
+                self.spine[k] += burden;
+            } else {
+                self.spine[k] += span[k];
+            }
+        }
+        self
+    }
+}
+
+impl Trace<'_> {
+    /// The work, the span and the burdened span of a well-formed trace.
+    fn figures(&self) -> Result<[u128; 3], Fault> {
+        let bad = |i, why: &str| Fault::Event(i, why.into());
+        let mut work = 0;
+        let (mut top, mut below) = (Frame::default(), Vec::new());
+        for i in 0..self.events {
+            match self.event(i).map_err(|why| bad(i, why))? {
+                Event::Strand(count) => {
+                    work += u128::from(count);
+                    top.spine[0] += u128::from(count);
+                    top.spine[1] += u128::from(count);
+                }
+                event @ (Event::Call | Event::Spawn) => {
+                    below.push(top);
+                    top = Frame { spawned: matches!(event, Event::Spawn), ..Frame::default() };
+                }
+                Event::Return => {
+                    let parent = below.pop().ok_or_else(|| bad(i, "root return"))?;
+                    top = parent.after(&top);
+                }
+                Event::Sync => {
+                    top.spine = top.close();
+                    top.child = [0; 2];
+                }
+            }
+        }
+        if !below.is_empty() {
+            return Err(bad(self.events, &format!("unclosed {}", below.len())));
+        }
+        let [span, burdened] = top.close();
+        Ok([work, span, burdened])
+    }
+}
+
+/// `work / span` with two digits, rounded down.
+fn ratio(work: u128, span: u128) -> String {
+    match (100 * work).checked_div(span) {
+        Some(h) => format!("{}.{:02}", h / 100, h % 100),
+        None => "-".into(),
+    }
+}
+
+fn figures_text([work, span, burdened]: [u128; 3]) -> String {
+    format!(
+        "work {work}\nspan {span}\nburdened {burdened}\nparallelism {}\nburdened parallelism {}\n",
+        ratio(work, span),
+        ratio(work, burdened)
+    )
+}
+
 /// What the lines of a text have said so far.
 #[derive(Default)]
 struct Draft<'a> {
@@ -277,7 +359,7 @@ fn encoded(text: &str) -> Result<Vec<u8>, Fault> {
 fn run() -> Result<(), Fault> {
     let words: Vec<String> = std::env::args().skip(1).collect();
     let command = match &words[..] {
-        [word] if word == "check" || word == "encode" => word.as_str(),
+        [word] if ["check", "figures", "encode"].contains(&word.as_str()) => word.as_str(),
         _ => return Err(Fault::Usage),
     };
     let mut bytes = Vec::new();
@@ -285,6 +367,10 @@ fn run() -> Result<(), Fault> {
     if command == "check" {
         let work = Trace::open(&bytes)?.work()?;
         return writeln!(io::stdout(), "work {work}").map_err(|_| Fault::Write);
+    }
+    if command == "figures" {
+        let figures = Trace::open(&bytes)?.figures()?;
+        return write!(io::stdout(), "{}", figures_text(figures)).map_err(|_| Fault::Write);
     }
     let text = std::str::from_utf8(&bytes).map_err(|e| {
         let feeds = bytes[..e.valid_up_to()].iter().filter(|byte| **byte == b'\n').count();
@@ -296,7 +382,7 @@ fn run() -> Result<(), Fault> {
 fn main() {
     let Err(fault) = run() else { return };
     let (status, line) = match fault {
-        Fault::Usage => (2, "usage: plain check|encode < FILE".into()),
+        Fault::Usage => (2, "usage: plain check|figures|encode < FILE".into()),
         Fault::Read => (3, "cannot read input".into()),
         Fault::Write => (3, "cannot write output".into()),
         Fault::Header(why) => (1, format!("bad header: {why}")),

@@ -42,9 +42,24 @@ expect 'cilksort' 0 "work 136861$lf" '' "$top/examples/cilksort.sptrace" check
 expect 'fib' 0 "work 3049$lf" '' "$top/examples/fib.sptrace" check
 expect 'nqueens' 0 "work 32744$lf" '' "$top/examples/nqueens.sptrace" check
 
+# The figures of the recorded traces are that program's too.
+figures_of() { # NAME FILE BURDEN WORK SPAN BURDENED PARALLELISM BURDENED_PARALLELISM
+    expect "figures of $1" 0 "work $4${lf}span $5${lf}burdened $6${lf}parallelism $7${lf}burdened parallelism $8$lf" '' \
+        /dev/null figures --burden "$3" "$2"
+}
+figures_of 'the small trace' "$small" 3 17 13 16 1.30 1.06
+figures_of 'cilksort' "$top/examples/cilksort.sptrace" 15000 136861 11392 596194 12.01 0.22
+figures_of 'fib' "$top/examples/fib.sptrace" 15000 3049 43 195043 70.90 0.01
+figures_of 'nqueens' "$top/examples/nqueens.sptrace" 15000 32744 831 210802 39.40 0.15
+expect 'figures without an option' 0 "work 17${lf}span 13${lf}burdened 15013${lf}parallelism 1.30${lf}burdened parallelism 0.00$lf" '' \
+    "$small" figures
+expect 'a burden too large' 2 '' 'error: *' "$small" figures --burden 4294967296
+
 expect 'no bytes' 1 '' "bad header: short$lf" /dev/null check
 head -c 120 "$small" > "$folder/part"
 expect 'a part of a record' 1 '' "bad event 5: truncated$lf" "$folder/part" check
+expect 'figures of a part of a record' 1 '' "bad event 5: truncated$lf" "$folder/part" figures
+expect 'figures of no bytes' 1 '' "bad header: short$lf" /dev/null figures
 { cat "$small" && printf '\0'; } > "$folder/more"
 expect 'one byte too many' 1 '' "bad header: trailing$lf" "$folder/more" check
 # A header that claims 2^28 events and has none: answered at once, in little memory.
@@ -95,6 +110,22 @@ judge 'an input that comes in pieces' 0 "work 17$lf" ''
 status=$?
 : > "$folder/err"
 judge 'a full device for faults' 1 '' ''
+
+# A million calls in one another, and a frame that spawns a million children: no stack overflows, and the time is linear.
+awk 'BEGIN { print "func f\nsite A"; n = 1000000
+    for (i = 0; i < n; i++) print "call 0 0"; print "strand 5"; for (i = 0; i < n; i++) print "return" }' > "$folder/text"
+"$spprof" encode "$folder/text" > "$folder/nested"
+timeout 30 "$spprof" figures "$folder/nested" > "$folder/out" 2> "$folder/err"
+status=$?
+judge 'figures of a million nested calls' 0 "work 5${lf}span 5${lf}burdened 5${lf}parallelism 1.00${lf}burdened parallelism 1.00$lf" ''
+awk 'BEGIN { print "func f\nsite A"; for (i = 0; i < 1000000; i++) print "spawn 0 0\nstrand 5\nreturn"; print "sync" }' > "$folder/text"
+"$spprof" encode "$folder/text" > "$folder/wide"
+timeout 30 "$spprof" figures --burden 1 "$folder/wide" > "$folder/out" 2> "$folder/err"
+status=$?
+judge 'figures of a million children' 0 "work 5000000${lf}span 5${lf}burdened 1000005${lf}parallelism 1000000.00${lf}burdened parallelism 4.99$lf" ''
+# The same frames left open are told, and the memory for them is given back.
+head -c 1000000 "$folder/nested" > "$folder/open"
+expect 'figures of frames left open' 1 '' "bad event *: truncated$lf" "$folder/open" figures
 
 # Texts and bytes, each made out of the other.
 gives() { # NAME FILE WORDS..: with the input `input`, the program writes just the bytes of the file

@@ -4,8 +4,12 @@
 
 use spp_event::{HeaderFault, open_trace};
 use spp_frame::check;
-use spp_report::OutSink;
+use spp_maxplus::Burdens;
+use spp_piece::Figures;
+use spp_reference::{ReferenceFault, profile};
+use spp_report::{OutSink, figures_text};
 use spp_request::{Command, Request, UsageFault, read_request};
+use spp_serial::{ProfileFault, profile_serial};
 use spp_shell::{InSource, ReadFault, read_all, read_within, run};
 use spp_text::{PrintFault, TextFault, TextWhy, parse_text, print_text};
 use std::alloc::Global;
@@ -17,8 +21,22 @@ const TRACE: &[u8] = b"SPTRACE1\x00\x00\x00\x02\x00\x00\x00\x02\x00\x00\x00\x00\
 \x00\x00\x00\x00\x00\x00\x00\x00\x00\x00\x00\x00\x00\x00\x00\x11\
 \x04\x00\x00\x00\x00\x00\x00\x00\x00\x00\x00\x00\x00\x00\x00\x00";
 
-/// The same as text.
+/// A trace of a call and its return, of the function `f` by the site `A`.
+const NESTED: &[u8] = b"SPTRACE1\x00\x00\x00\x01\x00\x00\x00\x01\x00\x00\x00\x00\x00\x00\x00\x02\
+\x00\x01f\x00\x01A\
+\x01\x00\x00\x00\x00\x00\x00\x00\x00\x00\x00\x00\x00\x00\x00\x00\
+\x03\x00\x00\x00\x00\x00\x00\x00\x00\x00\x00\x00\x00\x00\x00\x00";
+
+/// `TRACE` as text.
 const TEXT: &str = "func main\nfunc f\nsite A\nsite B\nroot 0\nstrand 17\nsync\n";
+
+/// The text of figures.
+const FIGURES: &str = "work 17
+span 13
+burdened 0
+parallelism 1.30
+burdened parallelism -
+";
 
 /// What a call answered.
 #[derive(Clone, Copy, Debug, PartialEq, Eq)]
@@ -58,6 +76,50 @@ fn parsed(alloc: Global) -> Answer {
                 why: TextWhy::Memory,
             },
         ) => Answer::Memory,
+        _ => Answer::Other,
+    }
+}
+
+fn profiled(alloc: Global) -> Answer {
+    let trace = match open_trace(alloc, NESTED) {
+        Ok(trace) => trace,
+        Err(HeaderFault::Memory) => return Answer::Memory,
+        Err(_) => return Answer::Other,
+    };
+    let figures = Figures {
+        work: 0,
+        span: 0,
+        burdened: 0,
+    };
+    match profile_serial(alloc, &trace, 3) {
+        Ok(profile) if profile.figures == figures => Answer::Good,
+        Err(ProfileFault::Memory) => Answer::Memory,
+        _ => Answer::Other,
+    }
+}
+
+fn told(alloc: Global) -> Answer {
+    let figures = Figures {
+        work: 17,
+        span: 13,
+        burdened: 0,
+    };
+    match figures_text(alloc, &figures) {
+        Ok(text) if text.as_slice() == FIGURES.as_bytes() => Answer::Good,
+        Ok(_) => Answer::Other,
+        Err(_) => Answer::Memory,
+    }
+}
+
+fn referred(alloc: Global) -> Answer {
+    let trace = match open_trace(alloc, NESTED) {
+        Ok(trace) => trace,
+        Err(HeaderFault::Memory) => return Answer::Memory,
+        Err(_) => return Answer::Other,
+    };
+    match profile(alloc, &trace, Burdens::both(3)) {
+        Ok(told) if told.path.as_slice() == [0, 1, 2].as_slice() => Answer::Good,
+        Err(ReferenceFault::Memory) => Answer::Memory,
         _ => Answer::Other,
     }
 }
@@ -110,6 +172,7 @@ fn ran(alloc: Global, command: Command, bytes: &[u8], wanted: u8) -> Answer {
     let request = Request {
         command,
         files: Vec::new(alloc),
+        burden: 3,
     };
     let (mut text, mut line) = ([0u8; 128], [0u8; 64]);
     let mut out = OutSink::new(text.as_mut_slice());
@@ -134,6 +197,9 @@ fn main(rt: HostRuntime) -> io::Result<()> {
         println!(rt; "print_text: {:?}", printed(alloc))?;
         println!(rt; "parse_text: {:?}", parsed(alloc))?;
         println!(rt; "parse_text, a fault: {:?}", misparsed(alloc))?;
+        println!(rt; "profile_serial: {:?}", profiled(alloc))?;
+        println!(rt; "figures_text: {:?}", told(alloc))?;
+        println!(rt; "the reference's profile: {:?}", referred(alloc))?;
         println!(rt;
             "read_all: {:?}",
             of_reading(read_all(alloc, &mut InSource::new(TRACE)))
@@ -146,6 +212,8 @@ fn main(rt: HostRuntime) -> io::Result<()> {
         println!(rt; "read_request, a fault: {:?}", refused(alloc))?;
         for (name, command, bytes, wanted) in [
             ("a good trace", Command::Check, TRACE, 0),
+            ("figures of a good trace", Command::Figures, NESTED, 0),
+            ("figures of a bad trace", Command::Figures, &TRACE[..60], 1),
             ("a bad header", Command::Check, &TRACE[..23], 1),
             ("a bad event", Command::Check, &TRACE[..60], 1),
             ("a good text", Command::Encode, TEXT.as_bytes(), 0),

@@ -5,7 +5,7 @@ use Rattle.std.proofs.Math.Nat.{mul-le-mul_left, mul-le-mul_right}
 use Rattle.std.proofs.lemmas.Option.{slice_get_past}
 use Rattle.spp_event.specs.declared.records.Event.{Event}
 use Rattle.spp_event.specs.declared.records.Event.TheVariants.{Strand, Call, Spawn, Ret, Sync}
-use Rattle.spp_maxplus.specs.declared.Burdens.{Burdens}
+use Rattle.spp_maxplus.specs.declared.state.Burdens.{Burdens}
 use Rattle.spp_maxplus.specs.Candidate.{greatest, better}
 use Rattle.spp_maxplus.specs.State.{unburdened, close}
 use Rattle.spp_dag.specs.declared.stack.OpenFrame.{OpenFrame}

@@ -5,8 +5,8 @@ use Rattle.std.proofs.lemmas.Bool.{cases_lt, lt-ltb, le-ltb, le-leb, lt-leb}
 use Rattle.spp_event.specs.declared.records.Event.{Event}
 use Rattle.spp_event.specs.declared.records.Event.TheVariants.{Strand, Call, Spawn, Ret, Sync}
 use Rattle.spp_dag.specs.Trace.{event_at, returns, IsWellFormed, is_spawned}
-use Rattle.spp_maxplus.specs.declared.Burdens.{Burdens}
-use Rattle.spp_maxplus.specs.declared.State.{State}
+use Rattle.spp_maxplus.specs.declared.state.Burdens.{Burdens}
+use Rattle.spp_maxplus.specs.declared.state.State.{State}
 use Rattle.spp_maxplus.specs.Candidate.{greatest, better}
 use Rattle.spp_maxplus.specs.State.{start, close, after_spawn, after_call, taken, taken_of}
 use Rattle.spp_dag.proofs.Depth.{slice_get_no}

@@ -11,7 +11,7 @@ use Rattle.spp_event.specs.Recordings.{Record}
 use Rattle.spp_frame.specs.declared.Why.{Why}
 use Rattle.spp_frame.specs.declared.Why.TheVariants as why
 use Rattle.spp_frame.specs.Nesting.{wrong, wrong_at}
-use Rattle.spp_maxplus.specs.declared.Burdens.{Burdens}
+use Rattle.spp_maxplus.specs.declared.state.Burdens.{Burdens}
 use Rattle.spp_dag.specs.Trace.{records, event_at, opens, returns, depth}
 use Rattle.spp_dag.specs.Laws.{EndsWith, MachineFindsFaults}
 use Rattle.spp_dag.specs.declared.stack.OpenFrame.{OpenFrame}

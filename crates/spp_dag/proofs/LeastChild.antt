@@ -3,7 +3,7 @@ use Rattle.std.proofs.Common.{◌≡◌, ℕ, suc, ◌≤◌, ◌<◌, true, ref
 use Rattle.std.proofs.lemmas.Bool.{cases_lt, and_parts, and_from, eq-eqb, eqb-true}
 use Rattle.spp_event.specs.declared.records.Event.{Event}
 use Rattle.spp_event.specs.declared.records.Event.TheVariants.{Strand, Call, Spawn, Ret, Sync}
-use Rattle.spp_maxplus.specs.declared.Burdens.{Burdens}
+use Rattle.spp_maxplus.specs.declared.state.Burdens.{Burdens}
 use Rattle.spp_dag.specs.Trace.{event_at, opens, syncs, spawns, partner, owner, join, IsWellFormed}
 use Rattle.spp_dag.specs.Dag.{Walk, AtMost, IsPath, Before, On}
 use Rattle.spp_dag.specs.Laws.{PathTakesLeast, WalksAreOrdered}

@@ -22,4 +22,8 @@ pub mod Profiles
 pub mod Bounds
 pub mod Entries
 pub mod Listing
+pub mod StepsListing
+pub mod StepsFrames
+pub mod Steps
+pub mod StepsShares
 pub mod WorkedRows

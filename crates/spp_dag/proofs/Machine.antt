@@ -4,8 +4,8 @@ use Rattle.std.proofs.lemmas.Bool.{cases_lt, both_ways}
 use Rattle.spp_event.specs.declared.records.Event.{Event}
 use Rattle.spp_event.specs.declared.records.Event.TheVariants.{Strand, Call, Spawn, Ret, Sync}
 use Rattle.spp_dag.specs.Trace.{event_at, opens, returns, depth, IsWellFormed, partner, is_spawned}
-use Rattle.spp_maxplus.specs.declared.Burdens.{Burdens}
-use Rattle.spp_maxplus.specs.declared.State.{State}
+use Rattle.spp_maxplus.specs.declared.state.Burdens.{Burdens}
+use Rattle.spp_maxplus.specs.declared.state.State.{State}
 use Rattle.spp_maxplus.specs.State.{start, close, after_sync, after_spawn, after_call, after_strand}
 use Rattle.spp_dag.proofs.Depth.{open_at_return, deeper, closed, opens_not_returns, slice_get_no, depth-opens, depth-returns, depth-same, partner_spec}
 

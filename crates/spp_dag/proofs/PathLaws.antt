@@ -6,7 +6,7 @@ use Rattle.spp_event.specs.declared.records.Event.{Event}
 use Rattle.spp_event.specs.declared.records.Event.TheVariants.{Strand, Call, Spawn, Ret, Sync}
 use Rattle.spp_dag.specs.Trace.{event_at, weight, weight_of, opens, syncs, spawns, IsWellFormed, partner, owner, join}
 use Rattle.spp_dag.specs.Dag.{On, IsPath}
-use Rattle.spp_maxplus.specs.declared.Burdens.{Burdens}
+use Rattle.spp_maxplus.specs.declared.state.Burdens.{Burdens}
 use Rattle.spp_maxplus.specs.Candidate.{greatest}
 use Rattle.spp_maxplus.specs.State.{close, taken, taken_of}
 use Rattle.spp_dag.specs.Laws.{JoinsAt}

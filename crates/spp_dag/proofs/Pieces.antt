@@ -1,7 +1,7 @@
 -- The machine over two lists, one after the other.
 use Rattle.std.proofs.Common.{◌≡◌, ℕ, suc, ◌+◌, refl, arith, ◌∙◌, ap, List, [], ◌∷◌, ◌++◌, length, Option, Some, None}
 use Rattle.spp_event.specs.declared.records.Event.{Event}
-use Rattle.spp_maxplus.specs.declared.Burdens.{Burdens}
+use Rattle.spp_maxplus.specs.declared.state.Burdens.{Burdens}
 use Rattle.spp_dag.specs.Laws.{run_on}
 use Rattle.spp_dag.specs.declared.stack.OpenFrame.{OpenFrame}
 use Rattle.spp_dag.specs.Stack.{advance, run}

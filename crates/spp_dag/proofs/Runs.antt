@@ -4,9 +4,9 @@ use Rattle.spp_event.specs.declared.records.Event.{Event}
 use Rattle.spp_event.specs.declared.records.Event.TheVariants.{Strand, Call, Spawn, Ret, Sync}
 use Rattle.spp_dag.specs.Trace.{event_at, returns, spawns, IsWellFormed, is_spawned}
 use Rattle.spp_dag.specs.Dag.{IsSpan}
-use Rattle.spp_maxplus.specs.declared.State.{State}
+use Rattle.spp_maxplus.specs.declared.state.State.{State}
 use Rattle.spp_dag.proofs.Depth.{closed_at_end}
-use Rattle.spp_maxplus.specs.declared.Burdens.{Burdens}
+use Rattle.spp_maxplus.specs.declared.state.Burdens.{Burdens}
 use Rattle.spp_maxplus.specs.State.{unburdened, close, after_strand}
 use Rattle.spp_dag.specs.declared.stack.OpenFrame.{OpenFrame}
 use Rattle.spp_dag.specs.declared.stack.FrameKind.{FrameKind}

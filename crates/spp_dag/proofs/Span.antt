@@ -7,7 +7,7 @@ use Rattle.spp_event.specs.declared.records.Event.TheVariants.{Strand, Call, Spa
 use Rattle.spp_dag.specs.Trace.{event_at, weight, weight_of, opens, syncs, IsWellFormed, partner, owner, is_frame, is_spawned, closing}
 use Rattle.spp_dag.specs.Dag.{EdgeBack, EdgeOf, ReturnEdge, Walk, IsGreatest, IsSpan}
 use Rattle.spp_maxplus.specs.State.{start, close}
-use Rattle.spp_maxplus.specs.declared.Burdens.{Burdens}
+use Rattle.spp_maxplus.specs.declared.state.Burdens.{Burdens}
 use Rattle.spp_dag.proofs.Depth.{closed_at_end, is_return, closed}
 use Rattle.spp_dag.proofs.Machine.{step, stack, Shape}
 use Rattle.spp_dag.proofs.Owner.{owner_is, at_closing}

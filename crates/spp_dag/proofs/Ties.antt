@@ -4,7 +4,7 @@ use Rattle.std.proofs.Math.Nat.{two-pow-succ, lt_of_mul-lt-mul_left, mul-suc}
 use Rattle.std.proofs.lemmas.Bool.{cases_Bool, eq-eqb, ne_eqb, and_from}
 use Rattle.spp_event.specs.declared.records.Event.{Event}
 use Rattle.spp_event.specs.declared.records.Event.TheVariants.{Strand, Call, Spawn, Ret, Sync}
-use Rattle.spp_maxplus.specs.declared.Burdens.{Burdens}
+use Rattle.spp_maxplus.specs.declared.state.Burdens.{Burdens}
 use Rattle.spp_dag.specs.Trace.{event_at, weight, opens, spawns, syncs, IsWellFormed, partner, owner, is_spawned, is_frame, closing}
 use Rattle.spp_dag.specs.Dag.{Before, FirstEnters, Walk, IsPath}
 use Rattle.spp_maxplus.specs.State.{close}

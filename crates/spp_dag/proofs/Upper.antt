@@ -6,7 +6,7 @@ use Rattle.std.proofs.lemmas.Option.{slice_get_past}
 use Rattle.spp_event.specs.declared.records.Event.{Event}
 use Rattle.spp_event.specs.declared.records.Event.TheVariants.{Strand, Call, Spawn, Ret, Sync}
 use Rattle.spp_dag.specs.Trace.{event_at, weight, weight_of, opens, returns, syncs, spawns, depth, IsWellFormed, partner, owner, join, is_spawned}
-use Rattle.spp_maxplus.specs.declared.State.{State}
+use Rattle.spp_maxplus.specs.declared.state.State.{State}
 use Rattle.spp_maxplus.specs.Candidate.{greatest, better}
 use Rattle.spp_maxplus.specs.State.{close, after_spawn, after_call}
 use Rattle.spp_dag.proofs.Ranges.{IsLeast, least_from_spec}

@@ -3,7 +3,7 @@
 use Rattle.std.specs.Prelude.{◌≡◌, ℕ, suc, ◌≤◌, ◌<◌, true, List, [], ◌∷◌, length, map, take, Option, Some, None, ◌↔◌, false}
 use Rattle.spp_event.specs.declared.records.Event.{Event}
 use Rattle.spp_frame.specs.Nesting as nesting
-use Rattle.spp_maxplus.specs.declared.Burdens.{Burdens}
+use Rattle.spp_maxplus.specs.declared.state.Burdens.{Burdens}
 use Rattle.spp_maxplus.specs.State.{unburdened, taken}
 use Rattle.spp_dag.specs.declared.stack.EntryFrame.{EntryFrame}
 use Rattle.spp_dag.specs.declared.stack.OpenFrame.{OpenFrame}

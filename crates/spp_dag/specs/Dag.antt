@@ -3,7 +3,7 @@
 use Rattle.std.specs.Prelude.{◌≡◌, ℕ, zero, suc, ◌+◌, ◌≤◌, ◌<◌, Bool, true, false, List, [], ◌∷◌, length, Option, Some, None, ◌⊎◌}
 use Rattle.spp_event.specs.declared.records.Event.{Event}
 use Rattle.spp_event.specs.declared.records.Event.TheVariants.{Strand, Call, Spawn, Ret, Sync}
-use Rattle.spp_maxplus.specs.declared.Burdens.{Burdens}
+use Rattle.spp_maxplus.specs.declared.state.Burdens.{Burdens}
 use Rattle.spp_dag.specs.Trace.{event_at, weight, spawns, partner, owner, join, is_spawned}
 
 -- out of the return at u of the frame opened at o: of a spawned one to its join, of a called one to what follows

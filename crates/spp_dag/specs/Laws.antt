@@ -5,7 +5,7 @@ use Rattle.spp_frame.specs.declared.Why.{Why}
 use Rattle.spp_frame.specs.declared.Why.TheVariants as why
 use Rattle.spp_frame.specs.declared.Fault.{Fault}
 use Rattle.spp_frame.specs.Nesting as nesting
-use Rattle.spp_maxplus.specs.declared.Burdens.{Burdens}
+use Rattle.spp_maxplus.specs.declared.state.Burdens.{Burdens}
 use Rattle.spp_maxplus.specs.State.{unburdened, close, taken}
 use Rattle.spp_dag.specs.declared.row.Row.{Row}
 use Rattle.spp_dag.specs.declared.stack.OpenFrame.{OpenFrame}

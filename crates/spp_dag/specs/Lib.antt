@@ -9,3 +9,4 @@ pub mod Laws
 pub mod Limits
 pub mod Choices
 pub mod WorkedRows
+pub mod Steps

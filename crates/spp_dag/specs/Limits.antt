@@ -2,7 +2,7 @@
 use Rattle.std.specs.Prelude.{ℕ, ◌+◌, ◌≤◌, ◌<◌, ◌^◌, Bool, List, [], ◌∷◌, length, Option}
 use Rattle.spp_event.specs.declared.records.Event.{Event}
 use Rattle.spp_frame.specs.Nesting as nesting
-use Rattle.spp_maxplus.specs.declared.Burdens.{Burdens}
+use Rattle.spp_maxplus.specs.declared.state.Burdens.{Burdens}
 use Rattle.spp_maxplus.specs.State.{close}
 use Rattle.spp_dag.specs.declared.row.Row.{Row}
 use Rattle.spp_dag.specs.declared.stack.OpenFrame.{OpenFrame}

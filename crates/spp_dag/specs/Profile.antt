@@ -2,7 +2,7 @@
 -- on the path.
 use Rattle.std.specs.Prelude.{◌≡◌, ℕ, List, ◌∷◌, length, Option}
 use Rattle.spp_event.specs.declared.records.Event.{Event}
-use Rattle.spp_maxplus.specs.declared.Burdens.{Burdens}
+use Rattle.spp_maxplus.specs.declared.state.Burdens.{Burdens}
 use Rattle.spp_maxplus.specs.State.{unburdened}
 use Rattle.spp_frame.specs.Nesting as nesting
 use Rattle.spp_dag.specs.declared.row.Row.{Row}

@@ -28,6 +28,7 @@ ghost use Rattle.spp_dag.specs.Laws.{
   ProfileIsOne,
 };
 ghost use Rattle.spp_dag.specs.Choices.{EntryIsOne, RunningPasses, TakenIsChoice, ChildIsWaited};
+ghost use Rattle.spp_dag.specs.Steps.{EntryFollows, ShareFollows};
 ghost use Rattle.spp_dag.specs.WorkedRows.{Empty, LargeStrands, OneChild, EqualWays, EmptyChild, EqualChildren, NoSync, RecursiveCalls, RecursiveRoot, NestedChildren, TwoSyncs, CallBetween, ChildNotEntered};
 ghost use Rattle.spp_dag.specs.Limits.{WorkFits, WalkFits, StackFits, RowsFit};
 
@@ -81,6 +82,13 @@ pub fn share_laws()
     ensures add { SharesAdd }
     ensures whole { SharesMakeRows }
     ensures end { EndIsRoots }
+{}
+
+/// The laws of one event: what it makes of the open frames, their marks among it, and what it adds to each row. Its
+/// contract is what it is for.
+pub fn step_laws()
+    ensures entry { EntryFollows }
+    ensures share { ShareFollows }
 {}
 
 /// The laws of profiles: a well-formed trace has one. Its contract is what it is for.

@@ -7,7 +7,7 @@ mod row;
 mod stack;
 
 pub use laws::{
-    choice_laws, limit_laws, path_laws, profile_laws, share_laws, stack_laws, walk_laws,
+    choice_laws, limit_laws, path_laws, profile_laws, share_laws, stack_laws, step_laws, walk_laws,
     worked_rows,
 };
 pub use row::Row;

@@ -1,2 +1,3 @@
 pub mod Candidate
 pub mod State
+pub mod Seg

@@ -1,12 +1,16 @@
 -- What an event does to the state of the frame that it belongs to.
 use Rattle.std.specs.Prelude.{ℕ, ◌+◌, cond, nat_le, Option, Some, None}
-use Rattle.spp_maxplus.specs.declared.State.{State}
-use Rattle.spp_maxplus.specs.declared.Burdens.{Burdens}
+use Rattle.spp_maxplus.specs.declared.state.State.{State}
+use Rattle.spp_maxplus.specs.declared.state.Burdens.{Burdens}
 use Rattle.spp_maxplus.specs.Candidate.{greatest, better}
 
 -- no edge bears anything
 abbrev pub unburdened : Burdens
 unburdened = record { on_continuation = 0; on_return = 0 }
+
+-- edges of both kinds bear the same
+abbrev pub both : ℕ → Burdens
+both burden = record { on_continuation = burden; on_return = burden }
 
 -- a frame that was just opened
 abbrev pub start : State

@@ -2,3 +2,4 @@ pub mod Devices
 pub mod Sinks
 pub mod Appended
 pub mod OutSinks
+pub mod Figures

@@ -1,9 +1,15 @@
 //! The commands and their options, as `clap` is told of them. It writes the texts of help and usage.
 
-use clap::{Arg, Command};
+use clap::{Arg, Command, value_parser};
 use std::alloc::{AllocError, Global};
 
 const ABOUT: &str = "A call-site profiler for recorded fork-join runs";
+
+/// The burden where none is given, in instructions.
+pub(crate) const DEFAULT_BURDEN: u32 = 15000;
+
+/// The same as a word.
+const DEFAULT_BURDEN_WORD: &str = "15000";
 
 const STATUSES: &str = "Exit status:
   0  the answer stands on standard output, whole
@@ -26,6 +32,16 @@ fn command_over<'a>(
         .arg(file)
 }
 
+/// The burden of an edge where a thief may take over.
+fn burden<'a>(alloc: Global) -> Arg<'a> {
+    Arg::new(alloc, "burden")
+        .long("burden")
+        .value_name("N")
+        .value_parser(value_parser!(u32))
+        .default_value(DEFAULT_BURDEN_WORD)
+        .help("Instructions that a stolen continuation costs")
+}
+
 /// The whole command line. It lives as long as the words that it is to read.
 pub(crate) fn command_line<'a>(alloc: Global) -> Result<Command<'a>, AllocError> {
     let check = command_over(
@@ -34,6 +50,13 @@ pub(crate) fn command_line<'a>(alloc: Global) -> Result<Command<'a>, AllocError>
         "Check a trace, and print its work",
         "The trace; without it standard input is read",
     )?;
+    let figures = command_over(
+        alloc,
+        "figures",
+        "Print the work, the span and the burdened span of a run",
+        "The trace; without it standard input is read",
+    )?
+    .arg(burden(alloc))?;
     let encode = command_over(
         alloc,
         "encode",
@@ -46,5 +69,6 @@ pub(crate) fn command_line<'a>(alloc: Global) -> Result<Command<'a>, AllocError>
         .subcommand_required(true)
         .disable_help_subcommand(true)
         .subcommand(check)?
+        .subcommand(figures)?
         .subcommand(encode)
 }

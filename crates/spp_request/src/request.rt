@@ -3,7 +3,7 @@ ghost use Rattle.std.specs.Prelude.{◌≡◌, IfErr, IfOk};
 ghost use Rattle.spp_request.specs.Usage.{EndsByUsage};
 ghost use Rattle.spp_request.specs.declared.request.UsageFault.TheVariants.{Memory};
 
-use crate::command_line::command_line;
+use crate::command_line::{DEFAULT_BURDEN, command_line};
 use clap::Error;
 use clap::error::ErrorKind;
 use std::alloc::{AllocError, AllocFailed, Global};
@@ -14,6 +14,8 @@ use std::convert::AsStr;
 pub enum Command {
     /// Check a trace and print its work.
     Check,
+    /// Print the work, the span and the burdened span of a run.
+    Figures,
     /// Read a trace as text and write its bytes.
     Encode,
 }
@@ -25,6 +27,8 @@ pub struct Request {
     pub command: Command,
     /// The paths of its inputs, in order; where there is none, standard input is read.
     pub files: Vec<String>,
+    /// What an edge bears where a thief may take over, in instructions; 15,000 where none is given.
+    pub burden: u32,
 }
 
 /// Why words are no request.
@@ -74,6 +78,7 @@ fn shown(alloc: Global, error: Error) -> UsageFault
 fn command_of(name: &str) -> Option<Command> {
     match name {
         "check" => Some(Command::Check),
+        "figures" => Some(Command::Figures),
         "encode" => Some(Command::Encode),
         _ => None,
     }
@@ -112,5 +117,10 @@ pub fn read_request<S: AsStr>(alloc: Global, words: &[S]) -> Result<Request, Usa
     if let Some(path) = given.get_str("FILE") {
         files.push(path.to_string(alloc)?)?;
     }
-    Ok(Request { command, files })
+    let burden = given.get_one::<u32>("burden").unwrap_or(DEFAULT_BURDEN);
+    Ok(Request {
+        command,
+        files,
+        burden,
+    })
 }

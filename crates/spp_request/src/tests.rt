@@ -1,14 +1,24 @@
 use crate::{Command, Request, UsageFault, read_request};
 
-/// Whether the words ask for this command over these files.
-fn asks(rt: &impl AllocGlobal, words: &[&str], wanted: Command, files: &[&str]) -> bool {
+/// Whether the words ask for this command over these files, with this burden.
+fn asks(
+    rt: &impl AllocGlobal,
+    words: &[&str],
+    wanted: Command,
+    files: &[&str],
+    bears: u32,
+) -> bool {
     match read_request(rt.alloc(), words) {
         Ok(
             Request {
                 command,
                 files: given,
+                burden,
             },
-        ) => command == wanted && given.iter().map(|f| f.as_str()).eq(files.iter().copied()),
+        ) => {
+            let same = given.iter().map(|f| f.as_str()).eq(files.iter().copied());
+            command == wanted && same && burden == bears
+        }
         Err(_) => false,
     }
 }
@@ -34,8 +44,9 @@ const HELP: &str = "A call-site profiler for recorded fork-join runs
 Usage: spprof <COMMAND>
 
 Commands:
-  check   Check a trace, and print its work
-  encode  Read a trace as text, and write its bytes
+  check    Check a trace, and print its work
+  figures  Print the work, the span and the burdened span of a run
+  encode   Read a trace as text, and write its bytes
 
 Options:
   -h, --help  Print help
@@ -57,6 +68,25 @@ Arguments:
 
 Options:
   -h, --help  Print help
+
+Exit status:
+  0  the answer stands on standard output, whole
+  1  the input is no good trace or text; standard error says why in one line
+  2  the command line is wrong
+  3  a file or stream could not be read or written
+  4  out of memory
+";
+
+const HELP_OF_FIGURES: &str = "Print the work, the span and the burdened span of a run
+
+Usage: spprof figures [OPTIONS] [FILE]
+
+Arguments:
+  [FILE]  The trace; without it standard input is read
+
+Options:
+      --burden <N>  Instructions that a stolen continuation costs [default: 15000]
+  -h, --help        Print help
 
 Exit status:
   0  the answer stands on standard output, whole
@@ -108,7 +138,7 @@ For more information, try '--help'.
 ";
 
 const NO_COMMAND: &str = "error: 'spprof' requires a subcommand but one was not provided
-  [subcommands: check, encode]
+  [subcommands: check, figures, encode]
 
 Usage: spprof <COMMAND>
 
@@ -117,14 +147,38 @@ For more information, try '--help'.
 
 #[test]
 fn each_command_is_a_request(rt: HostRuntime) {
-    for (name, command) in [("check", Command::Check), ("encode", Command::Encode)] {
+    for (name, command) in [
+        ("check", Command::Check),
+        ("figures", Command::Figures),
+        ("encode", Command::Encode),
+    ] {
         for (words, files) in [
             (["spprof", name].as_slice(), [].as_slice()),
             (["spprof", name, "a b"].as_slice(), ["a b"].as_slice()),
             (["spprof", name, "--", "-a"].as_slice(), ["-a"].as_slice()),
         ] {
-            assert!(rt; asks(&rt, words, command, files), "{name}");
+            assert!(rt; asks(&rt, words, command, files, 15000), "{name}");
         }
+    }
+}
+
+#[test]
+fn a_burden_is_read(rt: HostRuntime) {
+    for (words, burden) in [
+        (["spprof", "figures", "--burden", "0"].as_slice(), 0),
+        (["spprof", "figures", "--burden=3"].as_slice(), 3),
+        (
+            ["spprof", "figures", "--burden", "4294967295"].as_slice(),
+            u32::MAX,
+        ),
+    ] {
+        assert!(rt; asks(&rt, words, Command::Figures, [].as_slice(), burden));
+    }
+    for word in ["4294967296", "-1", "x", ""] {
+        assert!(rt; is_refused(&rt, ["spprof", "figures", "--burden", word].as_slice()));
+    }
+    for command in ["check", "encode"] {
+        assert!(rt; is_refused(&rt, ["spprof", command, "--burden", "3"].as_slice()));
     }
 }
 
@@ -134,6 +188,7 @@ fn help_is_shown_with_status_0(rt: HostRuntime) {
         (["spprof", "--help"].as_slice(), HELP),
         (["spprof", "-h"].as_slice(), HELP),
         (["spprof", "check", "--help"].as_slice(), HELP_OF_CHECK),
+        (["spprof", "figures", "--help"].as_slice(), HELP_OF_FIGURES),
         (["spprof", "encode", "--help"].as_slice(), HELP_OF_ENCODE),
     ] {
         assert!(rt; shows(&rt, words, 0, text));

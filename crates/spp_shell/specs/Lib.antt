@@ -4,6 +4,7 @@ pub mod Refusals
 pub mod InSources
 pub mod Check
 pub mod Encode
+pub mod Figures
 pub mod Requests
 pub mod Tasks
 pub mod Endings

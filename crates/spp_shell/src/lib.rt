@@ -3,6 +3,7 @@
 
 mod check_task;
 mod encode_task;
+mod figures_task;
 mod in_source;
 mod reading;
 mod running;

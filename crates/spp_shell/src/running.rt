@@ -6,6 +6,7 @@ ghost use Rattle.spp_shell.specs.Requests.{text_for, line_for};
 
 use crate::check_task::Check;
 use crate::encode_task::Encode;
+use crate::figures_task::FiguresTask;
 use crate::reading::{ReadFault, read_all};
 use crate::source::Source;
 use crate::status::{BAD_INPUT, DEVICE, GOOD, MEMORY};
@@ -98,10 +99,16 @@ pub fn run<S: Source, O: Sink, E: Sink>(
       OutUntouched = out.new ≡ out.old;
       Told = ToldLine E.took E.finished E.failures err.old err.new;
       Silent = err.new ≡ err.old;
-    }) (text_for request.now.command) (line_for request.now.command) result }
+    }) (text_for request.now.command request.now.burden) (line_for request.now.command) result }
 {
     match request.command {
         Command::Check => run_task(alloc, &Check, first, out, err),
+        Command::Figures => {
+            let task = FiguresTask {
+                burden: request.burden,
+            };
+            run_task(alloc, &task, first, out, err)
+        }
         Command::Encode => run_task(alloc, &Encode, first, out, err),
     }
 }

@@ -4,4 +4,5 @@ mod commands;
 mod devices;
 mod encodes;
 mod fakes;
+mod figures;
 mod runs;

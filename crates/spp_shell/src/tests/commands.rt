@@ -5,11 +5,12 @@ use crate::run;
 use spp_request::{Command, Request};
 use std::alloc::Global;
 
-/// A request for this over standard input.
+/// A request for this over standard input, with a burden of 3.
 pub fn request_for(alloc: Global, command: Command) -> Request {
     Request {
         command,
         files: Vec::new(alloc),
+        burden: 3,
     }
 }
 

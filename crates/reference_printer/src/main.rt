@@ -1,0 +1,99 @@
+//! Prints what the reference profiler answers for each of the traces on standard input. They stand there as text, each
+//! ended by a line `---`. For the test that it gives the numbers of another program, which was written from the
+//! definitions alone in another language.
+#![tactic(auto)]
+
+use spp_dag::Row;
+use spp_event::open_trace;
+use spp_maxplus::Burdens;
+use spp_reference::{Reference, ReferenceFault, Table, profile};
+use spp_shell::{InSource, read_all};
+use spp_text::parse_text;
+use std::alloc::Global;
+use std::io;
+use std::process::ExitCode;
+
+/// The burden of the first burdened span, on edges of both kinds.
+const BURDEN: u32 = 3;
+
+/// The burdens of the second.
+const BURDENS: Burdens = Burdens {
+    on_continuation: 2,
+    on_return: 7,
+};
+
+/// The profile of the trace that the text names, with these burdens; none where there isn't one.
+fn profiled(alloc: Global, text: &str, burdens: Burdens) -> Option<Reference> {
+    let bytes = parse_text(alloc, text).ok()?;
+    let trace = open_trace(alloc, bytes.as_slice()).ok()?;
+    profile(alloc, &trace, burdens).ok()
+}
+
+fn print_row(rt: &impl Print, row: &Row) -> io::Result<()> {
+    println!(rt;
+        "{} {} | {} {} {} | {} {} {}",
+        row.count,
+        row.local,
+        row.site_count,
+        row.site_work,
+        row.site_span,
+        row.caller_count,
+        row.caller_work,
+        row.caller_span
+    )
+}
+
+fn print_table(rt: &impl Print, name: &str, table: &Table) -> io::Result<()> {
+    print!(rt; "{name}, root: ")?;
+    print_row(rt, &table.root)?;
+    for (site, row) in table.sites.iter().enumerate() {
+        print!(rt; "{name}, site {site}: ")?;
+        print_row(rt, row)?;
+    }
+    Ok(())
+}
+
+fn print_profile(rt: &impl Print, one: &Reference, other: &Reference) -> io::Result<()> {
+    println!(rt; "work {}", one.work)?;
+    println!(rt; "span {}", one.span)?;
+    println!(rt;
+        "burdened {} and {}",
+        one.burdened_span, other.burdened_span
+    )?;
+    print!(rt; "path")?;
+    for at in &one.path {
+        print!(rt; " {at}")?;
+    }
+    println!(rt; "")?;
+    print!(rt; "marks")?;
+    for mark in &one.marks {
+        print!(rt; " {}", u8::from(*mark))?;
+    }
+    println!(rt; "")?;
+    print_table(rt, "dag", &one.dag_rows)?;
+    print_table(rt, "path", &one.path_rows)
+}
+
+fn main(rt: HostRuntime) -> io::Result<ExitCode> {
+    let alloc = rt.alloc();
+    let Ok(bytes) = read_all(alloc, &mut InSource::new(rt.reader())) else {
+        return Ok(ExitCode::FAILURE);
+    };
+    let Ok(mut rest) = str::from_utf8(bytes.as_slice()) else {
+        return Ok(ExitCode::FAILURE);
+    };
+    for number in 0..bytes.len() {
+        let Some((text, others)) = rest.split_once("---\n") else {
+            break;
+        };
+        rest = others;
+        println!(rt; "trace {number}")?;
+        let one = profiled(alloc, text, Burdens::both(BURDEN));
+        let other = profiled(alloc, text, BURDENS);
+        match (one, other) {
+            (Some(one), Some(other)) => print_profile(&rt, &one, &other)?,
+            _ => println!(rt; "no profile")?,
+        }
+    }
+    Ok(ExitCode::SUCCESS)
+}

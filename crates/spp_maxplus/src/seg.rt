@@ -1,0 +1,105 @@
+//! What many events do to the state of one frame.
+
+ghost use Rattle.std.specs.Prelude.{◌≡◌, ◌+◌, ◌<◌, ◌≤◌, ◌^◌};
+ghost use Rattle.spp_maxplus.specs.declared.state.State.{State as AState};
+ghost use Rattle.spp_maxplus.specs.State.{after_strand, after_call, after_spawn, after_sync};
+ghost use Rattle.spp_maxplus.specs.Seg.{act, idle as idle_seg, along as along_seg, spawned as spawned_seg, synced as synced_seg, peak, rise};
+
+use crate::candidate::{better, greatest, shifted};
+use crate::state::{Burdens, State};
+
+/// What a list of events does to the state of the frame in which it begins and ends: the frames that it opens it also
+/// closes, and of the children that it waits for some may have been spawned before it.
+#[derive(Clone, Copy, Debug, Default, PartialEq, Eq)]
+pub struct Seg {
+    /// The greatest weight along the frame from the list's beginning to its last sync; none where it has no sync.
+    pub head: Option<u128>,
+    /// The weight along the frame after that.
+    pub add: u128,
+    /// The greatest weight through a child that was spawned after that, counted from there, with the position of its
+    /// spawn; of equal ones the first.
+    pub offer: Option<(u128, u32)>,
+}
+
+impl Seg {
+    /// No events.
+    pub fn idle() -> Self
+        ensures value { result ≡ idle_seg }
+        ensures acts { (s : AState) → act result s ≡ s }
+    {
+        Seg {
+            head: None,
+            add: 0,
+            offer: None,
+        }
+    }
+
+    /// A strand of that many instructions.
+    pub fn strand(count: u64) -> Self
+        ensures value { result ≡ along_seg count }
+        ensures acts { (s : AState) → act result s ≡ after_strand count s }
+    {
+        Seg {
+            head: None,
+            add: u128::from(count),
+            offer: None,
+        }
+    }
+
+    /// A called child that closed with this weight.
+    pub fn call(weight: u128) -> Self
+        ensures value { result ≡ along_seg weight }
+        ensures acts { (s : AState) → act result s ≡ after_call weight s }
+    {
+        Seg {
+            head: None,
+            add: weight,
+            offer: None,
+        }
+    }
+
+    /// A child that was spawned at the position `at` and closed with this weight. The burdens are those of the states
+    /// that it is for: none where spans are measured without them.
+    pub fn spawn(at: u32, weight: u128, burdens: Burdens) -> Self
+        requires { weight + burdens.on_return < 2 ^ 127 }
+        ensures value { result ≡ spawned_seg at weight burdens }
+        ensures acts { (s : AState) → act result s ≡ after_spawn at weight burdens s }
+    {
+        Seg {
+            head: None,
+            add: u128::from(burdens.on_continuation),
+            offer: Some((weight + u128::from(burdens.on_return), at)),
+        }
+    }
+
+    /// A sync.
+    pub fn sync() -> Self
+        ensures value { result ≡ synced_seg }
+        ensures acts { (s : AState) → act result s ≡ after_sync s }
+    {
+        Seg {
+            head: Some(0),
+            add: 0,
+            offer: None,
+        }
+    }
+
+    /// What the events make of a state.
+    pub fn apply(&self, state: State) -> State
+        requires { peak state + rise self.now < 2 ^ 127 }
+        ensures value { result ≡ act self.now state }
+        ensures bound { peak result ≤ peak state + rise self.now }
+    {
+        let synced = match self.head {
+            None => state,
+            Some(head) => State {
+                spine: greatest(state.spine + head, state.child),
+                child: None,
+            },
+        };
+        State {
+            spine: synced.spine + self.add,
+            child: better(synced.child, shifted(synced.spine, self.offer)),
+        }
+    }
+}

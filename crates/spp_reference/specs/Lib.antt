@@ -1,0 +1,5 @@
+pub mod Dags
+pub mod Walks
+pub mod Sums
+pub mod Places
+pub mod Profiles

@@ -1,0 +1,126 @@
+//! The profiler that runs on one thread.
+#![tactic(auto)]
+
+ghost use Rattle.std.specs.Prelude.{◌≡◌, ◌≤◌, ◌^◌, IfOk, IfErr, Some};
+ghost use Rattle.spp_maxplus.specs.State.{both};
+ghost use Rattle.spp_piece.specs.Figures.{AreFigures};
+ghost use Rattle.spp_serial.specs.Answers.{IsFaultOf};
+ghost use Rattle.spp_serial.specs.Texts.{profile_fault_text};
+ghost use Rattle.spp_serial.specs.declared.ProfileFault.TheVariants.{Memory as MemoryFault};
+
+mod stack;
+
+use crate::stack::Stack;
+use spp_event::{Event, EventReader, Trace};
+use spp_frame::{Fault, Why};
+use spp_maxplus::Burdens;
+use spp_piece::Figures;
+use std::alloc::{AllocError, Global};
+use std::error::Error;
+use std::fmt;
+
+/// The profile of a run.
+#[derive(Clone, Copy, Debug, PartialEq, Eq)]
+pub struct Profile {
+    /// Its work, span and burdened span.
+    pub figures: Figures,
+}
+
+/// Why a run has no profile.
+#[derive(Clone, Copy, Debug, PartialEq, Eq)]
+pub enum ProfileFault {
+    /// Its trace isn't well-formed; this is the first bad event.
+    Bad(Fault),
+    /// A growth was refused.
+    Memory,
+}
+
+impl fmt::Display for ProfileFault {
+    ghost output = { λ f. Some (profile_fault_text f) };
+
+    fn fmt<W: fmt::Write>(&self, f: &mut fmt::Formatter<W>) -> fmt::Result {
+        match self {
+            ProfileFault::Bad(fault) => write!(f, "bad event {fault}"),
+            ProfileFault::Memory => write!(f, "out of memory"),
+        }
+    }
+}
+
+impl Error for ProfileFault {}
+
+impl From<AllocError> for ProfileFault {
+    ghost from_gives = { λ _ e. e ≡ MemoryFault };
+
+    fn from(_e: AllocError) -> ProfileFault {
+        ProfileFault::Memory
+    }
+}
+
+/// The profile of a run, whose edges bear `burden` instructions where a thief may take over.
+///
+/// The events are read once, in time linear in their number; the memory is linear in the number of frames that are open
+/// at a time.
+///
+/// # Errors
+///
+/// The first bad event, or `Memory` where a growth was refused.
+pub fn profile_serial(
+    alloc: Global,
+    trace: &Trace<'_>,
+    burden: u32,
+) -> Result<Profile, ProfileFault>
+    ensures figures { IfOk result (λ p. AreFigures trace.now.records (both burden) p.figures) }
+    ensures small { IfOk result (λ p. p.figures.work ≤ 2 ^ 92) }
+    ensures fault { IfErr result (λ f. IsFaultOf trace.now.records f) }
+{
+    let burdens = Burdens::both(burden);
+    let mut events = EventReader::new(trace);
+    let mut stack = Stack::new(alloc, trace.root());
+    let mut work: u128 = 0;
+    for at in 0..trace.count() {
+        let event = match events.event_at(at) {
+            Ok(event) => event,
+            Err(fault) => {
+                return Err(ProfileFault::Bad(Fault {
+                    at,
+                    why: Why::Event(fault),
+                }));
+            }
+        };
+        match event {
+            Event::Strand { count } => {
+                work += u128::from(count);
+                stack.strand(count);
+            }
+            Event::Call { site, func } => stack.call(at, site, func)?,
+            Event::Spawn { site, func } => stack.spawn(at, site, func)?,
+            Event::Ret => {
+                if !stack.ret(burdens) {
+                    return Err(ProfileFault::Bad(Fault {
+                        at,
+                        why: Why::RootReturn,
+                    }));
+                }
+            }
+            Event::Sync => stack.sync(),
+        }
+    }
+    let depth = stack.depth();
+    if depth > 0 {
+        return Err(ProfileFault::Bad(Fault {
+            at: trace.count(),
+            why: Why::Unclosed { depth },
+        }));
+    }
+    let root = stack.top();
+    Ok(Profile {
+        figures: Figures {
+            work,
+            span: root.plain.close(),
+            burdened: root.burdened.close(),
+        },
+    })
+}
+
+#[cfg(test)]
+mod tests;

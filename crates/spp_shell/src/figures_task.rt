@@ -1,0 +1,37 @@
+//! The task `figures`: the work, the span and the burdened span of a run, or its trace's first fault.
+ghost use Rattle.std.specs.Prelude.{◌≡◌, IfErr};
+ghost use Rattle.spp_shell.specs.Tasks.{IfLine};
+ghost use Rattle.spp_shell.specs.Check.{IsCheckLine};
+ghost use Rattle.spp_shell.specs.Figures.{IsFiguresText};
+
+use crate::check_task::{line_of_event, refusal_of_header};
+use crate::task::{Refusal, Task};
+use spp_event::open_trace;
+use spp_report::figures_text;
+use spp_serial::{ProfileFault, profile_serial};
+use std::alloc::Global;
+
+/// Tells the figures of a run.
+#[derive(Drop)]
+pub(crate) struct FiguresTask {
+    /// What an edge bears where a thief may take over, in instructions.
+    pub(crate) burden: u32,
+}
+
+impl Task for FiguresTask {
+    ghost text_for = { λ task. IsFiguresText task.burden };
+
+    ghost line_for = { λ _. IsCheckLine };
+
+    fn answer(&self, alloc: Global, bytes: &[u8]) -> Result<Vec<u8>, Refusal> {
+        let trace = match open_trace(alloc, bytes) {
+            Ok(trace) => trace,
+            Err(fault) => return Err(refusal_of_header(alloc, fault)),
+        };
+        match profile_serial(alloc, &trace, self.burden) {
+            Ok(profile) => Ok(figures_text(alloc, &profile.figures)?),
+            Err(ProfileFault::Bad(fault)) => Err(Refusal::Line(line_of_event(alloc, fault)?)),
+            Err(ProfileFault::Memory) => Err(Refusal::Memory),
+        }
+    }
+}

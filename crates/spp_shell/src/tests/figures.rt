@@ -1,0 +1,53 @@
+//! Runs of `figures`.
+
+use super::commands::command_ends_with;
+use spp_request::Command;
+use std::alloc::Global;
+
+/// A strand of 1, a child that is spawned with a strand of 10, a strand of 4 beside it, a sync, and a strand of 2.
+const SMALL: &[u8] = b"SPTRACE1\x00\x00\x00\x02\x00\x00\x00\x01\x00\x00\x00\x00\x00\x00\x00\x07\
+\x00\x04main\x00\x01f\x00\x01A\
+\x00\x00\x00\x00\x00\x00\x00\x00\x00\x00\x00\x00\x00\x00\x00\x01\
+\x02\x00\x00\x00\x00\x00\x00\x00\x00\x00\x00\x01\x00\x00\x00\x00\
+\x00\x00\x00\x00\x00\x00\x00\x00\x00\x00\x00\x00\x00\x00\x00\x0a\
+\x03\x00\x00\x00\x00\x00\x00\x00\x00\x00\x00\x00\x00\x00\x00\x00\
+\x00\x00\x00\x00\x00\x00\x00\x00\x00\x00\x00\x00\x00\x00\x00\x04\
+\x04\x00\x00\x00\x00\x00\x00\x00\x00\x00\x00\x00\x00\x00\x00\x00\
+\x00\x00\x00\x00\x00\x00\x00\x00\x00\x00\x00\x00\x00\x00\x00\x02";
+
+const FIGURES: &str = "work 17
+span 13
+burdened 16
+parallelism 1.30
+burdened parallelism 1.06
+";
+
+/// Whether `figures` of the bytes ends with this status, output and line of fault.
+fn ends_with(alloc: Global, bytes: &[u8], ends: u8, text: &str, line: &str) -> bool {
+    command_ends_with(
+        alloc,
+        Command::Figures,
+        bytes,
+        ends,
+        text.as_bytes(),
+        line.as_bytes(),
+    )
+}
+
+#[test]
+fn a_good_trace_prints_its_figures(rt: HostRuntime) {
+    assert!(rt; ends_with(rt.alloc(), SMALL, 0, FIGURES, ""));
+}
+
+#[test]
+fn a_trace_without_figures_is_told_in_one_line(rt: HostRuntime) {
+    for (length, line) in [
+        (23, "bad header: short\n"),
+        (36, "bad event 0: truncated\n"),
+        (68, "bad event 2: truncated\n"),
+    ] {
+        if let Some(bytes) = SMALL.get(..length) {
+            assert!(rt; ends_with(rt.alloc(), bytes, 1, "", line), "{line}");
+        }
+    }
+}

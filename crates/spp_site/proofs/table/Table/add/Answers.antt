@@ -1,0 +1,63 @@
+use Rattle.std.proofs.Common.{◌≡◌, sym, ◌∙◌, ap, subst, arith, length, slice_set}
+use Rattle.spp_dag.specs.Shares.{plus}
+use Rattle.spp_site.specs.Rows.{Fits}
+use Rattle.spp_site.specs.Table.{row_at, IsAdded}
+use Rattle.spp_site.specs.Slots.{stored, HasNoRow, IsPlaceOf, IsIndexed}
+use Rattle.spp_site.proofs.Stored.{stored_no_zero}
+use Rattle.spp_site.proofs.Places.{grown_indexed, place_fits}
+use Rattle.spp_site.proofs.Adding.{found_row, summed, pushed, placed}
+use Rattle.spp_site.proofs.table.Table.add.Goals as goal
+
+pub sum-row-requires : goal.sum-row-requires
+sum-row-requires c =
+    let at = subst (λ r. IsPlaceOf r c.args.site c.in-Some.place) c.deref-2.ensures.value c.in-Some.ensures in
+    let found = found_row c.self.inside.root c.self.inside.index.items c.self.inside.rows.items c.self.invariant c.args.site c.in-Some.place at c.index.result.now c.index.ensures in
+    subst (λ r. Fits (plus r c.args.row.now)) (sym (found ∙ ap (λ t. row_at t c.args.site) c.self.view_is)) c.requires
+
+pub returns-in-Some-clause-added : goal.returns-in-Some-clause-added
+returns-in-Some-clause-added c =
+    let at = subst (λ r. IsPlaceOf r c.args.site c.in-Some.place) c.deref-2.ensures.value c.in-Some.ensures in
+    subst (λ t. IsAdded t (stored c.self.inside.root (slice_set c.self.inside.rows.items c.in-Some.place (record { site = c.args.site; row = c.sum-row.result }))) c.args.site c.args.row.now) c.self.view_is
+    (summed c.self.inside.root c.self.inside.index.items c.self.inside.rows.items c.self.invariant c.args.site c.in-Some.place at c.index.result.now c.index.ensures
+    c.args.row.now c.sum-row.result c.sum-row.ensures)
+
+pub returns-in-Some-clause-no_zero_row : goal.returns-in-Some-clause-no_zero_row
+returns-in-Some-clause-no_zero_row c = stored_no_zero c.self.inside.root (slice_set c.self.inside.rows.items c.in-Some.place (record { site = c.args.site; row = c.sum-row.result }))
+
+pub returns-in_err-reach-clause-no_zero_row : goal.returns-in_err-reach-clause-no_zero_row
+returns-in_err-reach-clause-no_zero_row c = stored_no_zero c.self.inside.root c.self.inside.rows.items
+
+pub overflow_cast-place : goal.overflow_cast-place
+overflow_cast-place c =
+    let grown = c.in_ok-reach.ensures.grown in
+    let h = grown_indexed c.self.inside.index.items c.reach.new.index.items c.self.inside.rows.items grown.0 c.self.invariant grown.1 c.in_ok-reach.ensures.small in
+    let free = subst (λ r. HasNoRow r c.args.site) c.deref-2.ensures.value c.in_default.ensures in
+    let last : c.len-place.result ≡ length c.self.inside.rows.items = c.len-place.ensures ∙ c.self.inside.rows.ok.0 in
+    let fits = place_fits c.reach.new.index.items c.self.inside.rows.items h c.args.site c.args.row.now c.in_ok-reach.ensures.reached free in
+    omega arith
+
+pub invariant_of-self-in_err-push : goal.invariant_of-self-in_err-push
+invariant_of-self-in_err-push c =
+    let grown = c.in_ok-reach.ensures.grown in
+    subst (λ r. IsIndexed c.reach.new.index.items r) (sym c.in_err-push.ensures.items)
+    (grown_indexed c.self.inside.index.items c.reach.new.index.items c.self.inside.rows.items grown.0 c.self.invariant grown.1 c.in_ok-reach.ensures.small)
+
+pub returns-in_err-push-clause-no_zero_row : goal.returns-in_err-push-clause-no_zero_row
+returns-in_err-push-clause-no_zero_row c = stored_no_zero c.self.inside.root c.push.new.self.items
+
+pub invariant_of-self-2 : goal.invariant_of-self-2
+invariant_of-self-2 c =
+    let grown = c.in_ok-reach.ensures.grown in
+    let h = grown_indexed c.self.inside.index.items c.reach.new.index.items c.self.inside.rows.items grown.0 c.self.invariant grown.1 c.in_ok-reach.ensures.small in
+    let free = subst (λ r. HasNoRow r c.args.site) c.deref-2.ensures.value c.in_default.ensures in
+    let last : c.len-place.result ≡ length c.self.inside.rows.items = c.len-place.ensures ∙ c.self.inside.rows.ok.0 in
+    placed c.reach.new.index.items c.self.inside.rows.items c.push.new.self.items c.args.site c.len-place.result c.args.row.now h c.in_ok-reach.ensures.reached free
+    last c.in_ok-push.ensures.items
+
+pub returns-clause-added : goal.returns-clause-added
+returns-clause-added c =
+    subst (λ t. IsAdded t (stored c.self.inside.root c.push.new.self.items) c.args.site c.args.row.now) c.self.view_is
+    (pushed c.self.inside.root c.self.inside.rows.items c.push.new.self.items c.args.site c.args.row.now c.in_ok-push.ensures.items)
+
+pub returns-clause-no_zero_row : goal.returns-clause-no_zero_row
+returns-clause-no_zero_row c = stored_no_zero c.self.inside.root c.push.new.self.items

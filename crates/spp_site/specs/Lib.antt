@@ -1,0 +1,4 @@
+pub mod Rows
+pub mod Table
+pub mod Slots
+pub mod Laws

@@ -1,0 +1,41 @@
+-- How a table is stored: the rows in the order in which their sites came, and for each site the place of its row.
+use Rattle.std.specs.Prelude.{◌≡◌, ℕ, ◌≤◌, ◌<◌, ◌^◌, cond, nat_eq, List, [], ◌∷◌, length, get_or}
+use Rattle.std.specs.Ordering.{nat_cmp}
+use Rattle.std.specs.FinMap as map
+use Rattle.spp_dag.specs.declared.row.Row.{Row}
+use Rattle.spp_dag.specs.Shares.{zero_row, plus}
+use Rattle.spp_site.specs.declared.table.SiteRow.{SiteRow}
+use Rattle.spp_site.specs.Rows.{is_zero}
+use Rattle.spp_site.specs.Table.{Sums}
+
+-- what stands at a place past the last
+abbrev pub blank : SiteRow
+blank = record { site = 0; row = zero_row }
+
+-- the sum of the rows of a site
+abbrev pub row_in : List SiteRow → ℕ → Row
+row_in [] site = zero_row
+row_in (e ∷ es) site = plus (cond (nat_eq site e.site) e.row zero_row) (row_in es site)
+
+-- these sums by their sites, without those that are zero
+abbrev pub sites_of : List SiteRow → map.FinMap nat_cmp Row
+sites_of [] = map.empty
+sites_of (e ∷ es) = cond (is_zero (row_in (e ∷ es) e.site)) (sites_of es) (map.insert (sites_of es) e.site (row_in (e ∷ es) e.site))
+
+-- what contracts see of what is stored
+abbrev pub stored : Row → List SiteRow → Sums
+stored root rows = record { root = root; sites = sites_of rows }
+
+-- no row is the site's
+abbrev pub HasNoRow : List SiteRow → ℕ → Type 0
+HasNoRow rows site = (k : ℕ) → k < length rows → (get_or rows k blank).site ≡ site → ⊥
+
+-- the row at place k is the site's
+abbrev pub IsPlaceOf : List SiteRow → ℕ → ℕ → Type 0
+IsPlaceOf rows site k = (k < length rows) × ((get_or rows k blank).site ≡ site)
+
+-- the index has the place of each row at its site, and is no longer than there are site numbers
+pub record IsIndexed (index : List ℕ) (rows : List SiteRow) : Type 0 where
+  pub placed : (k : ℕ) → k < length rows → get_or index (get_or rows k blank).site 0 ≡ k
+  pub inside : (k : ℕ) → k < length rows → (get_or rows k blank).site < length index
+  pub small : length index ≤ 2 ^ 32

@@ -1,0 +1,13 @@
+//! The table of rows by call site: the row of the root frame, and one for each site that was added to.
+#![tactic(auto)]
+
+mod laws;
+mod row_sums;
+mod table;
+
+pub use laws::table_laws;
+pub use spp_dag::Row;
+pub use table::Table;
+
+#[cfg(test)]
+mod tests;

@@ -1,0 +1,180 @@
+//! A table, stored as the rows in the order in which their sites came, with an index from sites to places.
+
+ghost use Rattle.std.specs.Prelude.{◌≡◌, ℕ, ◌≤◌, ◌<◌, ◌^◌, ◌++◌, length, replicate, MatchOption, OnOk, OnErr, IfOk};
+ghost use Rattle.spp_dag.specs.Shares.{plus};
+ghost use Rattle.spp_site.specs.Rows.{Fits};
+ghost use Rattle.spp_site.specs.Slots.{HasNoRow, IsPlaceOf, IsIndexed};
+ghost use Rattle.spp_site.specs.Table.{row_at, empty, HasNoZeroRow, IsAdded, IsSum};
+
+use crate::row_sums::sum;
+use spp_dag::Row;
+use std::alloc::{AllocError, Global};
+use std::marker::Model;
+
+/// The row of a site.
+#[derive(Clone, Copy, Debug, PartialEq, Eq)]
+struct SiteRow {
+    site: u32,
+    row: Row,
+}
+
+/// What the frames of a run, or of a part of it, add up to: a row for the root frame, and one for each call site. Works,
+/// spans and local counts are in instructions. A site that was never added to has the zero row.
+///
+/// A table takes about 128 bytes for each site that was added to, and 4 bytes for each site number up to the greatest of
+/// these, or up to twice that where it grew bit by bit.
+#[derive(Drop)]
+pub struct Table {
+    root: Row,
+    /// The place of each site's row. Where a site has no row this is any number: the row that stands there, if one does,
+    /// is another site's.
+    index: Vec<u32>,
+    rows: Vec<SiteRow>,
+}
+
+impl Model for Table {
+    ghost use Rattle.spp_site.specs.Table.{Sums, sums_code};
+
+    ghost Value = { Sums };
+
+    ghost coded = { sums_code };
+
+    ghost use Rattle.spp_site.specs.Slots.{stored, IsIndexed};
+
+    ghost view = { λ t. stored t.root t.rows.items };
+
+    ghost invariant = { λ t. IsIndexed t.index.items t.rows.items };
+}
+
+impl Table {
+    /// A table with no row but the root's, which is zero. It takes no memory.
+    pub fn new(alloc: Global) -> Table
+        ensures { result ≡ empty }
+    {
+        Table {
+            root: Row::default(),
+            index: Vec::new(alloc),
+            rows: Vec::new(alloc),
+        }
+    }
+
+    /// The row of the root frame.
+    pub fn root_row(&self) -> Row
+        ensures { result ≡ self.now.root }
+    {
+        self.root
+    }
+
+    /// Adds to the row of the root frame, whose sums must fit their types.
+    pub fn add_root(&mut self, row: &Row)
+        requires { Fits (plus self.old.root row.now) }
+        ensures { self.new ≡ record self.old { root = plus self.old.root row.now } }
+    {
+        self.root = sum(&self.root, row);
+    }
+
+    /// The row of a site.
+    pub fn row(&self, site: u32) -> Row
+        ensures { result ≡ row_at self.now site }
+    {
+        match place_of(&self.index, &self.rows, site) {
+            Some(place) => self.rows[place].row,
+            None => Row::default(),
+        }
+    }
+
+    /// Adds to the row of a site, whose sums must fit their types.
+    ///
+    /// It takes constant time where the site has a row. Where it has none the table grows, in constant time, amortized, for
+    /// each site number up to the greatest.
+    ///
+    /// # Errors
+    ///
+    /// Where a growth was refused; the table then has the rows that it had.
+    pub fn add(&mut self, site: u32, row: &Row) -> Result<(), AllocError>
+        requires { Fits (plus (row_at self.old site) row.now) }
+        ensures added { OnOk result (IsAdded self.old self.new site row.now) }
+        ensures stays { OnErr result (self.new ≡ self.old) }
+        ensures no_zero_row { HasNoZeroRow self.new }
+    {
+        if let Some(place) = place_of(&self.index, &self.rows, site) {
+            let row = sum(&self.rows[place].row, row);
+            self.rows[place] = SiteRow { site, row };
+            return Ok(());
+        }
+        reach(&mut self.index, site)?;
+        let place = self.rows.len() as u32;
+        self.rows.push(SiteRow { site, row: *row })?;
+        self.index[site as usize] = place;
+        Ok(())
+    }
+
+    /// A table with the same rows. It takes time linear in the size of the table.
+    ///
+    /// # Errors
+    ///
+    /// Where an allocation was refused.
+    pub fn copy(alloc: Global, table: &Table) -> Result<Table, AllocError>
+        ensures same { IfOk result (λ t. t ≡ table.now) }
+        ensures no_zero_row { IfOk result HasNoZeroRow }
+    {
+        let index = Vec::from_slice(alloc, &table.index)?;
+        let rows = Vec::from_slice(alloc, &table.rows)?;
+        Ok(Table {
+            root: table.root,
+            index,
+            rows,
+        })
+    }
+
+    /// The table whose rows are the sums of those of two tables, which must fit their types. It takes time linear in the
+    /// sizes of both.
+    ///
+    /// # Errors
+    ///
+    /// Where an allocation was refused.
+    pub fn merged(alloc: Global, left: &Table, right: &Table) -> Result<Table, AllocError>
+        requires root_fits { Fits (plus left.now.root right.now.root) }
+        requires sites_fit { (s : ℕ) → Fits (plus (row_at left.now s) (row_at right.now s)) }
+        ensures sums { IfOk result (IsSum left.now right.now) }
+        ensures no_zero_row { IfOk result HasNoZeroRow }
+    {
+        let mut merged = Table::copy(alloc, left)?;
+        merged.add_root(&right.root);
+        for entry in &right.rows {
+            merged.add(entry.site, &entry.row)?;
+        }
+        Ok(merged)
+    }
+}
+
+/// The place of a site's row, or none where the site has no row.
+fn place_of(index: &[u32], rows: &[SiteRow], site: u32) -> Option<usize>
+    requires { IsIndexed index.now rows.now }
+    ensures { MatchOption result (HasNoRow rows.now site) (IsPlaceOf rows.now site) }
+{
+    if site as usize >= index.len() {
+        return None;
+    }
+    let place = index[site as usize] as usize;
+    if place < rows.len() && rows[place].site == site {
+        Some(place)
+    } else {
+        None
+    }
+}
+
+/// Lengthens the index, where it doesn't reach a site.
+fn reach(index: &mut Vec<u32>, site: u32) -> Result<(), AllocError>
+    requires { length index.old.items ≤ 2 ^ 32 }
+    ensures reached { OnOk result (site < length index.new.items) }
+    ensures grown { (n : ℕ) × (index.new.items ≡ index.old.items ++ replicate n 0) }
+    ensures small { length index.new.items ≤ 2 ^ 32 }
+    ensures stays { OnErr result (index.new.items ≡ index.old.items) }
+{
+    let at = site as usize;
+    if at >= index.len() {
+        index.resize(at + 1, 0)?;
+    }
+    Ok(())
+}

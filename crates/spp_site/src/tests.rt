@@ -1,0 +1,107 @@
+use crate::{Row, Table};
+use std::test::Fail;
+
+/// The row `1 10 | 1 10 10 | 1 10 10`.
+const TEN: Row = Row {
+    count: 1,
+    local: 10,
+    site_count: 1,
+    site_work: 10,
+    site_span: 10,
+    caller_count: 1,
+    caller_work: 10,
+    caller_span: 10,
+};
+
+/// The row `2 20 | 2 20 20 | 2 20 20`.
+const TWENTY: Row = Row {
+    count: 2,
+    local: 20,
+    site_count: 2,
+    site_work: 20,
+    site_span: 20,
+    caller_count: 2,
+    caller_work: 20,
+    caller_span: 20,
+};
+
+/// The row `3 30 | 2 20 20 | 1 10 10`.
+const MIXED: Row = Row {
+    count: 3,
+    local: 30,
+    site_count: 2,
+    site_work: 20,
+    site_span: 20,
+    caller_count: 1,
+    caller_work: 10,
+    caller_span: 10,
+};
+
+/// The sum of `TEN` and `MIXED`, `4 40 | 3 30 30 | 2 20 20`.
+const TEN_AND_MIXED: Row = Row {
+    count: 4,
+    local: 40,
+    site_count: 3,
+    site_work: 30,
+    site_span: 30,
+    caller_count: 2,
+    caller_work: 20,
+    caller_span: 20,
+};
+
+#[test]
+fn a_new_table_has_zero_rows(rt: HostRuntime) -> Result<(), Fail> {
+    let table = Table::new(rt.alloc());
+    assert_eq!(rt; table.root_row(), Row::default());
+    for site in [0, 1, 65535, 4_294_967_295] {
+        assert_eq!(rt; table.row(site), Row::default(), "site {site}");
+    }
+    Ok(())
+}
+
+#[test]
+fn rows_add_up_by_site(rt: HostRuntime) -> Result<(), Fail> {
+    let mut table = Table::new(rt.alloc());
+    table.add(0, &TEN)?;
+    assert_eq!(rt; table.row(0), TEN);
+    table.add(0, &TEN)?;
+    assert_eq!(rt; table.row(0), TWENTY);
+    assert_eq!(rt; table.row(1), Row::default());
+    assert_eq!(rt; table.row(65535), Row::default());
+    assert_eq!(rt; table.root_row(), Row::default());
+    table.add(65535, &MIXED)?;
+    assert_eq!(rt; table.row(65535), MIXED);
+    assert_eq!(rt; table.row(65534), Row::default());
+    assert_eq!(rt; table.row(65536), Row::default());
+    assert_eq!(rt; table.row(0), TWENTY);
+    table.add_root(&TEN);
+    assert_eq!(rt; table.root_row(), TEN);
+    table.add_root(&MIXED);
+    assert_eq!(rt; table.root_row(), TEN_AND_MIXED);
+    assert_eq!(rt; table.row(0), TWENTY);
+    Ok(())
+}
+
+#[test]
+fn tables_merge_and_are_copied(rt: HostRuntime) -> Result<(), Fail> {
+    let mut left = Table::new(rt.alloc());
+    left.add_root(&TEN);
+    left.add(7, &TEN)?;
+    left.add(2, &TEN)?;
+    let mut right = Table::new(rt.alloc());
+    right.add_root(&MIXED);
+    right.add(65535, &MIXED)?;
+    right.add(2, &MIXED)?;
+    let both = Table::merged(rt.alloc(), &left, &right)?;
+    let copy = Table::copy(rt.alloc(), &both)?;
+    for table in [&both, &copy] {
+        assert_eq!(rt; table.root_row(), TEN_AND_MIXED);
+        assert_eq!(rt; table.row(7), TEN);
+        assert_eq!(rt; table.row(2), TEN_AND_MIXED);
+        assert_eq!(rt; table.row(65535), MIXED);
+        assert_eq!(rt; table.row(0), Row::default());
+    }
+    assert_eq!(rt; left.row(2), TEN);
+    assert_eq!(rt; right.row(2), MIXED);
+    Ok(())
+}
