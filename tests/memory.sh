@@ -54,8 +54,8 @@ probe_refused() {
         [ "$(requests)" -ge $at ] || break
         at=$((at + 1))
     done
-    # 38 calls, each with a request at least
-    [ $told -ge 38 ] || { fails "the calls: $told refusals were told"; return; }
+    # 44 calls, each with a request at least
+    [ $told -ge 44 ] || { fails "the calls: $told refusals were told"; return; }
     echo "memory: the calls: $((at - 1)) requests refused in turn, $told times told by the call"
     passed=$((passed + 1))
 }
@@ -99,6 +99,7 @@ each_refused 'check, a bad header' 1 '' 'bad header: short' "$folder/short" chec
 each_refused 'check, a bad event' 1 '' 'bad event 4: tag' "$folder/tag" check
 each_refused 'figures, a recorded trace' 0 'work 136861*' '' "$examples/cilksort.sptrace" figures
 each_refused 'figures, a bad event' 1 '' 'bad event 4: tag' "$folder/tag" figures --burden 3
+each_refused 'profile, a recorded trace' 0 'name,count*' '' "$examples/nqueens.sptrace" profile
 each_refused 'encode, a good text' 0 'SPTRACE1*' '' "$examples/small.txt" encode
 printf 'func f\nsync\nsync 1 2 3 4 5\n' > "$folder/text"
 each_refused 'encode, a bad text' 1 '' 'bad text line 3: count' "$folder/text" encode

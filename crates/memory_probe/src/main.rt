@@ -7,10 +7,11 @@ use spp_frame::check;
 use spp_maxplus::Burdens;
 use spp_piece::Figures;
 use spp_reference::{ReferenceFault, profile};
-use spp_report::{OutSink, figures_text};
+use spp_report::{OutSink, csv_of_table, figures_text};
 use spp_request::{Command, Request, UsageFault, read_request};
-use spp_serial::{ProfileFault, profile_serial};
+use spp_serial::{ProfileFault, figures_serial, profile_serial};
 use spp_shell::{InSource, ReadFault, read_all, read_within, run};
+use spp_site::Table;
 use spp_text::{PrintFault, TextFault, TextWhy, parse_text, print_text};
 use std::alloc::Global;
 use std::io;
@@ -36,6 +37,13 @@ span 13
 burdened 0
 parallelism 1.30
 burdened parallelism -
+";
+
+/// The text of a table without rows.
+const NO_ROWS: &str =
+    "name,count,local,site_count,site_work,site_span,caller_count,caller_work,caller_span
+(root),0,0,0,0,0,0,0,0
+A,0,0,0,0,0,0,0,0
 ";
 
 /// What a call answered.
@@ -86,13 +94,35 @@ fn profiled(alloc: Global) -> Answer {
         Err(HeaderFault::Memory) => return Answer::Memory,
         Err(_) => return Answer::Other,
     };
-    let figures = Figures {
-        work: 0,
-        span: 0,
-        burdened: 0,
-    };
     match profile_serial(alloc, &trace, 3) {
-        Ok(profile) if profile.figures == figures => Answer::Good,
+        Ok(profile) if profile.dag.row(0).count == 1 => Answer::Good,
+        Err(ProfileFault::Memory) => Answer::Memory,
+        _ => Answer::Other,
+    }
+}
+
+fn summed(alloc: Global) -> Answer {
+    let trace = match open_trace(alloc, NESTED) {
+        Ok(trace) => trace,
+        Err(HeaderFault::Memory) => return Answer::Memory,
+        Err(_) => return Answer::Other,
+    };
+    match csv_of_table(alloc, &trace, &Table::new(alloc)) {
+        Ok(text) if text.as_slice() == NO_ROWS.as_bytes() => Answer::Good,
+        Ok(_) => Answer::Other,
+        Err(_) => Answer::Memory,
+    }
+}
+
+/// The figures of the nested trace.
+fn measured(alloc: Global) -> Answer {
+    let trace = match open_trace(alloc, NESTED) {
+        Ok(trace) => trace,
+        Err(HeaderFault::Memory) => return Answer::Memory,
+        Err(_) => return Answer::Other,
+    };
+    match figures_serial(alloc, &trace, 3) {
+        Ok(figures) if figures.burdened == 0 => Answer::Good,
         Err(ProfileFault::Memory) => Answer::Memory,
         _ => Answer::Other,
     }
@@ -173,8 +203,9 @@ fn ran(alloc: Global, command: Command, bytes: &[u8], wanted: u8) -> Answer {
         command,
         files: Vec::new(alloc),
         burden: 3,
+        csv: false,
     };
-    let (mut text, mut line) = ([0u8; 128], [0u8; 64]);
+    let (mut text, mut line) = ([0u8; 256], [0u8; 64]);
     let mut out = OutSink::new(text.as_mut_slice());
     let mut err = OutSink::new(line.as_mut_slice());
     match run(
@@ -197,7 +228,9 @@ fn main(rt: HostRuntime) -> io::Result<()> {
         println!(rt; "print_text: {:?}", printed(alloc))?;
         println!(rt; "parse_text: {:?}", parsed(alloc))?;
         println!(rt; "parse_text, a fault: {:?}", misparsed(alloc))?;
+        println!(rt; "figures_serial: {:?}", measured(alloc))?;
         println!(rt; "profile_serial: {:?}", profiled(alloc))?;
+        println!(rt; "csv_of_table: {:?}", summed(alloc))?;
         println!(rt; "figures_text: {:?}", told(alloc))?;
         println!(rt; "the reference's profile: {:?}", referred(alloc))?;
         println!(rt;
@@ -214,6 +247,7 @@ fn main(rt: HostRuntime) -> io::Result<()> {
             ("a good trace", Command::Check, TRACE, 0),
             ("figures of a good trace", Command::Figures, NESTED, 0),
             ("figures of a bad trace", Command::Figures, &TRACE[..60], 1),
+            ("a table", Command::Profile, NESTED, 0),
             ("a bad header", Command::Check, &TRACE[..23], 1),
             ("a bad event", Command::Check, &TRACE[..60], 1),
             ("a good text", Command::Encode, TEXT.as_bytes(), 0),

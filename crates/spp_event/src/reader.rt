@@ -49,6 +49,7 @@ impl<'t, 'a> EventReader<'t, 'a> {
     /// # Errors
     ///
     /// The first fault of the record, in the order of [`EventFault`].
+    #[inline(always)]
     pub fn event_at(&mut self, i: u32) -> Result<Event, EventFault>
         requires { i < length self.old.records }
         ensures said { result ≡ record_at self.old.records i }
@@ -61,6 +62,17 @@ impl<'t, 'a> EventReader<'t, 'a> {
                 return event_of(record, self.trace.sites(), self.trace.funcs());
             }
         }
+        self.event_after(i)
+    }
+
+    /// The event at a position of which no copy is held; the records from there on are then.
+    #[inline(never)]
+    fn event_after(&mut self, i: u32) -> Result<Event, EventFault>
+        requires { i < length self.old.records }
+        ensures said { result ≡ record_at self.old.records i }
+        ensures within { IfOk result (λ e. IsEventOf (length self.old.sites) (length self.old.funcs) e) }
+        ensures same { self.new ≡ self.old }
+    {
         self.held = self.trace.copy_records(i, &mut self.block);
         self.first = i;
         self.trace.event_at(i)

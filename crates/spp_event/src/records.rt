@@ -93,6 +93,7 @@ pub fn record_of(event: Event) -> [u8; 16]
 
 /// The event that a whole record spells, or the first fault of the record. It reads two numbers of 64 bits, which
 /// is three times as fast as sixteen bytes.
+#[inline(always)]
 pub(crate) fn event_of(r: &[u8; 16], sites: u32, funcs: u32) -> Result<Event, EventFault>
     ensures said { result ≡ read_record sites funcs r.now }
     ensures within { IfOk result (λ e. IsEventOf sites funcs e) }

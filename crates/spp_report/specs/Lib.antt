@@ -3,3 +3,5 @@ pub mod Sinks
 pub mod Appended
 pub mod OutSinks
 pub mod Figures
+pub mod Csv
+pub mod CsvWriters

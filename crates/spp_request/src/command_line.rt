@@ -1,6 +1,6 @@
 //! The commands and their options, as `clap` is told of them. It writes the texts of help and usage.
 
-use clap::{Arg, Command, value_parser};
+use clap::{Arg, ArgAction, Command, value_parser};
 use std::alloc::{AllocError, Global};
 
 const ABOUT: &str = "A call-site profiler for recorded fork-join runs";
@@ -57,6 +57,18 @@ pub(crate) fn command_line<'a>(alloc: Global) -> Result<Command<'a>, AllocError>
         "The trace; without it standard input is read",
     )?
     .arg(burden(alloc))?;
+    let csv = Arg::new(alloc, "csv")
+        .long("csv")
+        .action(ArgAction::SetTrue)
+        .help("Print comma-separated values alone");
+    let profile = command_over(
+        alloc,
+        "profile",
+        "Print a table of the call sites of a run, as comma-separated values",
+        "The trace; without it standard input is read",
+    )?
+    .arg(burden(alloc))?
+    .arg(csv)?;
     let encode = command_over(
         alloc,
         "encode",
@@ -70,5 +82,6 @@ pub(crate) fn command_line<'a>(alloc: Global) -> Result<Command<'a>, AllocError>
         .disable_help_subcommand(true)
         .subcommand(check)?
         .subcommand(figures)?
+        .subcommand(profile)?
         .subcommand(encode)
 }

@@ -16,6 +16,8 @@ pub enum Command {
     Check,
     /// Print the work, the span and the burdened span of a run.
     Figures,
+    /// Print a table of the call sites of a run.
+    Profile,
     /// Read a trace as text and write its bytes.
     Encode,
 }
@@ -29,6 +31,8 @@ pub struct Request {
     pub files: Vec<String>,
     /// What an edge bears where a thief may take over, in instructions; 15,000 where none is given.
     pub burden: u32,
+    /// Whether comma-separated values are asked for.
+    pub csv: bool,
 }
 
 /// Why words are no request.
@@ -79,6 +83,7 @@ fn command_of(name: &str) -> Option<Command> {
     match name {
         "check" => Some(Command::Check),
         "figures" => Some(Command::Figures),
+        "profile" => Some(Command::Profile),
         "encode" => Some(Command::Encode),
         _ => None,
     }
@@ -122,5 +127,6 @@ pub fn read_request<S: AsStr>(alloc: Global, words: &[S]) -> Result<Request, Usa
         command,
         files,
         burden,
+        csv: given.get_flag("csv"),
     })
 }

@@ -1,6 +1,6 @@
 use crate::{Command, Request, UsageFault, read_request};
 
-/// Whether the words ask for this command over these files, with this burden.
+/// Whether the words ask for this command over these files, with this burden and no CSV.
 fn asks(
     rt: &impl AllocGlobal,
     words: &[&str],
@@ -14,12 +14,13 @@ fn asks(
                 command,
                 files: given,
                 burden,
+                csv: false,
             },
         ) => {
             let same = given.iter().map(|f| f.as_str()).eq(files.iter().copied());
             command == wanted && same && burden == bears
         }
-        Err(_) => false,
+        _ => false,
     }
 }
 
@@ -46,6 +47,7 @@ Usage: spprof <COMMAND>
 Commands:
   check    Check a trace, and print its work
   figures  Print the work, the span and the burdened span of a run
+  profile  Print a table of the call sites of a run, as comma-separated values
   encode   Read a trace as text, and write its bytes
 
 Options:
@@ -86,6 +88,26 @@ Arguments:
 
 Options:
       --burden <N>  Instructions that a stolen continuation costs [default: 15000]
+  -h, --help        Print help
+
+Exit status:
+  0  the answer stands on standard output, whole
+  1  the input is no good trace or text; standard error says why in one line
+  2  the command line is wrong
+  3  a file or stream could not be read or written
+  4  out of memory
+";
+
+const HELP_OF_PROFILE: &str = "Print a table of the call sites of a run, as comma-separated values
+
+Usage: spprof profile [OPTIONS] [FILE]
+
+Arguments:
+  [FILE]  The trace; without it standard input is read
+
+Options:
+      --burden <N>  Instructions that a stolen continuation costs [default: 15000]
+      --csv         Print comma-separated values alone
   -h, --help        Print help
 
 Exit status:
@@ -138,7 +160,7 @@ For more information, try '--help'.
 ";
 
 const NO_COMMAND: &str = "error: 'spprof' requires a subcommand but one was not provided
-  [subcommands: check, figures, encode]
+  [subcommands: check, figures, profile, encode]
 
 Usage: spprof <COMMAND>
 
@@ -150,6 +172,7 @@ fn each_command_is_a_request(rt: HostRuntime) {
     for (name, command) in [
         ("check", Command::Check),
         ("figures", Command::Figures),
+        ("profile", Command::Profile),
         ("encode", Command::Encode),
     ] {
         for (words, files) in [
@@ -183,12 +206,30 @@ fn a_burden_is_read(rt: HostRuntime) {
 }
 
 #[test]
+fn csv_is_asked_for(rt: HostRuntime) {
+    for words in [
+        ["spprof", "profile", "--csv"].as_slice(),
+        ["spprof", "profile", "--csv", "--burden", "3", "a"].as_slice(),
+    ] {
+        let asked = match read_request(rt.alloc(), words) {
+            Ok(request) => request.csv && request.command == Command::Profile,
+            Err(_) => false,
+        };
+        assert!(rt; asked);
+    }
+    for command in ["check", "figures", "encode"] {
+        assert!(rt; is_refused(&rt, ["spprof", command, "--csv"].as_slice()));
+    }
+}
+
+#[test]
 fn help_is_shown_with_status_0(rt: HostRuntime) {
     for (words, text) in [
         (["spprof", "--help"].as_slice(), HELP),
         (["spprof", "-h"].as_slice(), HELP),
         (["spprof", "check", "--help"].as_slice(), HELP_OF_CHECK),
         (["spprof", "figures", "--help"].as_slice(), HELP_OF_FIGURES),
+        (["spprof", "profile", "--help"].as_slice(), HELP_OF_PROFILE),
         (["spprof", "encode", "--help"].as_slice(), HELP_OF_ENCODE),
     ] {
         assert!(rt; shows(&rt, words, 0, text));

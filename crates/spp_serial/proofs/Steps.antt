@@ -16,7 +16,7 @@ use Rattle.spp_dag.specs.Limits.{plain_sum, burdened_sum}
 
 -- ---- one state
 
-greatest_more : (n m : ℕ) (c : Option (ℕ × ℕ)) → greatest (n + m) c ≤ greatest n c + m
+pub greatest_more : (n m : ℕ) (c : Option (ℕ × ℕ)) → greatest (n + m) c ≤ greatest n c + m
 greatest_more n m None = omega arith
 greatest_more n m (Some c) = omega arith
 
@@ -29,7 +29,7 @@ greatest_spawned n w go back at (Some c) = by (nat_lt c.0 (n + (w + back)))
     by false = omega arith
 
 -- a child that closes with w raises its parent by w, and by the burdens at most
-child_adds : (burdens : Burdens) (kind : FrameKind) (at w : ℕ) (s : State)
+pub child_adds : (burdens : Burdens) (kind : FrameKind) (at w : ℕ) (s : State)
     → close (after_child burdens kind at w s) ≤ w + close s + (burdens.on_continuation + burdens.on_return)
 child_adds burdens Root at w s = omega arith
 child_adds burdens Called at w s = let h = greatest_more s.spine w s.child in omega arith

@@ -5,25 +5,33 @@ ghost use Rattle.std.specs.Prelude.{◌≡◌, ◌≤◌, ◌^◌, IfOk, IfErr, 
 ghost use Rattle.spp_maxplus.specs.State.{both};
 ghost use Rattle.spp_piece.specs.Figures.{AreFigures};
 ghost use Rattle.spp_serial.specs.Answers.{IsFaultOf};
+ghost use Rattle.spp_serial.specs.Tables.{IsDagTable};
 ghost use Rattle.spp_serial.specs.Texts.{profile_fault_text};
 ghost use Rattle.spp_serial.specs.declared.ProfileFault.TheVariants.{Memory as MemoryFault};
 
+mod rows;
 mod stack;
+mod weights;
 
+use crate::rows::dag_table;
 use crate::stack::Stack;
+use spp_dag::FrameKind;
 use spp_event::{Event, EventReader, Trace};
 use spp_frame::{Fault, Why};
 use spp_maxplus::Burdens;
 use spp_piece::Figures;
+use spp_site::Table;
 use std::alloc::{AllocError, Global};
 use std::error::Error;
 use std::fmt;
 
 /// The profile of a run.
-#[derive(Clone, Copy, Debug, PartialEq, Eq)]
+#[derive(Drop)]
 pub struct Profile {
     /// Its work, span and burdened span.
     pub figures: Figures,
+    /// Its rows by call site, on its whole dag.
+    pub dag: Table,
 }
 
 /// Why a run has no profile.
@@ -58,8 +66,8 @@ impl From<AllocError> for ProfileFault {
 
 /// The profile of a run, whose edges bear `burden` instructions where a thief may take over.
 ///
-/// The events are read once, in time linear in their number; the memory is linear in the number of frames that are open
-/// at a time.
+/// The events are read twice, in time linear in their number; the memory is linear in the number of frames that are open
+/// at a time, and in the numbers of sites and functions.
 ///
 /// # Errors
 ///
@@ -71,11 +79,34 @@ pub fn profile_serial(
 ) -> Result<Profile, ProfileFault>
     ensures figures { IfOk result (λ p. AreFigures trace.now.records (both burden) p.figures) }
     ensures small { IfOk result (λ p. p.figures.work ≤ 2 ^ 92) }
+    ensures dag { IfOk result (λ p. IsDagTable trace.now p.dag) }
+    ensures fault { IfErr result (λ f. IsFaultOf trace.now.records f) }
+{
+    let figures = figures_serial(alloc, trace, burden)?;
+    let dag = dag_table(alloc, trace)?;
+    Ok(Profile { figures, dag })
+}
+
+/// The work, span and burdened span of a run, whose edges bear `burden` instructions where a thief may take over.
+///
+/// The events are read once, in time linear in their number; the memory is linear in the number of frames that are open
+/// at a time.
+///
+/// # Errors
+///
+/// The first bad event, or `Memory` where a growth was refused.
+pub fn figures_serial(
+    alloc: Global,
+    trace: &Trace<'_>,
+    burden: u32,
+) -> Result<Figures, ProfileFault>
+    ensures figures { IfOk result (λ f. AreFigures trace.now.records (both burden) f) }
+    ensures small { IfOk result (λ f. f.work ≤ 2 ^ 92) }
     ensures fault { IfErr result (λ f. IsFaultOf trace.now.records f) }
 {
     let burdens = Burdens::both(burden);
     let mut events = EventReader::new(trace);
-    let mut stack = Stack::new(alloc, trace.root());
+    let mut stack = Stack::new(alloc);
     let mut work: u128 = 0;
     for at in 0..trace.count() {
         let event = match events.event_at(at) {
@@ -92,8 +123,8 @@ pub fn profile_serial(
                 work += u128::from(count);
                 stack.strand(count);
             }
-            Event::Call { site, func } => stack.call(at, site, func)?,
-            Event::Spawn { site, func } => stack.spawn(at, site, func)?,
+            Event::Call { .. } => stack.open(FrameKind::Called)?,
+            Event::Spawn { .. } => stack.open(FrameKind::Spawned)?,
             Event::Ret => {
                 if !stack.ret(burdens) {
                     return Err(ProfileFault::Bad(Fault {
@@ -113,12 +144,10 @@ pub fn profile_serial(
         }));
     }
     let root = stack.top();
-    Ok(Profile {
-        figures: Figures {
-            work,
-            span: root.plain.close(),
-            burdened: root.burdened.close(),
-        },
+    Ok(Figures {
+        work,
+        span: root.plain.close(),
+        burdened: root.burdened.close(),
     })
 }
 

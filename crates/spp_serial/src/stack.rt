@@ -1,55 +1,84 @@
-//! The stack machine: the open frames as the events run.
+//! The stack machine, as far as figures go: the open frames as the events run, each with its weights.
 
-ghost use Rattle.std.specs.Prelude.{◌≡◌, ℕ, ◌+◌, ◌<◌, ◌≤◌, ◌^◌, if◌then◌else◌, false, List, ◌∷◌, [], length, Some, None, OnOk, OnErr};
-ghost use Rattle.spp_event.specs.declared.records.Event.TheVariants.{Strand, Call, Spawn, Ret, Sync};
+ghost use Rattle.std.specs.Prelude.{◌≡◌, ◌+◌, ◌<◌, ◌≤◌, ◌^◌, if◌then◌else◌, ℕ, false, List, ◌∷◌, [], length, Some, None, OnOk, OnErr};
+ghost use Rattle.spp_event.specs.declared.records.Event.TheVariants.{Strand, Ret, Sync};
 ghost use Rattle.spp_maxplus.specs.declared.state.Burdens.{Burdens};
-ghost use Rattle.spp_dag.specs.declared.stack.OpenFrame.{OpenFrame};
-ghost use Rattle.spp_dag.specs.Stack.{root_frame, new_frame, advance};
-ghost use Rattle.spp_dag.specs.Limits.{plain_sum, burdened_sum};
+ghost use Rattle.spp_dag.specs.declared.stack.FrameKind.TheVariants.{Root};
+ghost use Rattle.spp_serial.specs.declared.stack.Frame.{Frame};
+ghost use Rattle.spp_serial.specs.Weights.{new_frame, after_return as returned_to, advance, plain_sum, burdened_sum, close as close_of};
 
-use spp_dag::{FrameKind, OpenFrame};
-use spp_maxplus::{Burdens, State};
+use crate::weights::Weights;
+use spp_dag::FrameKind;
+use spp_maxplus::Burdens;
 use std::alloc::{AllocError, Global};
 use std::marker::Model;
+
+/// An open frame.
+#[derive(Clone, Copy)]
+pub(crate) struct Frame {
+    /// How it was entered.
+    pub(crate) kind: FrameKind,
+    /// Its weights without burdens.
+    pub(crate) plain: Weights,
+    /// Its weights with the burdens.
+    pub(crate) burdened: Weights,
+}
+
+impl Frame {
+    /// The frame, after the return of this child.
+    #[inline(always)]
+    fn after_return(self, child: Frame, burdens: Burdens) -> Self
+        requires plain { close_of child.plain + close_of self.plain < 2 ^ 128 }
+        requires burdened { close_of child.burdened + close_of self.burdened + (burdens.on_continuation + burdens.on_return) < 2 ^ 128 }
+        ensures { result ≡ returned_to burdens child self }
+    {
+        let plain = child.plain.close();
+        let burdened = child.burdened.close();
+        match child.kind {
+            FrameKind::Root => self,
+            FrameKind::Called => Frame {
+                kind: self.kind,
+                plain: self.plain.after_call(plain),
+                burdened: self.burdened.after_call(burdened),
+            },
+            FrameKind::Spawned => Frame {
+                kind: self.kind,
+                plain: self.plain.after_spawn(plain, Burdens::default()),
+                burdened: self.burdened.after_spawn(burdened, burdens),
+            },
+        }
+    }
+}
 
 /// The open frames. Contracts see them as a list, innermost first; the last is the root frame.
 #[derive(Drop)]
 pub(crate) struct Stack {
-    top: OpenFrame,
+    // The innermost frame, by its fields: a copy of a whole `Frame` would copy its padding, which costs more than the rest.
+    kind: FrameKind,
+    plain: Weights,
+    burdened: Weights,
     /// The frames below it, the root first.
-    below: Vec<OpenFrame>,
+    below: Vec<Frame>,
 }
 
 impl Model for Stack {
     ghost use Rattle.std.specs.Prelude.{List, ◌∷◌, reverse};
-    ghost use Rattle.spp_dag.specs.declared.stack.OpenFrame.{OpenFrame};
+    ghost use Rattle.spp_serial.specs.declared.stack.Frame.{Frame};
 
-    ghost Value = { List OpenFrame };
+    ghost Value = { List Frame };
 
-    ghost view = { λ s. s.top ∷ reverse s.below.items };
-}
-
-/// A frame that is opened at a position.
-fn opened(kind: FrameKind, at: u32, site: u32, func: u32) -> OpenFrame
-    ensures { result ≡ new_frame kind at site func }
-{
-    OpenFrame {
-        kind,
-        at,
-        site,
-        func,
-        plain: State::start(),
-        burdened: State::start(),
-    }
+    ghost view = { λ s. record { kind = s.kind; plain = s.plain; burdened = s.burdened } ∷ reverse s.below.items };
 }
 
 impl Stack {
-    /// The root frame alone, which runs this function.
-    pub(crate) fn new(alloc: Global, func: u32) -> Self
-        ensures { result ≡ root_frame func ∷ [] }
+    /// The root frame alone.
+    pub(crate) fn new(alloc: Global) -> Self
+        ensures { result ≡ new_frame Root ∷ [] }
     {
         Stack {
-            top: opened(FrameKind::Root, 0, 0, func),
+            kind: FrameKind::Root,
+            plain: Weights::start(),
+            burdened: Weights::start(),
             below: Vec::new(alloc),
         }
     }
@@ -63,78 +92,70 @@ impl Stack {
     }
 
     /// The innermost frame.
-    pub(crate) fn top(&self) -> OpenFrame
-        ensures { (below : List OpenFrame) × (self.now ≡ result ∷ below) }
+    #[inline(always)]
+    pub(crate) fn top(&self) -> Frame
+        ensures { (below : List Frame) × (self.now ≡ result ∷ below) }
     {
-        self.top
+        Frame {
+            kind: self.kind,
+            plain: self.plain,
+            burdened: self.burdened,
+        }
+    }
+
+    /// Opens a frame on top of the others, of which there is one at least.
+    #[inline(always)]
+    pub(crate) fn open(&mut self, kind: FrameKind) -> Result<(), AllocError>
+        ensures opened { OnOk result (self.new ≡ new_frame kind ∷ self.old) }
+        ensures some { OnOk result ((f : Frame) × (below : List Frame) × (self.old ≡ f ∷ below)) }
+        ensures stays { OnErr result (self.new ≡ self.old) }
+    {
+        self.below.push(Frame {
+            kind: self.kind,
+            plain: self.plain,
+            burdened: self.burdened,
+        })?;
+        self.kind = kind;
+        self.plain = Weights::start();
+        self.burdened = Weights::start();
+        Ok(())
     }
 
     /// A strand of that many instructions.
+    #[inline(always)]
     pub(crate) fn strand(&mut self, count: u64)
         requires plain { plain_sum self.old + count < 2 ^ 128 }
         requires burdened { burdened_sum self.old + count < 2 ^ 128 }
-        ensures { (burdens : Burdens) (at : ℕ) → advance burdens at (Strand count) self.old ≡ Some self.new }
+        ensures { (burdens : Burdens) → advance burdens (Strand count) self.old ≡ Some self.new }
     {
-        self.top.plain = self.top.plain.after_strand(count);
-        self.top.burdened = self.top.burdened.after_strand(count);
-    }
-
-    /// A call at the position `at`.
-    pub(crate) fn call(&mut self, at: u32, site: u32, func: u32) -> Result<(), AllocError>
-        ensures opened { OnOk result ((burdens : Burdens) → advance burdens at (Call site func) self.old ≡ Some self.new) }
-        ensures stays { OnErr result (self.new ≡ self.old) }
-    {
-        self.below.push(self.top)?;
-        self.top = opened(FrameKind::Called, at, site, func);
-        Ok(())
-    }
-
-    /// A spawn at the position `at`.
-    pub(crate) fn spawn(&mut self, at: u32, site: u32, func: u32) -> Result<(), AllocError>
-        ensures opened { OnOk result ((burdens : Burdens) → advance burdens at (Spawn site func) self.old ≡ Some self.new) }
-        ensures stays { OnErr result (self.new ≡ self.old) }
-    {
-        self.below.push(self.top)?;
-        self.top = opened(FrameKind::Spawned, at, site, func);
-        Ok(())
+        self.plain = self.plain.after_strand(count);
+        self.burdened = self.burdened.after_strand(count);
     }
 
     /// A sync.
+    #[inline(always)]
     pub(crate) fn sync(&mut self)
-        ensures { (burdens : Burdens) (at : ℕ) → advance burdens at Sync self.old ≡ Some self.new }
+        ensures { (burdens : Burdens) → advance burdens Sync self.old ≡ Some self.new }
     {
-        self.top.plain = self.top.plain.after_sync();
-        self.top.burdened = self.top.burdened.after_sync();
+        self.plain = self.plain.after_sync();
+        self.burdened = self.burdened.after_sync();
     }
 
     /// A return; false where the root frame alone is open, which stays as it is.
+    #[inline(always)]
     pub(crate) fn ret(&mut self, burdens: Burdens) -> bool
         requires plain { plain_sum self.old < 2 ^ 128 }
         requires burdened { burdened_sum self.old + (burdens.on_continuation + burdens.on_return) < 2 ^ 128 }
-        ensures returned { (at : ℕ) → advance burdens at Ret self.old ≡ (if result then Some self.new else None) }
+        ensures returned { advance burdens Ret self.old ≡ (if result then Some self.new else None) }
         ensures stays { result ≡ false → self.new ≡ self.old }
     {
         let Some(parent) = self.below.pop() else {
             return false;
         };
-        let child = self.top;
-        let plain = child.plain.close();
-        let burdened = child.burdened.close();
-        self.top = match child.kind {
-            FrameKind::Root => parent,
-            FrameKind::Called => OpenFrame {
-                plain: parent.plain.after_call(plain),
-                burdened: parent.burdened.after_call(burdened),
-                ..parent
-            },
-            FrameKind::Spawned => OpenFrame {
-                plain: parent
-                    .plain
-                    .after_spawn(child.at, plain, Burdens::default()),
-                burdened: parent.burdened.after_spawn(child.at, burdened, burdens),
-                ..parent
-            },
-        };
+        let top = parent.after_return(self.top(), burdens);
+        self.kind = top.kind;
+        self.plain = top.plain;
+        self.burdened = top.burdened;
         true
     }
 }

@@ -5,6 +5,7 @@ pub mod InSources
 pub mod Check
 pub mod Encode
 pub mod Figures
+pub mod Profiles
 pub mod Requests
 pub mod Tasks
 pub mod Endings

@@ -1,19 +1,22 @@
 -- What the definitions give for a request and the bytes of its inputs.
 use Rattle.std.specs.Prelude.{ℕ, List}
 use Rattle.spp_request.specs.declared.request.Command.{Command}
-use Rattle.spp_request.specs.declared.request.Command.TheVariants.{Check, Figures, Encode}
+use Rattle.spp_request.specs.declared.request.Command.TheVariants.{Check, Figures, Profile, Encode}
 use Rattle.spp_shell.specs.Check.{IsCheckText, IsCheckLine}
 use Rattle.spp_shell.specs.Encode.{IsEncodeText, IsEncodeLine}
 use Rattle.spp_shell.specs.Figures.{IsFiguresText}
+use Rattle.spp_shell.specs.Profiles.{IsProfileText}
 
 -- the text of the answer, with that burden where the command asks for one
 abbrev pub text_for : Command → ℕ → List (List ℕ) → List ℕ → Type 0
 text_for Check burden = IsCheckText
 text_for Figures burden = IsFiguresText burden
+text_for Profile burden = IsProfileText
 text_for Encode burden = IsEncodeText
 
 -- the line of fault of inputs that are refused
 abbrev pub line_for : Command → List (List ℕ) → List ℕ → Type 0
 line_for Check = IsCheckLine
 line_for Figures = IsCheckLine
+line_for Profile = IsCheckLine
 line_for Encode = IsEncodeLine

@@ -8,7 +8,8 @@ use crate::check_task::{line_of_event, refusal_of_header};
 use crate::task::{Refusal, Task};
 use spp_event::open_trace;
 use spp_report::figures_text;
-use spp_serial::{ProfileFault, profile_serial};
+use spp_request::Request;
+use spp_serial::{ProfileFault, figures_serial};
 use std::alloc::Global;
 
 /// Tells the figures of a run.
@@ -16,6 +17,17 @@ use std::alloc::Global;
 pub(crate) struct FiguresTask {
     /// What an edge bears where a thief may take over, in instructions.
     pub(crate) burden: u32,
+}
+
+impl FiguresTask {
+    /// The task that is asked for.
+    pub(crate) fn of(request: &Request) -> Self
+        ensures { result.burden ≡ request.now.burden }
+    {
+        FiguresTask {
+            burden: request.burden,
+        }
+    }
 }
 
 impl Task for FiguresTask {
@@ -28,8 +40,8 @@ impl Task for FiguresTask {
             Ok(trace) => trace,
             Err(fault) => return Err(refusal_of_header(alloc, fault)),
         };
-        match profile_serial(alloc, &trace, self.burden) {
-            Ok(profile) => Ok(figures_text(alloc, &profile.figures)?),
+        match figures_serial(alloc, &trace, self.burden) {
+            Ok(figures) => Ok(figures_text(alloc, &figures)?),
             Err(ProfileFault::Bad(fault)) => Err(Refusal::Line(line_of_event(alloc, fault)?)),
             Err(ProfileFault::Memory) => Err(Refusal::Memory),
         }

@@ -5,6 +5,7 @@ mod check_task;
 mod encode_task;
 mod figures_task;
 mod in_source;
+mod profile_task;
 mod reading;
 mod running;
 mod source;

@@ -7,6 +7,7 @@ ghost use Rattle.spp_shell.specs.Requests.{text_for, line_for};
 use crate::check_task::Check;
 use crate::encode_task::Encode;
 use crate::figures_task::FiguresTask;
+use crate::profile_task::ProfileTask;
 use crate::reading::{ReadFault, read_all};
 use crate::source::Source;
 use crate::status::{BAD_INPUT, DEVICE, GOOD, MEMORY};
@@ -103,12 +104,8 @@ pub fn run<S: Source, O: Sink, E: Sink>(
 {
     match request.command {
         Command::Check => run_task(alloc, &Check, first, out, err),
-        Command::Figures => {
-            let task = FiguresTask {
-                burden: request.burden,
-            };
-            run_task(alloc, &task, first, out, err)
-        }
+        Command::Figures => run_task(alloc, &FiguresTask::of(request), first, out, err),
+        Command::Profile => run_task(alloc, &ProfileTask::of(request), first, out, err),
         Command::Encode => run_task(alloc, &Encode, first, out, err),
     }
 }

@@ -11,6 +11,7 @@ pub fn request_for(alloc: Global, command: Command) -> Request {
         command,
         files: Vec::new(alloc),
         burden: 3,
+        csv: false,
     }
 }
 
@@ -23,7 +24,7 @@ pub fn command_ends_with(
     text: &[u8],
     line: &[u8],
 ) -> bool {
-    let (mut out, mut err) = (empty_cup(alloc, 100), empty_cup(alloc, 100));
+    let (mut out, mut err) = (empty_cup(alloc, 1000), empty_cup(alloc, 100));
     let got = run(
         alloc,
         &request_for(alloc, command),

@@ -1,4 +1,4 @@
-//! Runs of `figures`.
+//! Runs of `figures` and `profile`.
 
 use super::commands::command_ends_with;
 use spp_request::Command;
@@ -20,6 +20,12 @@ span 13
 burdened 16
 parallelism 1.30
 burdened parallelism 1.06
+";
+
+const TABLE: &str =
+    "name,count,local,site_count,site_work,site_span,caller_count,caller_work,caller_span
+(root),1,7,1,17,13,1,17,13
+A,1,10,1,10,10,1,10,10
 ";
 
 /// Whether `figures` of the bytes ends with this status, output and line of fault.
@@ -50,4 +56,17 @@ fn a_trace_without_figures_is_told_in_one_line(rt: HostRuntime) {
             assert!(rt; ends_with(rt.alloc(), bytes, 1, "", line), "{line}");
         }
     }
+}
+
+#[test]
+fn a_good_trace_prints_its_table(rt: HostRuntime) {
+    let printed = command_ends_with(
+        rt.alloc(),
+        Command::Profile,
+        SMALL,
+        0,
+        TABLE.as_bytes(),
+        b"".as_slice(),
+    );
+    assert!(rt; printed);
 }

@@ -1,10 +1,10 @@
 use Rattle.std.proofs.Common.{◌≡◌}
-use Rattle.spp_serial.proofs.Reached.{Reached}
-use Rattle.spp_serial.proofs.profile_serial.Given as goal
+use Rattle.spp_serial.proofs.Keeping.{Kept}
+use Rattle.spp_serial.proofs.figures_serial.Given as goal
 
 -- as far as `at` the machine has run
 abbrev pub invariant-loop-at : goal.invariant-loop-at
 invariant-loop-at l = record {
   same : l.events ≡ l.trace;
-  ran : Reached l.trace.records l.burdens l.trace.root l.at l.work l.stack;
+  ran : Kept l.trace.records l.burdens l.trace.root l.at l.work l.stack;
 }

@@ -1,14 +1,14 @@
-use Rattle.std.proofs.Common.{◌≡◌, ℕ, ◌+◌, ◌<◌, ◌≤◌, List, ◌∷◌, [], length, Some, Ok, Err, sym, ap, subst, ◌∙◌, arith}
+use Rattle.std.proofs.Common.{◌≡◌, ◌+◌, ◌<◌, ◌≤◌, List, ◌∷◌, length, Some, Ok, Err, sym, ap, subst, ◌∙◌, arith}
 use Rattle.spp_event.specs.declared.records.Event.{Event}
 use Rattle.spp_event.specs.declared.records.Event.TheVariants.{Strand, Call, Spawn, Ret, Sync}
 use Rattle.spp_event.specs.Recordings.{Recording, record_at}
 use Rattle.spp_frame.specs.Nesting.{weight}
 use Rattle.spp_maxplus.specs.declared.state.Burdens.{Burdens}
-use Rattle.spp_dag.specs.declared.stack.OpenFrame.{OpenFrame}
-use Rattle.spp_dag.specs.Stack.{advance, root_frame}
-use Rattle.spp_serial.proofs.Reached.{Reached, reached_none, reached_more, bad_event, root_return, left_open, all_reached}
-use Rattle.spp_serial.proofs.profile_serial.Goals as goal
-use Rattle.spp_serial.proofs.profile_serial.Goals.{in-Strand, in-Call+in_ok-call-in-Call, in-Spawn+in_ok-spawn-in-Spawn, in-Ret+else-not-ret, in-Sync}
+use Rattle.spp_serial.specs.declared.stack.Frame.{Frame}
+use Rattle.spp_serial.specs.Weights.{advance}
+use Rattle.spp_serial.proofs.Keeping.{Kept, kept_none, kept_more, kept_bad, kept_return, kept_open, all_kept, opens_call, opens_spawn}
+use Rattle.spp_serial.proofs.figures_serial.Goals as goal
+use Rattle.spp_serial.proofs.figures_serial.Goals.{in-Strand, in-Call+in_ok-open-in-Call, in-Spawn+in_ok-open-in-Spawn, in-Ret+else-not-ret, in-Sync}
 
 pub loop-at-init : goal.loop-at-init
 loop-at-init c =
@@ -17,8 +17,7 @@ loop-at-init c =
     let root = c.args.trace.now.root in
     record {
       same = c.new-events.ensures;
-      ran = subst (λ (fs : List OpenFrame). Reached rs b root 0 0 fs) (sym c.new-stack.ensures)
-          (subst (λ (r : ℕ). Reached rs b root 0 0 (root_frame r ∷ [])) (sym c.root.ensures) (reached_none rs b root));
+      ran = subst (λ (fs : List Frame). Kept rs b root 0 0 fs) (sym c.new-stack.ensures) (kept_none rs b root);
     }
 
 pub returns-in-Err-clause-fault : goal.returns-in-Err-clause-fault
@@ -29,7 +28,7 @@ returns-in-Err-clause-fault c =
     let lt : at < length rs = omega (arith, c.count-at-end.ensures.count) in
     let read : record_at c.loop-at.events.records at ≡ Err c.in-Err.fault = sym c.event_at.ensures.said ∙ c.in-Err.is in
     let said : record_at rs at ≡ Err c.in-Err.fault = subst (λ (v : Recording). record_at v.records at ≡ Err c.in-Err.fault) inv.same read in
-    bad_event rs c.both-burdens.result c.args.trace.now.root at c.loop-at.work c.loop-at.stack c.in-Err.fault lt said inv.ran
+    kept_bad rs c.both-burdens.result c.args.trace.now.root at c.loop-at.work c.loop-at.stack c.in-Err.fault lt said inv.ran
 
 pub returns-then-not-ret-clause-fault : goal.returns-then-not-ret-clause-fault
 returns-then-not-ret-clause-fault c =
@@ -39,7 +38,7 @@ returns-then-not-ret-clause-fault c =
     let lt : at < length rs = omega (arith, c.count-at-end.ensures.count) in
     let read : record_at c.loop-at.events.records at ≡ Ok Ret = sym c.event_at.ensures.said ∙ c.in-Ok.is ∙ ap (λ (e : Event). Ok e) c.in-Ret.is in
     let said : record_at rs at ≡ Ok Ret = subst (λ (v : Recording). record_at v.records at ≡ Ok Ret) inv.same read in
-    root_return rs c.both-burdens.result c.args.trace.now.root at c.loop-at.work c.loop-at.stack lt said (c.if-not-ret.ensures.returned at) inv.ran
+    kept_return rs c.both-burdens.result c.args.trace.now.root at c.loop-at.work c.loop-at.stack lt said c.if-not-ret.ensures.returned inv.ran
 
 pub loop-at-preserved : goal.loop-at-preserved
 loop-at-preserved c =
@@ -53,22 +52,22 @@ loop-at-preserved c =
     let said : record_at rs at ≡ Ok c.in-Ok.event = subst (λ (v : Recording). record_at v.records at ≡ Ok c.in-Ok.event) inv.same read in
     let burden = c.ranges.burden.fits in
     let light : b.on_continuation + b.on_return ≤ 8589934592 = subst (λ (x : Burdens). x.on_continuation + x.on_return ≤ 8589934592) (sym c.both-burdens.ensures) (omega arith) in
-    let more = λ (e : Event) (gs : List OpenFrame) (is : c.in-Ok.event ≡ e) (short : weight (Ok e) ≤ 18446744073709551616) (goes : advance b at e fs ≡ Some gs) (works : c.match-event.work ≡ c.loop-at.work + weight (Ok e)) (stack : c.match-event.stack ≡ gs).
-    reached_more rs b c.args.trace.now.root at c.loop-at.work c.match-event.work e fs c.match-event.stack light short lt (said ∙ ap (λ (x : Event). Ok x) is) (goes ∙ ap (λ (x : List OpenFrame). Some x) (sym stack)) works inv.ran in
+    let more = λ (e : Event) (gs : List Frame) (is : c.in-Ok.event ≡ e) (short : weight (Ok e) ≤ 18446744073709551616) (goes : advance b e fs ≡ Some gs) (works : c.match-event.work ≡ c.loop-at.work + weight (Ok e)) (stack : c.match-event.stack ≡ gs).
+    kept_more rs b c.args.trace.now.root at c.loop-at.work c.match-event.work e fs c.match-event.stack light short lt (said ∙ ap (λ (x : Event). Ok x) is) (goes ∙ ap (λ (x : List Frame). Some x) (sym stack)) works inv.ran in
     record {
       same = c.event_at.ensures.same ∙ inv.same;
       ran = elim c.match-event.branch [
         | in-Strand w ↦
             let n = w.from-work.ensures in
-            more (Strand w.in-Strand.count) w.strand.new.self w.in-Strand.is (omega arith) (w.strand.ensures b at) (omega arith) w.stack-is
-        | in-Call+in_ok-call-in-Call w ↦
-            more (Call w.in-Call.site w.in-Call.func) w.call.new.self w.in-Call.is (omega arith) (w.in_ok-call-in-Call.ensures.opened b) (omega arith) w.stack-is
-        | in-Spawn+in_ok-spawn-in-Spawn w ↦
-            more (Spawn w.in-Spawn.site w.in-Spawn.func) w.spawn.new.self w.in-Spawn.is (omega arith) (w.in_ok-spawn-in-Spawn.ensures.opened b) (omega arith) w.stack-is
+            more (Strand w.in-Strand.count) w.strand.new.self w.in-Strand.is (omega arith) (w.strand.ensures b) (omega arith) w.stack-is
+        | in-Call+in_ok-open-in-Call w ↦
+            more (Call w.in-Call.site w.in-Call.func) w.open.new.self w.in-Call.is (omega arith) (opens_call b w.in-Call.site w.in-Call.func fs w.open.new.self w.in_ok-open-in-Call.ensures.some w.in_ok-open-in-Call.ensures.opened) (omega arith) w.stack-is
+        | in-Spawn+in_ok-open-in-Spawn w ↦
+            more (Spawn w.in-Spawn.site w.in-Spawn.func) w.open-in-Spawn.new.self w.in-Spawn.is (omega arith) (opens_spawn b w.in-Spawn.site w.in-Spawn.func fs w.open-in-Spawn.new.self w.in_ok-open-in-Spawn.ensures.some w.in_ok-open-in-Spawn.ensures.opened) (omega arith) w.stack-is
         | in-Ret+else-not-ret w ↦
-            more Ret w.ret.new.self w.in-Ret.is (omega arith) (w.if-not-ret.ensures.returned at) (omega arith) w.stack-is
+            more Ret w.ret.new.self w.in-Ret.is (omega arith) w.if-not-ret.ensures.returned (omega arith) w.stack-is
         | in-Sync w ↦
-            more Sync w.sync.new.self w.in-Sync.is (omega arith) (w.sync.ensures b at) (omega arith) w.stack-is
+            more Sync w.sync.new.self w.in-Sync.is (omega arith) (w.sync.ensures b) (omega arith) w.stack-is
       ];
     }
 
@@ -76,7 +75,7 @@ pub returns-then-depth-gt0-clause-fault : goal.returns-then-depth-gt0-clause-fau
 returns-then-depth-gt0-clause-fault c =
     let rs = c.args.trace.now.records in
     let end : c.loop-at.at ≡ length rs = omega (arith, c.count-at-end.ensures.count) in
-    left_open rs c.both-burdens.result c.args.trace.now.root c.loop-at.at c.loop-at.work c.count.result c.depth-depth.result c.loop-at.stack end c.count.ensures.count c.depth-depth.ensures (omega arith) c.loop-at.invariant.ran
+    kept_open rs c.both-burdens.result c.args.trace.now.root c.loop-at.at c.loop-at.work c.count.result c.depth-depth.result c.loop-at.stack end c.count.ensures.count c.depth-depth.ensures (omega arith) c.loop-at.invariant.ran
 
 pub returns-clause-figures : goal.returns-clause-figures
 returns-clause-figures c =
@@ -87,7 +86,7 @@ returns-clause-figures c =
     let end : c.loop-at.at ≡ length rs = omega (arith, c.count-at-end.ensures.count) in
     let stack : c.loop-at.stack ≡ f ∷ fs = c.top-root.ensures.1 in
     let depth = c.depth-depth.ensures in
-    let alone : length (f ∷ fs) ≡ 1 = sym (ap (λ (x : List OpenFrame). length x) stack) ∙ omega arith in
-    let ran = subst (λ (x : List OpenFrame). Reached rs c.both-burdens.result root c.loop-at.at c.loop-at.work x) stack c.loop-at.invariant.ran in
-    let figures = all_reached rs c.both-burdens.result root c.loop-at.at c.loop-at.work f fs end alone ran in
+    let alone : length (f ∷ fs) ≡ 1 = sym (ap (λ (x : List Frame). length x) stack) ∙ omega arith in
+    let ran = subst (λ (x : List Frame). Kept rs c.both-burdens.result root c.loop-at.at c.loop-at.work x) stack c.loop-at.invariant.ran in
+    let figures = all_kept rs c.both-burdens.result root c.loop-at.at c.loop-at.work f fs end alone ran in
     rw (c.close.ensures, c.close-2.ensures, ← c.both-burdens.ensures) figures

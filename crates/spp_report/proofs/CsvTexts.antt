@@ -1,0 +1,137 @@
+-- The csv crate's default writer writes the records of the table as they are defined.
+use Rattle.std.proofs.Common.{◌≡◌, ℕ, ◌≤◌, ◌<◌, ◌^◌, List, [], ◌∷◌, ◌++◌, refl, sym, ◌∙◌, ap, subst, arith, inl, inr, true, false}
+use Rattle.std.specs.Prelude.{Bool, ◌||◌, nat_eq, decimal}
+use Rattle.std.specs.List.{AllByRecursion, list_any, flat_map, range_with_len}
+use Rattle.std.specs.Io.KnownBytes.{Appends}
+use Rattle.std.specs.Prelude.{◌+◌, Result, Option, Ok, Err, OnOk, is_ok, ◌≢◌}
+use Rattle.std.specs.Str.Parse.{AllDigits}
+use Rattle.std.proofs.lemmas.Fmt.{decimal_is_IsNumeral_wide}
+use Rattle.std.proofs.lemmas.Str.Parse.{digit_from_value}
+use Rattle.csv.specs.declared.writer.QuoteStyle.TheVariants as style
+use Rattle.csv.specs.declared.writer.Writer.{Writer}
+use Rattle.csv.specs.declared.writer.WriterBuilder.{WriterBuilder}
+use Rattle.std.proofs.lemmas.Bool.{cases_Bool, eqb-true, ne_eqb}
+use Rattle.std.proofs.lemmas.List.{append-nil, flat_map_more, map-id}
+use Rattle.std.proofs.lemmas.List.FromFn.{map-range_with_len_more}
+use Rattle.csv.specs.Writing.{default_writer, needs_byte, needs_quotes, escaped, field_text, fields_text, is_blank, row_body, row_text, fields_written, has_written, writer_setup}
+use Rattle.spp_report.specs.Csv.{cells, comma, quote, doubled, field, parted, record_text, columns}
+use Rattle.spp_dag.specs.declared.row.Row.{Row}
+use Rattle.spp_report.specs.Appended.{appends_both}
+use Rattle.spp_report.specs.CsvWriters.{AwaitsRecord, IsPlain}
+
+or_none : (a b : Bool) → a || b || false || false || false ≡ a || b
+or_none true b = refl
+or_none false true = refl
+or_none false false = refl
+
+-- no byte from 32 on ends a line
+same_byte : (b : ℕ) → 32 ≤ b → needs_byte default_writer b ≡ nat_eq b comma || nat_eq b quote
+same_byte b h =
+    let r : nat_eq b 13 ≡ false = ne_eqb b 13 (λ e. omega (arith, e)) in
+    let n : nat_eq b 10 ≡ false = ne_eqb b 10 (λ e. omega (arith, e)) in
+    rw (r, n) (or_none (nat_eq b comma) (nat_eq b quote))
+
+same_test : (text : List ℕ) → IsPlain text → needs_quotes default_writer text ≡ list_any (λ b. nat_eq b comma || nat_eq b quote) text
+same_test [] h = refl
+same_test (b ∷ bs) h = rw (same_byte b h.0, same_test bs h.1) refl
+
+same_escapes : (text : List ℕ) → escaped default_writer text ≡ doubled text
+unfolding escaped
+same_escapes [] = refl
+same_escapes (b ∷ bs) = elim (cases_Bool (nat_eq b quote)) [
+  | inl same ↦
+      rw same (subst (λ (x : ℕ). quote ∷ x ∷ escaped default_writer bs ≡ quote ∷ quote ∷ doubled bs) (sym (eqb-true b quote same)) (ap (λ (x : List ℕ). quote ∷ quote ∷ x) (same_escapes bs)))
+  | inr other ↦ rw other (ap (λ (x : List ℕ). b ∷ x) (same_escapes bs))
+]
+
+same_field : (text : List ℕ) → IsPlain text → field_text default_writer text ≡ field text
+same_field text h = rw (same_test text h, same_escapes text) refl
+
+same_body : (text : List ℕ) (more : List (List ℕ)) → IsPlain text → AllByRecursion IsPlain more
+    → row_body default_writer (text ∷ more) ≡ parted (text ∷ more)
+unfolding fields_text
+same_body text [] h hs = append-nil _ ∙ same_field text h
+same_body text (next ∷ more) h hs = rw (same_field text h) (ap (λ (x : List ℕ). field text ++ comma ∷ x) (same_body next more hs.0 hs.1))
+
+-- a record of two fields or more
+pub same_record : (text next : List ℕ) (more : List (List ℕ)) → AllByRecursion IsPlain (text ∷ next ∷ more)
+    → row_text default_writer (text ∷ next ∷ more) ≡ record_text (text ∷ next ∷ more)
+unfolding is_blank
+same_record text next more h = ap (λ (x : List ℕ). x ++ 10 ∷ []) (same_body text (next ∷ more) h.0 h.1)
+
+-- the header
+pub same_columns : row_text default_writer columns ≡ record_text columns
+unfolding escaped fields_text is_blank
+same_columns = refl
+
+-- the digits of a number
+plain_digits : (ds : List ℕ) → AllDigits 10 ds → IsPlain ds
+plain_digits [] h = tt
+plain_digits (d ∷ ds) h =
+    let digit = digit_from_value d h.0 in
+    (omega (arith, digit.0), plain_digits ds h.1)
+
+plain_decimal : (n : ℕ) → n < 2 ^ 128 → IsPlain (decimal n)
+plain_decimal n h = plain_digits (decimal n) (decimal_is_IsNumeral_wide n (omega arith)).0.1
+
+-- the numbers of a row are below 2^128
+pub record IsNarrow (r : Row) : Type 0 where
+  pub count : r.count < 2 ^ 128
+  pub local : r.local < 2 ^ 128
+  pub site_count : r.site_count < 2 ^ 128
+  pub site_work : r.site_work < 2 ^ 128
+  pub site_span : r.site_span < 2 ^ 128
+  pub caller_count : r.caller_count < 2 ^ 128
+  pub caller_work : r.caller_work < 2 ^ 128
+  pub caller_span : r.caller_span < 2 ^ 128
+
+pub plain_cells : (r : Row) → IsNarrow r → AllByRecursion IsPlain (cells r)
+plain_cells r h = (
+  plain_decimal r.count h.count,
+  (
+    plain_decimal r.local h.local,
+    (
+      plain_decimal r.site_count h.site_count,
+      (
+        plain_decimal r.site_work h.site_work,
+        (
+          plain_decimal r.site_span h.site_span,
+          (
+            plain_decimal r.caller_count h.caller_count,
+            (
+              plain_decimal r.caller_work h.caller_work,
+              (
+                plain_decimal r.caller_span h.caller_span,
+                tt,
+              ),
+            ),
+          ),
+        ),
+      ),
+    ),
+  ),
+)
+
+-- a record written between two others, whose error is told as another
+pub wrote_record : {T E F W : Type 0} (r : Result T E) (s : Result T F) (w : Writer W) (old new : Option (List ℕ)) (fields : List (List ℕ)) (text : List ℕ)
+    → is_ok s ≡ is_ok r → AwaitsRecord w → row_text default_writer fields ≡ text
+    → OnOk r ((fields_written w ≡ 0) → (has_written w ≡ false) → ((writer_setup w).style ≢ style.NonNumeric) → Appends old new (row_text (writer_setup w) fields))
+    → OnOk s (Appends old new text)
+wrote_record (Ok x) (Ok y) w old new fields text e at same h =
+    let plain : (writer_setup w).style ≢ style.NonNumeric = rw at.setup (λ e. cc e) in
+    subst (λ (t : List ℕ). Appends old new t) same (subst (λ (c : WriterBuilder). Appends old new (row_text c fields)) at.setup (h at.fields at.wrote plain))
+wrote_record (Ok x) (Err y) w old new fields text e at same h = tt
+wrote_record (Err x) (Ok y) w old new fields text e at same h = cc e
+wrote_record (Err x) (Err y) w old new fields text e at same h = tt
+
+-- the numbers up to one more
+range_more : (a n j : ℕ) → a + n ≡ j → range_with_len a (n + 1) ≡ range_with_len a n ++ j ∷ []
+range_more a n j e = sym (map-id _) ∙ map-range_with_len_more (λ (i : ℕ). i) a n j e ∙ ap (λ (l : List ℕ). l ++ j ∷ []) (map-id _)
+
+-- one site more, behind those before it
+pub one_more : (f : ℕ → List ℕ) (n : ℕ) (a b c : Option (List ℕ)) (text : List ℕ)
+    → Appends a b (flat_map f (range_with_len 0 n)) → Appends b c text → text ≡ f n → Appends a c (flat_map f (range_with_len 0 (n + 1)))
+one_more f n a b c text before here same =
+    let more : flat_map f (range_with_len 0 (n + 1)) ≡ flat_map f (range_with_len 0 n) ++ f n =
+    ap (flat_map f) (range_more 0 n n (omega arith)) ∙ sym (flat_map_more f [] (range_with_len 0 n) n) in
+    subst (λ (t : List ℕ). Appends a c t) (ap (λ (t : List ℕ). flat_map f (range_with_len 0 n) ++ t) same ∙ sym more) (appends_both a b c _ text before here)

@@ -1,0 +1,48 @@
+-- The table of a run as comma-separated values.
+use Rattle.std.specs.Prelude.{ℕ, ◌||◌, nat_eq, cond, List, [], ◌∷◌, ◌++◌, map, length, slice_index_or, codes, decimal}
+use Rattle.std.specs.List.{flat_map, list_any, range_with_len}
+use Rattle.spp_event.specs.Recordings.{Recording}
+use Rattle.spp_dag.specs.declared.row.Row.{Row}
+use Rattle.spp_site.specs.Table.{Sums, row_at}
+
+abbrev pub comma : ℕ
+comma = 44
+
+abbrev pub quote : ℕ
+quote = 34
+
+-- the field's quotes doubled
+abbrev pub doubled : List ℕ → List ℕ
+doubled text = flat_map (λ b. cond (nat_eq b quote) (quote ∷ quote ∷ []) (b ∷ [])) text
+
+-- a field stands in quotes exactly where it has a comma or a quote
+abbrev pub field : List ℕ → List ℕ
+field text = cond (list_any (λ b. nat_eq b comma || nat_eq b quote) text) (quote ∷ doubled text ++ quote ∷ []) text
+
+-- the fields, parted by commas
+abbrev pub parted : List (List ℕ) → List ℕ
+parted [] = []
+parted (f ∷ []) = field f
+parted (f ∷ g ∷ fs) = field f ++ comma ∷ parted (g ∷ fs)
+
+-- a record, ended by a line feed
+abbrev pub record_text : List (List ℕ) → List ℕ
+record_text fields = parted fields ++ codes "\n"
+
+-- the eight numbers of a row
+abbrev pub cells : Row → List (List ℕ)
+cells r = map decimal (r.count ∷ r.local ∷ r.site_count ∷ r.site_work ∷ r.site_span ∷ r.caller_count ∷ r.caller_work ∷ r.caller_span ∷ [])
+
+-- the names of the columns
+abbrev pub columns : List (List ℕ)
+columns = codes "name" ∷ codes "count" ∷ codes "local" ∷ codes "site_count" ∷ codes "site_work" ∷ codes "site_span"
+    ∷ codes "caller_count" ∷ codes "caller_work" ∷ codes "caller_span" ∷ []
+
+-- the record of a site
+abbrev pub site_record : Recording → Sums → ℕ → List ℕ
+site_record trace t site = record_text (slice_index_or trace.sites site [] ∷ cells (row_at t site))
+
+-- the columns, the root's row, and the row of each site in order
+abbrev pub table_text : Recording → Sums → List ℕ
+table_text trace t =
+    record_text columns ++ record_text (codes "(root)" ∷ cells t.root) ++ flat_map (site_record trace t) (range_with_len 0 (length trace.sites))

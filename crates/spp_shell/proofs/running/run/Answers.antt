@@ -1,0 +1,4 @@
+use Rattle.spp_shell.proofs.running.run.Goals as goal
+
+pub returns-in-Profile : goal.returns-in-Profile
+returns-in-Profile g c = record { ends = rw c.in-Profile.is c.run_task-in-Profile.ensures.ends }
