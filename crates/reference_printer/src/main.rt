@@ -1,12 +1,14 @@
 //! Prints what the reference profiler answers for each of the traces on standard input. They stand there as text, each
 //! ended by a line `---`. For the test that it gives the numbers of another program, which was written from the
-//! definitions alone in another language.
+//! definitions alone in another language. Where the profiler on one thread says anything else, that is told.
 #![tactic(auto)]
 
 use spp_dag::Row;
 use spp_event::open_trace;
 use spp_maxplus::Burdens;
-use spp_reference::{Reference, ReferenceFault, Table, profile};
+use spp_piece::Figures;
+use spp_reference::{Reference, Table, profile};
+use spp_serial::profile_serial;
 use spp_shell::{InSource, read_all};
 use spp_text::parse_text;
 use std::alloc::Global;
@@ -27,6 +29,25 @@ fn profiled(alloc: Global, text: &str, burdens: Burdens) -> Option<Reference> {
     let bytes = parse_text(alloc, text).ok()?;
     let trace = open_trace(alloc, bytes.as_slice()).ok()?;
     profile(alloc, &trace, burdens).ok()
+}
+
+/// Whether the profiler on one thread has the same figures and the same rows on the whole dag for the trace that the text
+/// names, with that burden on edges of both kinds.
+fn is_confirmed(alloc: Global, text: &str, told: &Reference, burden: u32) -> Option<bool> {
+    let bytes = parse_text(alloc, text).ok()?;
+    let trace = open_trace(alloc, bytes.as_slice()).ok()?;
+    let serial = profile_serial(alloc, &trace, burden).ok()?;
+    let figures = Figures {
+        work: told.work,
+        span: told.span,
+        burdened: told.burdened_span,
+    };
+    let mut same = serial.figures == figures && serial.dag.root_row() == told.dag_rows.root;
+    for site in 0..trace.sites() {
+        let row = told.dag_rows.sites.get(site as usize).copied();
+        same = same && row == Some(serial.dag.row(site));
+    }
+    Some(same)
 }
 
 fn print_row(rt: &impl Print, row: &Row) -> io::Result<()> {
@@ -91,7 +112,12 @@ fn main(rt: HostRuntime) -> io::Result<ExitCode> {
         let one = profiled(alloc, text, Burdens::both(BURDEN));
         let other = profiled(alloc, text, BURDENS);
         match (one, other) {
-            (Some(one), Some(other)) => print_profile(&rt, &one, &other)?,
+            (Some(one), Some(other)) => {
+                print_profile(&rt, &one, &other)?;
+                if is_confirmed(alloc, text, &one, BURDEN) != Some(true) {
+                    println!(rt; "the profiler on one thread differs")?;
+                }
+            }
             _ => println!(rt; "no profile")?,
         }
     }

@@ -55,7 +55,7 @@ IsChoice es burdens k None = (s : ℕ) → JoinsAt es k s
 abbrev pub HasChoice : List Event → ℕ → Type 0
 HasChoice es k = (s : ℕ) × JoinsAt es k s
 
--- The open frame f runs on at i on the path `ps`: the path enters it, and no entered child spawned before i joins at i
+-- For a frame f that is open at i: it runs on at i on the path `ps`, as the path enters it, and no entered child spawned before i joins at i
 -- or later.
 abbrev pub IsRunning : List Event → List ℕ → ℕ → ℕ → Type 0
 IsRunning es ps f i = On 0 ps f

@@ -14,15 +14,17 @@ use Rattle.spp_dag.specs.Stack.{after_child}
 use Rattle.spp_dag.specs.Shares.{share, zero_row}
 use Rattle.spp_dag.specs.Choices.{IsEntry, first_of}
 
--- the site by which an open frame was entered; none for the root
+-- the site by which an open frame of that kind was entered; none for the root
 abbrev pub site_by : FrameKind → ℕ → Option ℕ
 site_by Root site = None
 site_by Called site = Some site
 site_by Spawned site = Some site
 
+-- the row that an open frame belongs to: that of its site, or the root's
 abbrev pub key_of : EntryFrame → Option ℕ
 key_of f = site_by f.kind f.site
 
+-- whether two rows are one
 abbrev pub same_key : Option ℕ → Option ℕ → Bool
 same_key None None = true
 same_key (Some a) (Some b) = nat_eq a b
@@ -62,7 +64,7 @@ entry_after i Sync work (f ∷ fs) = record f { state = after_sync f.state } ∷
 entry_after i Ret work (f ∷ []) = []
 entry_after i Ret work (f ∷ g ∷ fs) = record g { state = after_child unburdened f.kind f.at (close f.state) g.state } ∷ fs
 
--- the row of a frame alone, which closes when that is the work so far
+-- what a frame's close adds besides its strands, where `work` is the work so far
 abbrev pub closed_row : EntryFrame → ℕ → Row
 closed_row f work = record {
   count = 1;

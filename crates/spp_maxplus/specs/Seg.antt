@@ -1,11 +1,11 @@
--- What a list of events does to the state of the frame in which it begins and ends.
+-- What a list of strands, whole children and syncs of one frame does to the state of that frame.
 use Rattle.std.specs.Prelude.{ℕ, ◌+◌, Option, Some, None}
 use Rattle.spp_maxplus.specs.declared.state.State.{State}
 use Rattle.spp_maxplus.specs.declared.state.Burdens.{Burdens}
 use Rattle.spp_maxplus.specs.declared.seg.Seg.{Seg}
 use Rattle.spp_maxplus.specs.Candidate.{greatest, better, shifted}
 
--- up to the last sync, if there is one
+-- up to the first sync, if there is one, which joins what was waited for before
 abbrev pub after_head : Option ℕ → State → State
 after_head None s = s
 after_head (Some h) s = record { spine = greatest (s.spine + h) s.child; child = None }
@@ -14,7 +14,7 @@ after_head (Some h) s = record { spine = greatest (s.spine + h) s.child; child =
 abbrev pub after_rest : ℕ → Option (ℕ × ℕ) → State → State
 after_rest add offer s = record { spine = s.spine + add; child = better s.child (shifted s.spine offer) }
 
--- what the events make of a state
+-- what the list makes of a state
 abbrev pub act : Seg → State → State
 act g s = after_rest g.add g.offer (after_head g.head s)
 
@@ -44,6 +44,6 @@ or_zero (Some n) = n
 abbrev pub peak : State → ℕ
 peak s = greatest s.spine s.child
 
--- the events raise the peak of a state by no more than this
+-- the list raises the peak of a state by no more than this
 abbrev pub rise : Seg → ℕ
 rise g = or_zero g.head + greatest g.add g.offer

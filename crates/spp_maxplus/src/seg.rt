@@ -1,4 +1,4 @@
-//! What many events do to the state of one frame.
+//! What a strand, a whole child or a sync does to the state of a frame, as three values.
 
 ghost use Rattle.std.specs.Prelude.{◌≡◌, ◌+◌, ◌<◌, ◌≤◌, ◌^◌};
 ghost use Rattle.spp_maxplus.specs.declared.state.State.{State as AState};
@@ -8,16 +8,17 @@ ghost use Rattle.spp_maxplus.specs.Seg.{act, idle as idle_seg, along as along_se
 use crate::candidate::{better, greatest, shifted};
 use crate::state::{Burdens, State};
 
-/// What a list of events does to the state of the frame in which it begins and ends: the frames that it opens it also
-/// closes, and of the children that it waits for some may have been spawned before it.
+/// What a list of strands, whole children and syncs of one frame does to the state of that frame. Of the children that its
+/// first sync waits for some may have been spawned before it.
 #[derive(Clone, Copy, Debug, Default, PartialEq, Eq)]
 pub struct Seg {
-    /// The greatest weight along the frame from the list's beginning to its last sync; none where it has no sync.
+    /// The greatest weight along the frame from the list's beginning to its first sync, which joins what was waited for
+    /// before; none where it has no sync.
     pub head: Option<u128>,
-    /// The weight along the frame after that.
+    /// The greatest weight along the frame from there on, later syncs included.
     pub add: u128,
-    /// The greatest weight through a child that was spawned after that, counted from there, with the position of its
-    /// spawn; of equal ones the first.
+    /// The greatest weight through a child that was spawned after that and is still waited for, counted from there, with
+    /// the position of its spawn; of equal ones the first.
     pub offer: Option<(u128, u32)>,
 }
 
@@ -59,7 +60,8 @@ impl Seg {
     }
 
     /// A child that was spawned at the position `at` and closed with this weight. The burdens are those of the states
-    /// that it is for: none where spans are measured without them.
+    /// that it is for: none where spans are measured without them. The weight and the burden of its return must come to
+    /// less than 2^127.
     pub fn spawn(at: u32, weight: u128, burdens: Burdens) -> Self
         requires { weight + burdens.on_return < 2 ^ 127 }
         ensures value { result ≡ spawned_seg at weight burdens }
@@ -84,7 +86,8 @@ impl Seg {
         }
     }
 
-    /// What the events make of a state.
+    /// What the list makes of a state. The greatest weight of the state and what the list can add to it must come to less
+    /// than 2^127.
     pub fn apply(&self, state: State) -> State
         requires { peak state + rise self.now < 2 ^ 127 }
         ensures value { result ≡ act self.now state }

@@ -7,6 +7,6 @@ pub struct Figures {
     pub work: u128,
     /// The greatest weight of a walk through the dag of the run (Cilkprof's span): no number of processors runs it faster.
     pub span: u128,
-    /// The span where edges bear what a thief's continuation costs (after Cilkview's burdened span).
+    /// The span where each continuation edge and each return edge bears a burden (after Cilkview's burdened span).
     pub burdened: u128,
 }

@@ -1,4 +1,4 @@
-//! What is told of a run as a whole, and of a piece of one.
+//! What is told of a run as a whole.
 #![tactic(auto)]
 
 mod figures;

@@ -10,12 +10,14 @@ use Rattle.spp_reference.specs.declared.dag.Edges.{Edges}
 abbrev pub Lists : {X : Type 0} → ℕ → (ℕ → X) → List X → Type 0
 Lists n f xs = (length xs ≡ n) × ((i : ℕ) → i < n → slice_get xs i ≡ Some (f i))
 
+-- the two tables are those of a well-formed trace within the limits
 pub record IsDag (es : List Event) (ends frames : List ℕ) : Type 0 where
   pub well_formed : IsWellFormed es
   pub small : IsSmall es
   pub closings : Lists (suc (length es)) (closing es) ends
   pub owners : Lists (suc (length es)) (owner es) frames
 
+-- an edge to v that bears c
 abbrev pub edge : ℕ → ℕ → Edge
 edge v c = record { to = v; burden = c }
 

@@ -19,7 +19,7 @@ row_below es root span frames places n = record {
   caller_span = sum_where (λ f. frames f && is_top_caller es root f) span n;
 }
 
--- what one position adds to the row of a key, where those positions pass
+-- what one position adds to the row of a key, where the table is about the positions that `on` has
 abbrev pub term : List Event → ℕ → (ℕ → ℕ) → (ℕ → Bool) → Option ℕ → ℕ → Row
 term es root span on key i = record {
   count = cond (on i && is_of es key i) 1 0;

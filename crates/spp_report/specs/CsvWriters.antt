@@ -4,7 +4,7 @@ use Rattle.std.specs.List.{AllByRecursion}
 use Rattle.csv.specs.declared.writer.Writer.{Writer}
 use Rattle.csv.specs.Writing.{default_writer, fields_written, has_written, writer_setup}
 
--- no byte is a control byte, as those that end a line
+-- no byte is below 32, as those that end a line
 abbrev pub IsPlain : List ℕ → Type 0
 IsPlain text = AllByRecursion (λ b. 32 ≤ b) text
 

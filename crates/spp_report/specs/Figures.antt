@@ -2,7 +2,7 @@
 use Rattle.std.specs.Prelude.{ℕ, zero, suc, ◌*◌, ◌/◌, ◌%◌, List, ◌++◌, Option, Some, None, codes, decimal}
 use Rattle.spp_piece.specs.declared.figures.Figures.{Figures}
 
--- the hundredths of a ratio, rounded down; there is none where the span is 0
+-- the hundredths of a ratio, rounded down; there is none where the divisor is 0
 abbrev pub hundredths : ℕ → ℕ → Option ℕ
 hundredths work zero = None
 hundredths work (suc n) = Some (100 * work / suc n)
@@ -12,6 +12,7 @@ abbrev pub ratio_text : Option ℕ → List ℕ
 ratio_text None = codes "-"
 ratio_text (Some h) = decimal (h / 100) ++ codes "." ++ decimal (h / 10 % 10) ++ decimal (h % 10)
 
+-- a text and the end of its line
 abbrev pub line : List ℕ → List ℕ
 line text = text ++ codes "\n"
 

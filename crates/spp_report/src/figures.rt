@@ -7,8 +7,8 @@ ghost use Rattle.spp_report.specs.Figures.{hundredths as hundredths_of, ratio_te
 use spp_piece::Figures;
 use std::alloc::{AllocError, Global};
 
-/// The parallelism of a run in hundredths, rounded down: how many times its work, in instructions, is its span. None
-/// where the span is 0.
+/// The parallelism of a run in hundredths, rounded down: its work over its span, both in instructions, the work below
+/// 2^120. None where the span is 0.
 pub fn hundredths(work: u128, span: u128) -> Option<u128>
     requires { work < 2 ^ 120 }
     ensures { result ≡ hundredths_of work span }
@@ -31,7 +31,12 @@ fn text_of_ratio(alloc: Global, hundredths: Option<u128>) -> Result<String, Allo
 }
 
 /// The figures of a run as five lines: work, span and burdened span in instructions, then the parallelism and the
-/// burdened parallelism, with two digits behind the point, rounded down, or a dash where the span is 0.
+/// burdened parallelism, with two digits behind the point, rounded down, or a dash where the divisor is 0. The work is below
+/// 2^120.
+///
+/// # Errors
+///
+/// No memory was left.
 pub fn figures_text(alloc: Global, figures: &Figures) -> Result<Vec<u8>, AllocError>
     requires { figures.now.work < 2 ^ 120 }
     ensures { IfOk result (λ text. text.items ≡ text_of_figures figures.now) }

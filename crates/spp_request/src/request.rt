@@ -29,7 +29,7 @@ pub struct Request {
     pub command: Command,
     /// The paths of its inputs, in order; where there is none, standard input is read.
     pub files: Vec<String>,
-    /// What an edge bears where a thief may take over, in instructions; 15,000 where none is given.
+    /// What each continuation edge and each return edge bears, in instructions; 15,000 where none is given.
     pub burden: u32,
     /// Whether comma-separated values are asked for.
     pub csv: bool,

@@ -25,7 +25,7 @@ use std::alloc::{AllocError, Global};
 use std::error::Error;
 use std::fmt;
 
-/// The profile of a run.
+/// What is told of a run: its figures, and its table on the whole dag. The table on the path isn't told yet.
 #[derive(Drop)]
 pub struct Profile {
     /// Its work, span and burdened span.
@@ -64,10 +64,11 @@ impl From<AllocError> for ProfileFault {
     }
 }
 
-/// The profile of a run, whose edges bear `burden` instructions where a thief may take over.
+/// The figures of a run, where each continuation edge and each return edge bears `burden` instructions, and its table on the
+/// whole dag, which has no burdens.
 ///
-/// The events are read twice, in time linear in their number; the memory is linear in the number of frames that are open
-/// at a time, and in the numbers of sites and functions.
+/// The events are read twice. The time is linear in the numbers of events, sites and functions; the memory in the number of
+/// frames that are open at a time, and in the numbers of sites and functions. The work is at most 2^92.
 ///
 /// # Errors
 ///
@@ -87,10 +88,10 @@ pub fn profile_serial(
     Ok(Profile { figures, dag })
 }
 
-/// The work, span and burdened span of a run, whose edges bear `burden` instructions where a thief may take over.
+/// The work, span and burdened span of a run, where each continuation edge and each return edge bears `burden` instructions.
 ///
 /// The events are read once, in time linear in their number; the memory is linear in the number of frames that are open
-/// at a time.
+/// at a time. The work is at most 2^92.
 ///
 /// # Errors
 ///

@@ -36,7 +36,7 @@ struct CountedFrame {
 }
 
 impl CountedFrame {
-    /// The row of the frame alone, which closes when that is the work so far.
+    /// The frame's whole row, its strands included, where it closes when `work` is the work so far.
     fn row(&self, work: u128) -> Row
         requires { self.now.entry.before ≤ work }
         ensures { result ≡ full_row self.now work }
@@ -188,7 +188,7 @@ impl Summing {
 
 /// The rows of a run on its whole dag. Its trace is known to be well-formed.
 ///
-/// The events are read once, each in constant time, amortized; the memory is linear in the number of frames that are open
+/// The events are read once, each in constant time, amortized, behind a step for each site and function; the memory is linear in the number of frames that are open
 /// at a time, and in the numbers of sites and functions.
 ///
 /// # Errors

@@ -1,4 +1,4 @@
--- What `profile` answers: the table of the run whose trace the input is, or the line of its first fault.
+-- What `profile` answers: the table of the run whose trace the input is. Its line of fault is that of `check`.
 use Rattle.std.specs.Prelude.{◌≡◌, ℕ, List, [], ◌∷◌}
 use Rattle.spp_event.specs.Recordings.{Recording}
 use Rattle.spp_event.specs.Header.{IsTraceOf}

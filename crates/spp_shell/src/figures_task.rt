@@ -15,7 +15,7 @@ use std::alloc::Global;
 /// Tells the figures of a run.
 #[derive(Drop)]
 pub(crate) struct FiguresTask {
-    /// What an edge bears where a thief may take over, in instructions.
+    /// What each continuation edge and each return edge bears, in instructions.
     pub(crate) burden: u32,
 }
 

@@ -14,7 +14,7 @@ use std::alloc::Global;
 /// Tells the table of a run.
 #[derive(Drop)]
 pub(crate) struct ProfileTask {
-    /// What an edge bears where a thief may take over, in instructions.
+    /// What each continuation edge and each return edge bears, in instructions.
     pub(crate) burden: u32,
 }
 
