@@ -1,4 +1,4 @@
--- A writer of records between two records, and fields that hold no control byte.
+-- A writer of records between two records, and fields that hold no byte below 32.
 use Rattle.std.specs.Prelude.{◌≡◌, ℕ, ◌≤◌, List, false}
 use Rattle.std.specs.List.{AllByRecursion}
 use Rattle.csv.specs.declared.writer.Writer.{Writer}
