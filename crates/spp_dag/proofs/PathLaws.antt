@@ -395,7 +395,7 @@ module _ (es : List Event) (wf : IsWellFormed es) (burdens : Burdens) where
   abbrev Plain1 : ℕ → Type 0
   Plain1 = Shape es 1 (λ _. burdens.on_continuation) (λ _. burdens.on_return)
 
-  child_returns : (ps : List ℕ) (w s : ℕ) → Whole ps w → spawns (event_at es s) ≡ true → On 0 ps (suc s) → On 0 ps (partner es s)
+  pub child_returns : (ps : List ℕ) (w s : ℕ) → Whole ps w → spawns (event_at es s) ≡ true → On 0 ps (suc s) → On 0 ps (partner es s)
   child_returns ps w s h t on =
       let o = spawns_opens (event_at es s) t in
       let c = closed es wf s o in

@@ -56,25 +56,17 @@ impl<'t, 'a> EventReader<'t, 'a> {
         ensures within { IfOk result (λ e. IsEventOf (length self.old.sites) (length self.old.funcs) e) }
         ensures same { self.new ≡ self.old }
     {
+        if i < self.first || i - self.first >= self.held {
+            let held = self.trace.copy_records(i, &mut self.block);
+            self.first = i;
+            self.held = held;
+        }
         if self.first <= i && i - self.first < self.held {
             let at = (i - self.first) as usize * RECORD;
             if let Some(record) = self.block[at..].first_chunk::<RECORD>() {
                 return event_of(record, self.trace.sites(), self.trace.funcs());
             }
         }
-        self.event_after(i)
-    }
-
-    /// The event at a position of which no copy is held; the records from there on are then.
-    #[inline(never)]
-    fn event_after(&mut self, i: u32) -> Result<Event, EventFault>
-        requires { i < length self.old.records }
-        ensures said { result ≡ record_at self.old.records i }
-        ensures within { IfOk result (λ e. IsEventOf (length self.old.sites) (length self.old.funcs) e) }
-        ensures same { self.new ≡ self.old }
-    {
-        self.held = self.trace.copy_records(i, &mut self.block);
-        self.first = i;
-        self.trace.event_at(i)
+        Err(EventFault::Truncated)
     }
 }

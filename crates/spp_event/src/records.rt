@@ -99,32 +99,31 @@ pub(crate) fn event_of(r: &[u8; 16], sites: u32, funcs: u32) -> Result<Event, Ev
     ensures within { IfOk result (λ e. IsEventOf sites funcs e) }
 {
     let [
-        tag,
-        h1,
-        h2,
-        h3,
         a0,
         a1,
         a2,
         a3,
+        a4,
+        a5,
+        a6,
+        a7,
         b0,
         b1,
         b2,
         b3,
-        c0,
-        c1,
-        c2,
-        c3,
+        b4,
+        b5,
+        b6,
+        b7,
     ] = *r;
-    let front = u64::from_be_bytes([tag, h1, h2, h3, a0, a1, a2, a3]);
-    let back = u64::from_be_bytes([b0, b1, b2, b3, c0, c1, c2, c3]);
+    let front = u64::from_be_bytes([a0, a1, a2, a3, a4, a5, a6, a7]);
+    let back = u64::from_be_bytes([b0, b1, b2, b3, b4, b5, b6, b7]);
+    if front == 0 {
+        return Ok(Event::Strand { count: back });
+    }
+    let tag = front >> 56;
     match tag {
-        0 => {
-            if front != 0 {
-                return Err(EventFault::Padding);
-            }
-            Ok(Event::Strand { count: back })
-        }
+        0 => Err(EventFault::Padding),
         1 | 2 => {
             if (front >> 32) & 0xffffff != 0 || back & 0xffffffff != 0 {
                 return Err(EventFault::Padding);

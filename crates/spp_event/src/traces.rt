@@ -1,6 +1,7 @@
 //! An opened trace.
 
-ghost use Rattle.std.specs.Prelude.{◌≡◌, ◌<◌, length, slice_index_or, [], IfOk};
+ghost use Rattle.std.specs.Prelude.{◌≡◌, ◌<◌, length, slice_index_or, [], IfOk, Err};
+ghost use Rattle.spp_event.specs.declared.records.EventFault.TheVariants.{Truncated};
 ghost use Rattle.spp_event.specs.Records.{IsEventOf};
 ghost use Rattle.spp_event.specs.Header.{HasGoodNames};
 ghost use Rattle.spp_event.specs.Blocks.{HoldsBlock};
@@ -118,8 +119,10 @@ impl<'a> Trace<'a> {
 
     /// Copies records into the block, from position `first` on, as many as are whole and as it has room for. Gives
     /// their number.
+    #[inline(never)]
     pub(crate) fn copy_records(&self, first: u32, block: &mut [u8; BLOCK]) -> u32
-        ensures { HoldsBlock self.now block.new first result }
+        ensures held { HoldsBlock self.now block.new first result }
+        ensures none { result ≡ 0 → first < length self.now.records → record_at self.now.records first ≡ Err Truncated }
     {
         let Some(rest) = self.body.get(first as usize * RECORD..) else {
             return 0;

@@ -5,3 +5,4 @@ pub mod RowSums
 pub mod Counts
 pub mod Summing
 pub mod Summed
+pub mod Tops

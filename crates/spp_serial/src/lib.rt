@@ -107,7 +107,7 @@ pub fn figures_serial(
 {
     let burdens = Burdens::both(burden);
     let mut events = EventReader::new(trace);
-    let mut stack = Stack::new(alloc);
+    let mut stack = Stack::new(alloc)?;
     let mut work: u128 = 0;
     for at in 0..trace.count() {
         let event = match events.event_at(at) {

@@ -1,6 +1,6 @@
 //! The stack machine, as far as figures go: the open frames as the events run, each with its weights.
 
-ghost use Rattle.std.specs.Prelude.{◌≡◌, ◌+◌, ◌<◌, ◌≤◌, ◌^◌, if◌then◌else◌, ℕ, false, List, ◌∷◌, [], length, Some, None, OnOk, OnErr};
+ghost use Rattle.std.specs.Prelude.{◌≡◌, ◌+◌, ◌<◌, ◌≤◌, ◌^◌, if◌then◌else◌, ℕ, false, List, ◌∷◌, [], length, Some, None, OnOk, OnErr, IfOk};
 ghost use Rattle.spp_event.specs.declared.records.Event.TheVariants.{Strand, Ret, Sync};
 ghost use Rattle.spp_maxplus.specs.declared.state.Burdens.{Burdens};
 ghost use Rattle.spp_dag.specs.declared.stack.FrameKind.TheVariants.{Root};
@@ -16,36 +16,24 @@ use std::marker::Model;
 /// An open frame.
 #[derive(Clone, Copy)]
 pub(crate) struct Frame {
-    /// How it was entered.
-    pub(crate) kind: FrameKind,
     /// Its weights without burdens.
     pub(crate) plain: Weights,
     /// Its weights with the burdens.
     pub(crate) burdened: Weights,
+    /// How it was entered. It is last, so that the weights are written apart from the padding.
+    pub(crate) kind: FrameKind,
 }
 
 impl Frame {
-    /// The frame, after the return of this child.
+    /// One that was just opened.
     #[inline(always)]
-    fn after_return(self, child: Frame, burdens: Burdens) -> Self
-        requires plain { close_of child.plain + close_of self.plain < 2 ^ 128 }
-        requires burdened { close_of child.burdened + close_of self.burdened + (burdens.on_continuation + burdens.on_return) < 2 ^ 128 }
-        ensures { result ≡ returned_to burdens child self }
+    fn new(kind: FrameKind) -> Self
+        ensures { result ≡ new_frame kind }
     {
-        let plain = child.plain.close();
-        let burdened = child.burdened.close();
-        match child.kind {
-            FrameKind::Root => self,
-            FrameKind::Called => Frame {
-                kind: self.kind,
-                plain: self.plain.after_call(plain),
-                burdened: self.burdened.after_call(burdened),
-            },
-            FrameKind::Spawned => Frame {
-                kind: self.kind,
-                plain: self.plain.after_spawn(plain, Burdens::default()),
-                burdened: self.burdened.after_spawn(burdened, burdens),
-            },
+        Frame {
+            plain: Weights::start(),
+            burdened: Weights::start(),
+            kind,
         }
     }
 }
@@ -53,34 +41,29 @@ impl Frame {
 /// The open frames. Contracts see them as a list, innermost first; the last is the root frame.
 #[derive(Drop)]
 pub(crate) struct Stack {
-    // The innermost frame, by its fields: a copy of a whole `Frame` would copy its padding, which costs more than the rest.
-    kind: FrameKind,
-    plain: Weights,
-    burdened: Weights,
-    /// The frames below it, the root first.
-    below: Vec<Frame>,
+    /// The frames, the root first. They are changed where they lie, since to move one costs more than all else.
+    frames: Vec<Frame>,
 }
 
 impl Model for Stack {
-    ghost use Rattle.std.specs.Prelude.{List, ◌∷◌, reverse};
+    ghost use Rattle.std.specs.Prelude.{◌<◌, List, length, reverse};
     ghost use Rattle.spp_serial.specs.declared.stack.Frame.{Frame};
 
     ghost Value = { List Frame };
 
-    ghost view = { λ s. record { kind = s.kind; plain = s.plain; burdened = s.burdened } ∷ reverse s.below.items };
+    ghost view = { λ s. reverse s.frames.items };
+
+    ghost invariant = { λ s. 0 < length s.frames.items };
 }
 
 impl Stack {
     /// The root frame alone.
-    pub(crate) fn new(alloc: Global) -> Self
-        ensures { result ≡ new_frame Root ∷ [] }
+    pub(crate) fn new(alloc: Global) -> Result<Self, AllocError>
+        ensures { IfOk result (λ s. s ≡ new_frame Root ∷ []) }
     {
-        Stack {
-            kind: FrameKind::Root,
-            plain: Weights::start(),
-            burdened: Weights::start(),
-            below: Vec::new(alloc),
-        }
+        let mut frames = Vec::new(alloc);
+        frames.push(Frame::new(FrameKind::Root))?;
+        Ok(Stack { frames })
     }
 
     /// How many frames besides the root are open.
@@ -88,7 +71,7 @@ impl Stack {
         requires { length self.now ≤ 2 ^ 32 }
         ensures { result + 1 ≡ length self.now }
     {
-        self.below.len() as u32
+        (self.frames.len() - 1) as u32
     }
 
     /// The innermost frame.
@@ -96,11 +79,7 @@ impl Stack {
     pub(crate) fn top(&self) -> Frame
         ensures { (below : List Frame) × (self.now ≡ result ∷ below) }
     {
-        Frame {
-            kind: self.kind,
-            plain: self.plain,
-            burdened: self.burdened,
-        }
+        self.frames[self.frames.len() - 1]
     }
 
     /// Opens a frame on top of the others, of which there is one at least.
@@ -110,14 +89,7 @@ impl Stack {
         ensures some { OnOk result ((f : Frame) × (below : List Frame) × (self.old ≡ f ∷ below)) }
         ensures stays { OnErr result (self.new ≡ self.old) }
     {
-        self.below.push(Frame {
-            kind: self.kind,
-            plain: self.plain,
-            burdened: self.burdened,
-        })?;
-        self.kind = kind;
-        self.plain = Weights::start();
-        self.burdened = Weights::start();
+        self.frames.push(Frame::new(kind))?;
         Ok(())
     }
 
@@ -128,8 +100,10 @@ impl Stack {
         requires burdened { burdened_sum self.old + count < 2 ^ 128 }
         ensures { (burdens : Burdens) → advance burdens (Strand count) self.old ≡ Some self.new }
     {
-        self.plain = self.plain.after_strand(count);
-        self.burdened = self.burdened.after_strand(count);
+        let at = self.frames.len() - 1;
+        let top = &mut self.frames[at];
+        top.plain = top.plain.after_strand(count);
+        top.burdened = top.burdened.after_strand(count);
     }
 
     /// A sync.
@@ -137,8 +111,10 @@ impl Stack {
     pub(crate) fn sync(&mut self)
         ensures { (burdens : Burdens) → advance burdens Sync self.old ≡ Some self.new }
     {
-        self.plain = self.plain.after_sync();
-        self.burdened = self.burdened.after_sync();
+        let at = self.frames.len() - 1;
+        let top = &mut self.frames[at];
+        top.plain = top.plain.after_sync();
+        top.burdened = top.burdened.after_sync();
     }
 
     /// A return; false where the root frame alone is open, which stays as it is.
@@ -149,13 +125,27 @@ impl Stack {
         ensures returned { advance burdens Ret self.old ≡ (if result then Some self.new else None) }
         ensures stays { result ≡ false → self.new ≡ self.old }
     {
-        let Some(parent) = self.below.pop() else {
+        if self.frames.len() < 2 {
+            return false;
+        }
+        let Some(child) = self.frames.pop() else {
             return false;
         };
-        let top = parent.after_return(self.top(), burdens);
-        self.kind = top.kind;
-        self.plain = top.plain;
-        self.burdened = top.burdened;
+        let plain = child.plain.close();
+        let burdened = child.burdened.close();
+        let at = self.frames.len() - 1;
+        let parent = &mut self.frames[at];
+        match child.kind {
+            FrameKind::Root => {}
+            FrameKind::Called => {
+                parent.plain = parent.plain.after_call(plain);
+                parent.burdened = parent.burdened.after_call(burdened);
+            }
+            FrameKind::Spawned => {
+                parent.plain = parent.plain.after_spawn(plain, Burdens::default());
+                parent.burdened = parent.burdened.after_spawn(burdened, burdens);
+            }
+        }
         true
     }
 }

@@ -1,10 +1,12 @@
 //! Reading all that a source gives up to its end.
-ghost use Rattle.std.specs.Prelude.{◌≡◌, ◌^◌, ◌≤◌, length, IfOk, OnOk, IfErr};
+ghost use Rattle.std.specs.Prelude.{◌≡◌, ◌+◌, ◌^◌, ◌<◌, ◌≤◌, length, take, drop, IfOk, IfSome, OnOk, OnErr, IfErr};
+ghost use Rattle.std.specs.Option.{option_map};
+ghost use Rattle.spp_report.specs.Devices.{Raised};
 ghost use Rattle.spp_shell.specs.Reading.{GaveAll};
 ghost use Rattle.spp_shell.specs.Refusals.{ReadRefused};
 
-use crate::source::Source;
-use std::alloc::Global;
+use crate::source::{Source, SourceFault};
+use std::alloc::{AllocError, Global};
 
 /// Why not all could be read.
 #[derive(Clone, Copy, Debug, PartialEq, Eq)]
@@ -17,8 +19,37 @@ pub enum ReadFault {
     Memory,
 }
 
-/// The bytes of one read, at most: enough that the calls of the system cost little, and few enough for the stack.
+/// The bytes by which the room for what is read grows: enough that the calls of the system cost little.
 const PIECE: usize = 65536;
+
+/// Sees to it that there is room behind the first `filled` bytes.
+fn make_room(bytes: &mut Vec<u8>, filled: usize) -> Result<(), AllocError>
+    requires { filled ≤ length bytes.old.items }
+    ensures room { OnOk result (filled < length bytes.new.items) }
+    ensures kept { OnOk result (take filled bytes.new.items ≡ take filled bytes.old.items) }
+{
+    if filled == bytes.len() {
+        bytes.resize(filled + PIECE, 0)?;
+    }
+    Ok(())
+}
+
+/// Reads into the room behind the first `filled` bytes.
+fn pull_behind<S: Source>(
+    source: &mut S,
+    bytes: &mut Vec<u8>,
+    filled: usize,
+) -> Result<Option<usize>, SourceFault>
+    requires { filled < length bytes.old.items }
+    ensures kept { take filled bytes.new.items ≡ take filled bytes.old.items }
+    ensures within { IfOk result (λ o. IfSome o (λ n. filled + n ≤ length bytes.new.items)) }
+    ensures room { length bytes.new.items ≡ length bytes.old.items }
+    ensures answered { IfOk result (λ o. S.answered source.old (option_map (λ n. take n (drop filled bytes.new.items)) o) source.new) }
+    ensures same { OnOk result (S.failures source.new ≡ S.failures source.old) }
+    ensures raised { OnErr result (Raised (S.failures source.old) (S.failures source.new)) }
+{
+    source.pull(&mut bytes[filled..])
+}
 
 /// All that the source gives up to its end, in at most `turns` reads and at most `most` bytes. An interrupted read
 /// is one of them.
@@ -41,21 +72,23 @@ pub fn read_within<S: Source>(
     ensures refused { IfErr result (λ fault. ReadRefused S.answered S.failures most turns source.old fault source.new) }
 {
     let mut bytes: Vec<u8> = Vec::new(alloc);
-    let mut piece = [0u8; PIECE];
+    let mut filled = 0;
     for _ in 0..turns {
-        let Ok(answer) = source.pull(&mut piece) else {
+        let Ok(()) = make_room(&mut bytes, filled) else {
+            return Err(ReadFault::Memory);
+        };
+        let Ok(answer) = pull_behind(source, &mut bytes, filled) else {
             return Err(ReadFault::Device);
         };
         let Some(n) = answer else {
             continue;
         };
         if n == 0 {
+            bytes.truncate(filled);
             return Ok(bytes);
         }
-        let Ok(()) = bytes.extend_from_slice(&piece[..n]) else {
-            return Err(ReadFault::Memory);
-        };
-        if bytes.len() as u64 > most {
+        filled += n;
+        if filled as u64 > most {
             return Err(ReadFault::TooLong);
         }
     }

@@ -17,7 +17,7 @@ loop-at-init c =
     let root = c.args.trace.now.root in
     record {
       same = c.new-events.ensures;
-      ran = subst (λ (fs : List Frame). Kept rs b root 0 0 fs) (sym c.new-stack.ensures) (kept_none rs b root);
+      ran = subst (λ (fs : List Frame). Kept rs b root 0 0 fs) (sym c.in_ok-stack.ensures) (kept_none rs b root);
     }
 
 pub returns-in-Err-clause-fault : goal.returns-in-Err-clause-fault

@@ -1,0 +1,194 @@
+//! Cutting a trace into parts.
+
+ghost use Rattle.std.specs.Prelude.{◌≡◌, ◌-◌, ◌<◌, ◌≤◌, ◌∷◌, ◌++◌, [], length, IfOk, IfErr, OnOk, Some};
+ghost use Rattle.spp_cut.specs.Parts.{IsCut, part_of};
+ghost use Rattle.spp_cut.specs.Cuts.{AreEven, BeginAt, AreGoodTo, IsCutFault};
+ghost use Rattle.spp_cut.specs.Texts.{cut_fault_text};
+ghost use Rattle.spp_cut.specs.declared.cutting.CutFault.TheVariants.{Memory as MemoryFault};
+
+use crate::part::Part;
+use spp_event::Trace;
+use std::alloc::{AllocError, Global};
+use std::error::Error;
+use std::fmt;
+use std::marker::Model;
+
+/// The most cuts: one less than the most parts.
+const MOST_CUTS: usize = 65535;
+
+/// A trace, and parts of it that hold its events in order, each once.
+#[derive(Drop)]
+pub struct Cut<'t, 'a> {
+    trace: &'t Trace<'a>,
+    parts: Vec<Part<'t, 'a>>,
+}
+
+impl<'t, 'a> Model for Cut<'t, 'a> {
+    ghost use Rattle.spp_cut.specs.Parts.{CutOf, IsCut};
+
+    ghost Value = { CutOf };
+
+    ghost view = { λ c. record { trace = c.trace.now; parts = c.parts.items } };
+
+    ghost invariant = { λ c. IsCut (record { trace = c.trace.now; parts = c.parts.items }) };
+}
+
+impl<'t, 'a> Cut<'t, 'a> {
+    /// The trace.
+    pub fn trace(&self) -> &'t Trace<'a>
+        ensures { result.now ≡ self.now.trace }
+    {
+        self.trace
+    }
+
+    /// Its parts, in order. Its clause `cut` gives out that they hold all its events, each once.
+    pub fn parts(&self) -> &[Part<'t, 'a>]
+        ensures parts { result.now ≡ self.now.parts }
+        ensures cut { IsCut self.now }
+    {
+        &self.parts
+    }
+}
+
+/// Why a trace isn't cut.
+#[derive(Clone, Copy, Debug, PartialEq, Eq)]
+pub enum CutFault {
+    /// There are more than 65,535 cuts.
+    TooMany,
+    /// The cut at this place in the list is above the number of events; all before it are good.
+    OutOfRange {
+        /// The place.
+        index: u32,
+    },
+    /// The cut at this place isn't above the one before it; all before it are good.
+    NotRising {
+        /// The place.
+        index: u32,
+    },
+    /// A growth was refused.
+    Memory,
+}
+
+impl fmt::Display for CutFault {
+    ghost output = { λ f. Some (cut_fault_text f) };
+
+    fn fmt<W: fmt::Write>(&self, f: &mut fmt::Formatter<W>) -> fmt::Result {
+        match self {
+            CutFault::TooMany => write!(f, "too many cuts"),
+            CutFault::OutOfRange { index } => write!(f, "cut {index} is behind the end"),
+            CutFault::NotRising { index } => write!(f, "cut {index} is not above the one before"),
+            CutFault::Memory => write!(f, "out of memory"),
+        }
+    }
+}
+
+impl Error for CutFault {}
+
+impl From<AllocError> for CutFault {
+    ghost from_gives = { λ _ e. e ≡ MemoryFault };
+
+    fn from(_e: AllocError) -> CutFault {
+        CutFault::Memory
+    }
+}
+
+/// Adds the part of the events from `first` on up to `end`.
+fn push_part<'t, 'a>(
+    parts: &mut Vec<Part<'t, 'a>>,
+    trace: &'t Trace<'a>,
+    number: u32,
+    first: u32,
+    end: u32,
+) -> Result<(), AllocError>
+    requires rising { first ≤ end }
+    requires within { end ≤ length trace.now.records }
+    ensures { OnOk result (parts.new.items ≡ parts.old.items ++ part_of trace.now number first (end - first) ∷ []) }
+{
+    parts.push(Part {
+        trace,
+        number,
+        first,
+        count: end - first,
+    })?;
+    Ok(())
+}
+
+/// Cuts a trace of E events into `parts` parts of about the same size: part k begins at k * E / `parts`, rounded down. Some
+/// have no event where there are more parts than events. It takes time and memory linear in the number of parts.
+///
+/// # Errors
+///
+/// Where an allocation was refused.
+pub fn cut_even<'t, 'a>(
+    alloc: Global,
+    trace: &'t Trace<'a>,
+    parts: u32,
+) -> Result<Cut<'t, 'a>, AllocError>
+    requires some { 0 < parts }
+    requires few { parts ≤ 65536 }
+    ensures trace { IfOk result (λ c. c.trace ≡ trace.now) }
+    ensures cut { IfOk result IsCut }
+    ensures even { IfOk result (λ c. AreEven (length trace.now.records) parts c.parts) }
+{
+    let events = trace.count();
+    let mut cut = Vec::with_capacity(alloc, parts as usize)?;
+    let mut first = 0;
+    for number in 0..parts {
+        let end = (u64::from(number + 1) * u64::from(events) / u64::from(parts)) as u32;
+        push_part(&mut cut, trace, number, first, end)?;
+        first = end;
+    }
+    Ok(Cut { trace, parts: cut })
+}
+
+/// Looks for the first bad cut.
+fn check_cuts(events: u32, cuts: &[u32]) -> Result<(), CutFault>
+    ensures good { IfOk result (λ _. AreGoodTo events cuts.now (length cuts.now) × (length cuts.now ≤ 65535)) }
+    ensures bad { IfErr result (λ f. IsCutFault events cuts.now f) }
+{
+    if cuts.len() > MOST_CUTS {
+        return Err(CutFault::TooMany);
+    }
+    for index in 0..cuts.len() {
+        if cuts[index] > events {
+            return Err(CutFault::OutOfRange {
+                index: index as u32,
+            });
+        }
+        if index > 0 && cuts[index] <= cuts[index - 1] {
+            return Err(CutFault::NotRising {
+                index: index as u32,
+            });
+        }
+    }
+    Ok(())
+}
+
+/// Cuts a trace at these positions, each 0 to the number of events and above the one before it: n cuts make n + 1 parts. It
+/// takes time and memory linear in the number of cuts.
+///
+/// # Errors
+///
+/// `TooMany` where there are more than 65,535, else the first bad cut, `OutOfRange` before `NotRising`, or `Memory` where
+/// an allocation was refused.
+pub fn cut_at<'t, 'a>(
+    alloc: Global,
+    trace: &'t Trace<'a>,
+    cuts: &[u32],
+) -> Result<Cut<'t, 'a>, CutFault>
+    ensures trace { IfOk result (λ c. c.trace ≡ trace.now) }
+    ensures cut { IfOk result IsCut }
+    ensures begins { IfOk result (λ c. BeginAt cuts.now c.parts) }
+    ensures fault { IfErr result (λ f. IsCutFault (length trace.now.records) cuts.now f) }
+{
+    let events = trace.count();
+    check_cuts(events, cuts)?;
+    let mut parts = Vec::with_capacity(alloc, cuts.len() + 1)?;
+    let mut first = 0;
+    for (number, cut) in cuts.iter().enumerate() {
+        push_part(&mut parts, trace, number as u32, first, *cut)?;
+        first = *cut;
+    }
+    push_part(&mut parts, trace, cuts.len() as u32, first, events)?;
+    Ok(Cut { trace, parts })
+}

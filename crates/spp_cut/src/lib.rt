@@ -1,0 +1,11 @@
+//! Parts of a trace: runs of its events, which borrow it.
+#![tactic(auto)]
+
+mod cutting;
+mod part;
+
+pub use cutting::{Cut, CutFault, cut_at, cut_even};
+pub use part::Part;
+
+#[cfg(test)]
+mod tests;

@@ -1,0 +1,76 @@
+//! A part of a trace.
+
+ghost use Rattle.std.specs.Prelude.{◌≡◌, ◌+◌, ◌<◌, ◌≤◌, length, IfOk};
+ghost use Rattle.spp_event.specs.Records.{IsEventOf};
+ghost use Rattle.spp_event.specs.Recordings.{record_at};
+
+use spp_event::{Event, EventFault, Trace};
+use std::marker::Model;
+
+/// A run of events of one trace, which it borrows: some events from a position on.
+///
+/// Contracts see its trace, its number among the parts of its cut, its first position and its number of events.
+#[derive(Drop)]
+pub struct Part<'t, 'a> {
+    pub(crate) trace: &'t Trace<'a>,
+    pub(crate) number: u32,
+    pub(crate) first: u32,
+    pub(crate) count: u32,
+}
+
+impl<'t, 'a> Model for Part<'t, 'a> {
+    ghost use Rattle.std.specs.Prelude.{◌+◌, ◌≤◌, length};
+    ghost use Rattle.spp_cut.specs.Parts.{PartOf};
+
+    ghost Value = { PartOf };
+
+    ghost view = { λ p. record { trace = p.trace.now; number = p.number; first = p.first; count = p.count } };
+
+    ghost invariant = { λ p. p.first + p.count ≤ length p.trace.now.records };
+}
+
+impl<'t, 'a> Part<'t, 'a> {
+    /// The trace that it is a part of.
+    pub fn trace(&self) -> &'t Trace<'a>
+        ensures { result.now ≡ self.now.trace }
+    {
+        self.trace
+    }
+
+    /// How many parts of its cut come before it.
+    pub fn number(&self) -> u32
+        ensures { result ≡ self.now.number }
+    {
+        self.number
+    }
+
+    /// The position of its first event, or, where it has none, of the event behind it.
+    pub fn first(&self) -> u32
+        ensures { result ≡ self.now.first }
+    {
+        self.first
+    }
+
+    /// How many events it has. Its clause `within` gives out that they are events of the trace.
+    pub fn count(&self) -> u32
+        ensures count { result ≡ self.now.count }
+        ensures within { self.now.first + self.now.count ≤ length self.now.trace.records }
+    {
+        self.count
+    }
+
+    /// The event at `k` among its events, as its trace has it at that position. It takes no memory and a constant time.
+    ///
+    /// # Errors
+    ///
+    /// The first fault of the record, in the order of [`EventFault`].
+    pub fn event_at(&self, k: u32) -> Result<Event, EventFault>
+        requires { k < self.now.count }
+        ensures said { result ≡ record_at self.now.trace.records (self.now.first + k) }
+        ensures within { IfOk result (λ e. IsEventOf (length self.now.trace.sites) (length self.now.trace.funcs) e) }
+    {
+        // Its clauses tell that positions fit.
+        let _count = self.trace.count();
+        self.trace.event_at(self.first + k)
+    }
+}

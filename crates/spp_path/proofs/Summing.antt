@@ -1,0 +1,626 @@
+-- In a well-formed trace the pass that sums up the rows of the path meets the conditions of each step, and ends with
+-- these rows.
+use Rattle.std.proofs.Common.{◌≡◌, ℕ, zero, suc, ◌+◌, ◌-◌, ◌*◌, ◌<◌, ◌≤◌, ◌^◌, ◌&&◌, Bool, true, false, cond, nat_eq, List, [], ◌∷◌, ◌++◌, length, map, take, get_or, set, replicate, reverse, slice_index, slice_index_or, Option, Some, None, Ok, Err, unwrap_or, refl, sym, ap, ap₂, subst, ◌∙◌, arith, inl, inr, IfOk}
+use Rattle.std.specs.Option.{option_map}
+use Rattle.std.specs.List.{slice_get}
+use Rattle.std.specs.FinMap as map
+use Rattle.std.specs.Ordering.{nat_cmp}
+use Rattle.std.proofs.lemmas.Bool.{eq-eqb, cases_Bool, cases_lt}
+use Rattle.std.proofs.lemmas.List.{length-map, length-replicate, length-set, take_all}
+use Rattle.std.proofs.lemmas.Option.{slice_get-map, slice_get-get_or, slice_get_past}
+use Rattle.spp_event.specs.declared.records.Event.{Event}
+use Rattle.spp_event.specs.declared.records.Event.TheVariants.{Strand, Call, Spawn, Ret, Sync}
+use Rattle.spp_event.specs.declared.records.EventFault.{EventFault}
+use Rattle.spp_event.specs.declared.records.EventFault.TheVariants.{Truncated}
+use Rattle.spp_event.specs.Records.{IsEventOf}
+use Rattle.spp_event.specs.Recordings.{Record, Recording, record_at}
+use Rattle.spp_frame.specs.Nesting as nesting
+use Rattle.spp_frame.specs.Nesting.{AreEvents}
+use Rattle.spp_frame.proofs.Laws.{well_formed_are_events}
+use Rattle.spp_maxplus.specs.State.{unburdened, start, close}
+use Rattle.spp_dag.specs.declared.row.Row.{Row}
+use Rattle.spp_dag.specs.declared.stack.OpenFrame.{OpenFrame}
+use Rattle.spp_dag.specs.declared.stack.EntryFrame.{EntryFrame}
+use Rattle.spp_dag.specs.declared.stack.FrameKind.TheVariants.{Root}
+use Rattle.spp_dag.specs.Trace.{records, event_at, weight, weight_of, spawns, IsWellFormed}
+use Rattle.spp_dag.specs.Dag.{IsPath, On}
+use Rattle.spp_dag.specs.Rows.{AreSpans, row, work}
+use Rattle.spp_dag.specs.Stack.{run, root_frame}
+use Rattle.spp_dag.specs.Shares.{share, plus, zero_row}
+use Rattle.spp_dag.specs.Laws.{own_row}
+use Rattle.spp_dag.specs.Choices.{IsEntry, entry_frame, first_of}
+use Rattle.spp_dag.specs.Steps.{site_by, key_of, same_key, closed_row, strand_row}
+use Rattle.spp_dag.proofs.Shares.{same_rows, shares_law, cut_law, end_law}
+use Rattle.spp_dag.proofs.Stacks.{stack_stands, machine_gives_spans}
+use Rattle.spp_dag.proofs.StepsFrames.{run_next}
+use Rattle.spp_dag.proofs.Ties.{path_exists}
+use Rattle.spp_dag.proofs.Profiles.{greatest_one, spans_law, root_work}
+use Rattle.spp_site.specs.Rows.{Fits}
+use Rattle.spp_site.specs.Table.{Sums, row_at, empty}
+use Rattle.spp_site.proofs.Rows.{plus-zero, zero-plus}
+use Rattle.spp_path.specs.declared.rows.EnteredFrame.{EnteredFrame}
+use Rattle.spp_path.specs.declared.rows.PathRows.{PathRows}
+use Rattle.spp_path.specs.Entered.{AreEntered}
+use Rattle.spp_path.specs.Tables.{key_row, IsPathTable}
+use Rattle.spp_path.specs.Rows.{Told, told, entered_row, start_told, runs, enter_told, wait_told, CanAdd, CanEnter, CanReturn, CanFinish}
+use Rattle.spp_path.proofs.PathSpans.{passed, entered_span}
+use Rattle.spp_path.proofs.RowSums.{full_row, none_owed, closed_owed, Low, low_zero, low_plus, low_closed, low_fits}
+use Rattle.spp_path.proofs.Counts.{site_le, func_le, known, raised_is}
+use Rattle.spp_path.proofs.Running.{running_first, marked}
+use Rattle.spp_path.proofs.Places.{PathFrame, entries, first, AreOpen}
+use Rattle.spp_path.proofs.Summed.{no_weight, owed, on, on_true, shown, tell, shares_to, At, Summed, StrandDone, strand_next, SyncDone, sync_next, CallDone, call_next, SpawnDone, spawn_next, ReturnDone, HasFirst, return_next, heads, closes_with, row_is, return_rows, return_low}
+
+-- ---- the start
+
+zeros : (n s : ℕ) → get_or {A = ℕ} (replicate n 0) s 0 ≡ 0
+zeros zero s = refl
+zeros (suc n) zero = refl
+zeros (suc n) (suc s) = zeros n s
+
+doubled : (a : Row) → a ≡ plus a a → a ≡ zero_row
+doubled a h =
+    let f1 : a.count ≡ a.count + a.count = ap (λ r. r.count) h in
+    let f2 : a.local ≡ a.local + a.local = ap (λ r. r.local) h in
+    let f3 : a.site_count ≡ a.site_count + a.site_count = ap (λ r. r.site_count) h in
+    let f4 : a.site_work ≡ a.site_work + a.site_work = ap (λ r. r.site_work) h in
+    let f5 : a.site_span ≡ a.site_span + a.site_span = ap (λ r. r.site_span) h in
+    let f6 : a.caller_count ≡ a.caller_count + a.caller_count = ap (λ r. r.caller_count) h in
+    let f7 : a.caller_work ≡ a.caller_work + a.caller_work = ap (λ r. r.caller_work) h in
+    let f8 : a.caller_span ≡ a.caller_span + a.caller_span = ap (λ r. r.caller_span) h in
+    same_rows a zero_row (omega arith) (omega arith) (omega arith) (omega arith) (omega arith) (omega arith) (omega arith) (omega arith)
+
+empty_rows : (key : Option ℕ) → key_row empty key ≡ zero_row
+empty_rows None = refl
+empty_rows (Some s) = ap (λ o. unwrap_or o zero_row) (map.get-empty nat_cmp s)
+
+-- a walk passes its first position
+starts_on : (rest : List ℕ) → On 0 rest 0
+starts_on [] = refl
+starts_on (u ∷ us) = inl refl
+
+-- the root frame, as the pass has it at first
+abbrev root_in : ℕ → PathFrame
+root_in root = record {
+  entry = record { kind = Root; at = 0; site = 0; func = root; before = 0; state = start; top_site = true; top_caller = true };
+  local = 0;
+  running = true;
+}
+
+module _ (es : List Event) (wf : IsWellFormed es) (root : ℕ) (span : ℕ → ℕ) (spans : AreSpans es span) (rest : List ℕ) (path : IsPath es unburdened 0 (length es) rest) where
+  abbrev SummedTo : ℕ → Told → Type 0
+  SummedTo = Summed es wf root span spans rest path
+
+  abbrev AtPlace : ℕ → List EntryFrame → List PathFrame → List ℕ → List ℕ → ℕ → ℕ → Sums → Type 0
+  AtPlace = At es wf root span spans rest path
+
+  abbrev so_far : ℕ → Option ℕ → Row
+  so_far = shares_to es wf root span spans rest path
+
+  abbrev on_path : ℕ → Bool
+  on_path = on es wf root span spans rest path
+
+  abbrev shows : PathFrame → EnteredFrame
+  shows = shown es wf root span spans rest path
+
+  abbrev tells : List EntryFrame → List PathFrame → List ℕ → List ℕ → ℕ → ℕ → Sums → Told
+  tells = tell es wf root span spans rest path
+
+  share_none : (key : Option ℕ) → so_far 0 key ≡ zero_row
+  share_none key = doubled _ (shares_law es root span on_path key 0 0 0 (omega arith) (omega arith))
+
+  pub start_summed : (sites funcs : ℕ) → root < funcs → SummedTo 0 (start_told root sites funcs)
+  start_summed sites funcs l =
+      let counts = λ (s : ℕ). raised_is (replicate funcs 0) root s (simp length-replicate l) in
+      record {
+        outs = [];
+        ks = root_in root ∷ [];
+        is = refl;
+        at = record {
+          place = record {
+            entry = (root_frame root ∷ [], refl, refl, refl);
+            beside = tt;
+            entered = (starts_on rest, ((λ _. running_first es wf rest path 0 (starts_on rest)), λ _. refl), tt);
+            falls = ((let z : 0 < 1 = omega arith in z), tt);
+            open_frames = (refl, refl, refl, refl);
+            level = omega arith;
+          };
+          rows = λ key. ap₂ (λ (x y : Row). plus x y) (empty_rows key) (none_owed (same_key None key) zero_row) ∙ zero-plus zero_row ∙ sym (share_none key);
+          low = λ key. subst (λ r. Low 0 0 r) (sym (share_none key)) (low_zero 0 0);
+          sites = λ s. zeros sites s;
+          funcs = λ s. ap (λ v. get_or (set (replicate funcs 0) root (v + 1)) s 0) (sym (zeros funcs root)) ∙ counts s ∙ ap (λ v. cond (nat_eq root s) 1 0 + v) (zeros funcs s);
+          weight_is = refl;
+          light = omega arith;
+          small = omega arith;
+        };
+      }
+
+  -- ---- the conditions
+
+  same_self : (key : Option ℕ) → same_key key key ≡ true
+  same_self None = refl
+  same_self (Some s) = eq-eqb s s refl
+
+  -- the innermost frame has no more strands than the work so far
+  local_le : (i : ℕ) (outs : List EntryFrame) (k : PathFrame) (ks : List PathFrame) (a b : List ℕ) (w v : ℕ) (t : Sums) → AtPlace i outs (k ∷ ks) a b w v t → k.local ≤ w
+  local_le i outs k ks a b w v t h =
+      let key : Option ℕ = key_of k.entry in
+      let e : plus (key_row t key) (plus (strand_row k.local) (owed ks key)) ≡ so_far i key =
+      ap (λ c. plus (key_row t key) (plus (cond c (strand_row k.local) zero_row) (owed ks key))) (sym (same_self key)) ∙ h.rows key in
+      let m : (key_row t key).local + (k.local + (owed ks key).local) ≡ (so_far i key).local = ap (λ r. r.local) e in
+      let l = (h.low key).local in
+      omega arith
+
+  -- the function of the innermost frame is counted
+  func_open : (i : ℕ) (outs : List EntryFrame) (k : PathFrame) (ks : List PathFrame) (a b : List ℕ) (w v : ℕ) (t : Sums) → AtPlace i outs (k ∷ ks) a b w v t
+      → 0 < slice_index b k.entry.func
+  func_open i outs k ks a b w v t h =
+      let e = h.funcs k.entry.func in
+      let o : cond {A = ℕ} (nat_eq k.entry.func k.entry.func) 1 0 ≡ 1 = ap (λ c. cond {A = ℕ} c 1 0) (eq-eqb k.entry.func k.entry.func refl) in
+      omega arith
+
+  pub can_add : (i n : ℕ) → i ≤ 268435456 → n < 2 ^ 64 → (t : Told) → SummedTo i t → CanAdd n t
+  can_add i n short l t s =
+      subst (λ x. CanAdd n x) (sym s.is) (by s.outs s.ks s.at)
+    where
+      by : (outs : List EntryFrame) (ks : List PathFrame) → AtPlace i outs ks t.open_sites t.open_funcs t.work t.weight t.table
+          → CanAdd n (tells outs ks t.open_sites t.open_funcs t.work t.weight t.table)
+      by outs [] h = absurd h.place.open_frames
+      by outs (k ∷ ks) h =
+          let m = h.small in
+          let p = h.light in
+          let q = local_le i outs k ks t.open_sites t.open_funcs t.work t.weight t.table h in
+          record { local = omega arith; work = omega arith; weight = omega arith }
+
+  pub can_enter : (i site func : ℕ) → i ≤ 268435456 → (t : Told) → site < length t.open_sites → func < length t.open_funcs → SummedTo i t → CanEnter site func t
+  can_enter i site func short t site_in func_in s =
+      subst (λ x. CanEnter site func x) (sym s.is) (by s.outs s.ks s.at)
+    where
+      by : (outs : List EntryFrame) (ks : List PathFrame) → AtPlace i outs ks t.open_sites t.open_funcs t.work t.weight t.table
+          → CanEnter site func (tells outs ks t.open_sites t.open_funcs t.work t.weight t.table)
+      by outs [] h = absurd h.place.open_frames
+      by outs (k ∷ ks) h =
+          let l = h.place.level in
+          let n : length (entries (k ∷ ks)) ≡ length (k ∷ ks) = length-map (k ∷ ks) (λ f. f.entry) in
+          let p = h.sites site in
+          let q = h.funcs func in
+          let p_le = site_le site (entries (k ∷ ks)) in
+          let q_le = func_le func (entries (k ∷ ks)) in
+          record {
+            site_known = site_in;
+            func_known = func_in;
+            caller_known = known t.open_funcs k.entry.func (func_open i outs k ks t.open_sites t.open_funcs t.work t.weight t.table h);
+            site_room = omega arith;
+            func_room = omega arith;
+            skip_room = omega arith;
+          }
+
+  -- a return never meets the root alone
+  not_alone : (i : ℕ) (f : EntryFrame) (w : ℕ) → event_at es i ≡ Some Ret → i < length es → IsEntry es root i (f ∷ []) w → ⊥
+  not_alone i f w is l at = by at.0 at.1 at.2
+    where
+      by : (os : List OpenFrame) → run unburdened 0 (take i es) (root_frame root ∷ []) ≡ Some os → (f ∷ []) ≡ map (entry_frame es root) os → ⊥
+      by [] r e = absurd (let z = ap (λ (x : List EntryFrame). length x) e in omega arith)
+      by (o ∷ []) r e =
+          let a = run_next es root i Ret is (o ∷ []) r in
+          let b = stack_stands es wf unburdened root (suc i) (omega arith) in
+          let c : None ≡ Some (b.0 ∷ b.1) = sym a ∙ b.2 in
+          absurd cc
+      by (o ∷ p ∷ os) r e = absurd (let z = ap (λ (x : List EntryFrame). length x) e in omega arith)
+
+  pub can_return : (i : ℕ) → event_at es i ≡ Some Ret → i < length es → i ≤ 268435456 → (f : EnteredFrame) (t : Told) → HasFirst f t → SummedTo i t
+      → t.skipped ≡ 0 → CanReturn f t
+  can_return i is l short f t top s none =
+      subst (λ x. CanReturn f x) (sym s.is) (by s.outs s.ks s.at
+      (subst (λ x. HasFirst f x) s.is top) (ap (λ x. x.skipped) (sym s.is) ∙ none))
+    where
+      in_tell : (k g : PathFrame) (ks : List PathFrame) → AtPlace i [] (k ∷ g ∷ ks) t.open_sites t.open_funcs t.work t.weight t.table
+          → CanReturn (shows k) (tells [] (k ∷ g ∷ ks) t.open_sites t.open_funcs t.work t.weight t.table)
+      in_tell k g ks h =
+          let key : key_of k.entry ≡ Some k.entry.site = h.place.open_frames.0 in
+          let same : same_key (key_of k.entry) (Some k.entry.site) ≡ true = ap (λ o. same_key o (Some k.entry.site)) key ∙ eq-eqb k.entry.site k.entry.site refl in
+          let p = h.sites k.entry.site in
+          let o : cond {A = ℕ} (same_key (key_of k.entry) (Some k.entry.site)) 1 0 ≡ 1 = ap (λ c. cond {A = ℕ} c 1 0) same in
+          let site_open : 0 < slice_index t.open_sites k.entry.site = omega arith in
+          let func_is = func_open i [] k (g ∷ ks) t.open_sites t.open_funcs t.work t.weight t.table h in
+          let m : t.work ≤ 18446744073709551616 * i = h.small in
+          let e = closes_with es wf root span spans rest path i is k (g ∷ ks) t.open_sites t.open_funcs t.work t.weight t.table h in
+          let rows = ap (λ c. plus (cond c (plus (row_at t.table k.entry.site) (full_row k.entry k.local t.work)) (row_at t.table k.entry.site)) (owed (g ∷ ks) (Some k.entry.site))) (sym same)
+          ∙ return_rows es wf root span spans rest path i is k (g ∷ ks) t.open_sites t.open_funcs t.work t.weight t.table h (Some k.entry.site) in
+          let fits = low_fits (suc i) t.work _ _ _ rows (return_low es wf root span spans rest path i is short k (g ∷ ks) t.open_sites t.open_funcs t.work t.weight t.table h (Some k.entry.site)) (omega arith) (omega arith) in
+          record {
+            deep = omega arith;
+            work_before = h.place.open_frames.1;
+            weight_before = omega arith;
+            site_known = known t.open_sites k.entry.site site_open;
+            func_known = known t.open_funcs k.entry.func func_is;
+            site_open = site_open;
+            func_open = func_is;
+            row = subst (λ r. Fits (plus (row_at t.table k.entry.site) r)) (sym (row_is es wf root span spans rest path i k t.work t.weight e)) fits;
+          }
+
+      by : (outs : List EntryFrame) (ks : List PathFrame) → AtPlace i outs ks t.open_sites t.open_funcs t.work t.weight t.table
+          → HasFirst f (tells outs ks t.open_sites t.open_funcs t.work t.weight t.table) → length outs ≡ 0
+          → CanReturn f (tells outs ks t.open_sites t.open_funcs t.work t.weight t.table)
+      by (o ∷ os) ks h top z = absurd (omega arith)
+      by [] [] h top z = absurd h.place.open_frames
+      by [] (k ∷ []) h top z = absurd (not_alone i k.entry t.work is l h.place.entry)
+      by [] (k ∷ g ∷ ks) h top z =
+          subst (λ x. CanReturn x (tells [] (k ∷ g ∷ ks) t.open_sites t.open_funcs t.work t.weight t.table))
+          (sym (heads es wf root span spans rest path i f top.0 k (g ∷ ks) top.1)) (in_tell k g ks h)
+
+  -- ---- the end
+
+  -- at the end the root is open alone, and closes with the span
+  record Ended (f : EntryFrame) (fs : List EntryFrame) (w : ℕ) : Type 0 where
+    alone : length fs ≡ 0
+    span_is : close f.state ≡ span 0
+    work_is : w ≡ work es 0
+
+  ended : (f : EntryFrame) (fs : List EntryFrame) (w : ℕ) → IsEntry es root (length es) (f ∷ fs) w → Ended f fs w
+  ended f fs w at =
+      let m = machine_gives_spans es wf unburdened root in
+      let all : take (length es) es ≡ es = take_all (length es) es (omega arith) in
+      let ran : run unburdened 0 es (root_frame root ∷ []) ≡ Some at.0 = ap (λ part. run unburdened 0 part (root_frame root ∷ [])) (sym all) ∙ at.1 in
+      let both : Some at.0 ≡ Some (m.0 ∷ []) = sym ran ∙ m.1 in
+      let one : at.0 ≡ m.0 ∷ [] = cc in
+      let frames : f ∷ fs ≡ entry_frame es root m.0 ∷ [] = at.2 ∙ ap (λ (os : List OpenFrame). map (entry_frame es root) os) one in
+      let head : f ≡ entry_frame es root m.0 = cc in
+      let len : length (f ∷ fs) ≡ 1 = ap (λ (x : List EntryFrame). length x) frames in
+      let n : length (records es) ≡ length es = length-map es (λ e. Ok e) in
+      let whole : take (length es) (records es) ≡ records es = take_all (length es) (records es) (omega arith) in
+      record {
+        alone = omega arith;
+        span_is = ap (λ (e : EntryFrame). close e.state) head ∙ greatest_one es unburdened 0 (length es) (close m.0.plain) (span 0) m.2 (spans 0 refl);
+        work_is = at.3 ∙ ap (λ (rs : List Record). nesting.work rs) whole ∙ sym (root_work es);
+      }
+
+  -- the root alone, as the pass has it at the end
+  record Left (t : Told) : Type 0 where
+    k : PathFrame
+    is : t ≡ tells [] (k ∷ []) t.open_sites t.open_funcs t.work t.weight t.table
+    at : AtPlace (length es) [] (k ∷ []) t.open_sites t.open_funcs t.work t.weight t.table
+    span_is : close k.entry.state ≡ span 0
+    work_is : t.work ≡ work es 0
+
+  some_left : (os : List EntryFrame) (k : PathFrame) (ks : List PathFrame) → 0 < length (os ++ entries (k ∷ ks))
+  some_left [] k ks = omega arith
+  some_left (o ∷ os) k ks = omega arith
+
+  left : (t : Told) → SummedTo (length es) t → Left t
+  left t s = by s.outs s.ks s.is s.at
+    where
+      by : (outs : List EntryFrame) (ks : List PathFrame) → t ≡ tells outs ks t.open_sites t.open_funcs t.work t.weight t.table
+          → AtPlace (length es) outs ks t.open_sites t.open_funcs t.work t.weight t.table → Left t
+      by outs [] e h = absurd h.place.open_frames
+      by (o ∷ os) (k ∷ ks) e h =
+          let z = (ended o (os ++ entries (k ∷ ks)) t.work h.place.entry).alone in
+          let y = some_left os k ks in
+          absurd (omega arith)
+      by [] (k ∷ g ∷ ks) e h = absurd (let z = (ended k.entry (entries (g ∷ ks)) t.work h.place.entry).alone in omega arith)
+      by [] (k ∷ []) e h =
+          let z = ended k.entry [] t.work h.place.entry in
+          record { k = k; is = e; at = h; span_is = z.span_is; work_is = z.work_is }
+
+  -- the whole weight of the path is the span
+  all_passed : (v : ℕ) → v ≡ passed es on_path (length es) → v ≡ span 0
+  all_passed v e =
+      let law = entered_span es wf rest path 0 (span 0) refl (starts_on rest) (spans 0 refl) in
+      let past : weight es (length es) ≡ 0 = ap weight_of (slice_get_past es (length es) (omega arith)) in
+      let here : cond (on_path (length es)) (weight es (length es)) 0 ≡ 0 = no_weight (on_path (length es)) (weight es (length es)) past in
+      omega arith
+
+  -- the root begins where the path does, and has the row that the pass gives it
+  root_first : (t : Told) (h : Left t) → passed es on_path (first h.k.entry) ≡ 0
+  root_first t h = ap (λ kind. passed es on_path (first_of kind h.k.entry.at)) h.at.place.open_frames.0
+
+  root_row : (t : Told) (h : Left t) → entered_row (shows h.k) t.work t.weight ≡ full_row h.k.entry h.k.local t.work
+  root_row t h =
+      let a = root_first t h in
+      let b = all_passed t.weight h.at.weight_is in
+      let c = h.span_is in
+      row_is es wf root span spans rest path (length es) h.k t.work t.weight (omega arith)
+
+  -- the root's row, which is what the end adds
+  root_closed : (k : PathFrame) (w : ℕ) → AreOpen w (k.entry ∷ []) → close k.entry.state ≡ span 0 → w ≡ work es 0 → closed_row k.entry w ≡ own_row es span
+  root_closed k w h s v =
+      let before : k.entry.before ≡ 0 = h.1 in
+      let site : k.entry.top_site ≡ true = h.2 in
+      let caller : k.entry.top_caller ≡ true = h.3 in
+      let all : w - k.entry.before ≡ work es 0 = omega arith in
+      same_rows (closed_row k.entry w) (own_row es span) refl refl
+      (ap (λ c. cond {A = ℕ} c 1 0) site) (ap (λ c. cond c (w - k.entry.before) 0) site ∙ all) (ap (λ c. cond c (close k.entry.state) 0) site ∙ s)
+      (ap (λ c. cond {A = ℕ} c 1 0) caller) (ap (λ c. cond c (w - k.entry.before) 0) caller ∙ all) (ap (λ c. cond c (close k.entry.state) 0) caller ∙ s)
+
+  root_key : (w : ℕ) (k : PathFrame) → AreOpen w (k.entry ∷ []) → key_of k.entry ≡ None
+  root_key w k h = ap (λ x. site_by x k.entry.site) h.0
+
+  root_added : (t : Told) (h : Left t) → plus t.table.root (full_row h.k.entry h.k.local t.work) ≡ plus (so_far (length es) None) (closed_row h.k.entry t.work)
+  root_added t h =
+      let same : same_key (key_of h.k.entry) None ≡ true = ap (λ o. same_key o None) (root_key t.work h.k h.at.place.open_frames) in
+      sym (plus-zero (plus t.table.root (full_row h.k.entry h.k.local t.work)))
+      ∙ ap (λ c. plus (cond c (plus t.table.root (full_row h.k.entry h.k.local t.work)) t.table.root) zero_row) (sym same)
+      ∙ closed_owed (same_key (key_of h.k.entry) None) h.k.entry h.k.local t.work t.table.root zero_row
+      ∙ ap₂ (λ (x : Row) (c : Bool). plus x (cond c (closed_row h.k.entry t.work) zero_row)) (h.at.rows None) same
+
+  -- a row is what the events add, and what the end does
+  row_parts : (key : Option ℕ) → row es root span on_path key ≡ plus (so_far (length es) key) (share es root span on_path key (length es) (suc (length es)))
+  row_parts key =
+      cut_law es root span on_path key (length es ∷ []) (omega arith, refl)
+      ∙ ap (λ r. plus r (share es root span on_path key (length es) (suc (length es)))) (plus-zero (so_far (length es) key))
+
+  first_is : (f : EnteredFrame) (t : Told) (h : Left t) → HasFirst f t → f ≡ shows h.k
+  first_is f t h top =
+      heads es wf root span spans rest path (length es) f top.0 h.k [] (ap (λ x. x.frames) (sym h.is) ∙ top.1)
+
+  pub can_finish : length es ≤ 268435456 → (f : EnteredFrame) (t : Told) → HasFirst f t → SummedTo (length es) t → CanFinish f t
+  can_finish short f t top s =
+      let h = left t s in
+      let a = root_first t h in
+      let b = all_passed t.weight h.at.weight_is in
+      let c = h.span_is in
+      let l = h.at.light in
+      let m : t.work ≤ 18446744073709551616 * length es = h.at.small in
+      let before : h.k.entry.before ≡ 0 = h.at.place.open_frames.1 in
+      let closed : Low 1 0 (closed_row h.k.entry t.work) = low_closed true h.k.entry t.work (omega arith) (omega arith) in
+      let fits = low_fits (length es + 1) (t.work + 0) _ zero_row _ (plus-zero _ ∙ root_added t h)
+      (low_plus (length es) 1 t.work 0 (so_far (length es) None) (closed_row h.k.entry t.work) (h.at.low None) closed) (omega arith) (omega arith) in
+      subst (λ x. CanFinish x t) (sym (first_is f t h top)) (record {
+        work_before = omega arith;
+        weight_before = omega arith;
+        row = subst (λ r. Fits (plus t.table.root r)) (sym (root_row t h)) fits;
+      })
+
+  pub finished : (f : EnteredFrame) (t : Told) → HasFirst f t → SummedTo (length es) t
+      → (key : Option ℕ) → key_row (record t.table { root = plus t.table.root (entered_row f t.work t.weight) }) key ≡ row es root span on_path key
+  finished f t top s = by
+    where
+      h : Left t
+      h = left t s
+
+      own : entered_row f t.work t.weight ≡ full_row h.k.entry h.k.local t.work
+      own = ap (λ x. entered_row x t.work t.weight) (first_is f t h top) ∙ root_row t h
+
+      root_share : cond (on_path 0) (own_row es span) zero_row ≡ own_row es span
+      root_share = ap (λ c. cond c (own_row es span) zero_row) (on_true es wf root span spans rest path 0 (starts_on rest))
+
+      by : (key : Option ℕ) → key_row (record t.table { root = plus t.table.root (entered_row f t.work t.weight) }) key ≡ row es root span on_path key
+      by None =
+          ap (λ r. plus t.table.root r) own
+          ∙ root_added t h
+          ∙ ap (λ r. plus (so_far (length es) None) r) (root_closed h.k t.work h.at.place.open_frames h.span_is h.work_is ∙ sym root_share ∙ sym (end_law es wf root span on_path).0)
+          ∙ sym (row_parts None)
+      by (Some site) =
+          sym (plus-zero (row_at t.table site))
+          ∙ ap (λ r. plus (row_at t.table site) r) (sym (zero-plus zero_row))
+          ∙ ap (λ o. plus (row_at t.table site) (plus (cond (same_key o (Some site)) (strand_row h.k.local) zero_row) zero_row)) (sym (root_key t.work h.k h.at.place.open_frames))
+          ∙ h.at.rows (Some site)
+          ∙ sym (plus-zero (so_far (length es) (Some site)))
+          ∙ ap (λ r. plus (so_far (length es) (Some site)) r) (sym ((end_law es wf root span on_path).1 site))
+          ∙ sym (row_parts (Some site))
+
+-- ---- the events of a trace
+
+event_is : (rs : List Record) (es : List Event) (i : ℕ) (e : Event) → AreEvents rs es → i < length rs → record_at rs i ≡ Ok e → event_at es i ≡ Some e
+event_is rs es i e are l said =
+    by (slice_get es i) refl
+    (sym (slice_get-map (λ (x : Event). Ok x) es i) ∙ ap (λ (x : List Record). slice_get x i) (sym are) ∙ slice_get-get_or rs i (Err Truncated) l ∙ ap (λ (x : Record). Some x) said)
+  where
+    by : (o : Option Event) → slice_get es i ≡ o → option_map (λ (x : Event). let r : Record = Ok x in r) (slice_get es i) ≡ Some (Ok e) → slice_get es i ≡ Some e
+    by None q h = absurd (let z : None ≡ Some (Ok e) = ap (λ (o : Option Event). option_map (λ (x : Event). let r : Record = Ok x in r) o) (sym q) ∙ h in cc)
+    by (Some x) q h =
+        let z : Some (Ok x) ≡ Some (Ok e) = ap (λ (o : Option Event). option_map (λ (y : Event). let r : Record = Ok y in r) o) (sym q) ∙ h in
+        let w : x ≡ e = cc in
+        q ∙ ap (λ (y : Event). Some y) w
+
+no_fault : (rs : List Record) (es : List Event) (i : ℕ) (f : EventFault) → AreEvents rs es → i < length rs → record_at rs i ≡ Err f → ⊥
+no_fault rs es i f are l said =
+    by (slice_get es i)
+    (sym (slice_get-map (λ (x : Event). Ok x) es i) ∙ ap (λ (x : List Record). slice_get x i) (sym are) ∙ slice_get-get_or rs i (Err Truncated) l ∙ ap (λ (x : Record). Some x) said)
+  where
+    by : (o : Option Event) → option_map (λ (x : Event). let r : Record = Ok x in r) o ≡ Some (Err f) → ⊥
+    by None h = absurd cc
+    by (Some x) h = absurd cc
+
+-- ---- no event changes how many counts there are
+
+-- as many counts as before
+abbrev SameLengths : Told → Told → Type 0
+SameLengths old new = (length new.open_sites ≡ length old.open_sites) × (length new.open_funcs ≡ length old.open_funcs)
+
+same_lengths : (old new mid : Told) → new ≡ mid → SameLengths old mid → SameLengths old new
+same_lengths old new mid e h = subst (λ x. SameLengths old x) (sym e) h
+
+entered_lengths : (site func : ℕ) (t : Told) → SameLengths t (enter_told site func t)
+entered_lengths site func t = (length-set t.open_sites site _, length-set t.open_funcs func _)
+
+strand_lengths : (n : ℕ) (old new : Told) → StrandDone n old new → SameLengths old new
+strand_lengths n old new d = elim (cases_Bool (runs old)) [
+  | inl r ↦ same_lengths old new _ (d.0 r) (refl, refl)
+  | inr r ↦ same_lengths old new _ (d.1 r) (refl, refl)
+]
+
+sync_lengths : (old new : Told) → SyncDone old new → SameLengths old new
+sync_lengths old new d = elim (cases_lt 0 old.skipped) [
+  | inl l ↦ same_lengths old new _ (d.1 l) (refl, refl)
+  | inr l ↦ same_lengths old new _ (d.0 (omega arith)) (refl, refl)
+]
+
+call_lengths : (site func : ℕ) (old new : Told) → CallDone site func old new → SameLengths old new
+call_lengths site func old new d = elim (cases_Bool (runs old)) [
+  | inl r ↦ same_lengths old new _ (d.0 r) (entered_lengths site func old)
+  | inr r ↦ same_lengths old new _ (d.1 r) (refl, refl)
+]
+
+spawn_lengths : (enters : Bool) (site func : ℕ) (old new : Told) → SpawnDone enters site func old new → SameLengths old new
+spawn_lengths enters site func old new d = elim (cases_Bool (nat_eq old.skipped 0 && enters)) [
+  | inl r ↦ same_lengths old new _ (d.0 r) (entered_lengths site func (wait_told old))
+  | inr r ↦ same_lengths old new _ (d.1 r) (refl, refl)
+]
+
+return_lengths : (f : EnteredFrame) (old new : Told) → ReturnDone f old new → SameLengths old new
+return_lengths f old new d = elim (cases_lt 0 old.skipped) [
+  | inl l ↦ same_lengths old new _ (d.1 l) (refl, refl)
+  | inr l ↦
+      let r = d.0 (omega arith) in
+      (ap (λ (x : List ℕ). length x) r.open_sites ∙ length-set old.open_sites f.site _, ap (λ (x : List ℕ). length x) r.open_funcs ∙ length-set old.open_funcs f.func _)
+]
+
+-- ---- the pass over a trace
+
+-- before the event at i the pass has t
+abbrev pub SummedIn : Recording → ℕ → Told → Type 0
+SummedIn trace i t = (es : List Event) → AreEvents trace.records es → (wf : IsWellFormed es) (span : ℕ → ℕ) (spans : AreSpans es span) (rest : List ℕ) (path : IsPath es unburdened 0 (length es) rest)
+    → Summed es wf trace.root span spans rest path i t
+
+-- The pass has what it should, and each site and each function of the trace has its count.
+pub record Kept (trace : Recording) (i : ℕ) (s : PathRows) : Type 0 where
+  pub sites : length s.open_sites.items ≡ length trace.sites
+  pub funcs : length s.open_funcs.items ≡ length trace.funcs
+  pub summed : SummedIn trace i (told s)
+
+pub start_in : (trace : Recording) (s : PathRows) → trace.root < length trace.funcs → told s ≡ start_told trace.root (length trace.sites) (length trace.funcs) → Kept trace 0 s
+start_in trace s l e = record {
+  sites = ap (λ t. length t.open_sites) e ∙ length-replicate (length trace.sites) 0;
+  funcs = ap (λ t. length t.open_funcs) e ∙ length-set (replicate (length trace.funcs) 0) trace.root 1 ∙ length-replicate (length trace.funcs) 0;
+  summed = λ es are wf span spans rest path. subst (λ t. Summed es wf trace.root span spans rest path 0 t) (sym e) (start_summed es wf trace.root span spans rest path (length trace.sites) (length trace.funcs) l);
+}
+
+-- the events of a well-formed trace, the spans of its frames and its path
+record Given (trace : Recording) : Type 0 where
+  es : List Event
+  are : AreEvents trace.records es
+  wf : IsWellFormed es
+  span : ℕ → ℕ
+  spans : AreSpans es span
+  rest : List ℕ
+  path : IsPath es unburdened 0 (length es) rest
+
+given : (trace : Recording) → nesting.IsWellFormed trace.records → Given trace
+given trace wf =
+    let r = well_formed_are_events trace.records wf in
+    let w : IsWellFormed r.0 = subst (λ (x : List Record). nesting.IsWellFormed x) r.1 wf in
+    let s = (spans_law r.0 w).0 in
+    let p = path_exists r.0 w unburdened 0 refl in
+    record { es = r.0; are = r.1; wf = w; span = s.0; spans = s.1; rest = p.0; path = p.1 }
+
+pub no_fault_in : (trace : Recording) (i : ℕ) (f : EventFault) → nesting.IsWellFormed trace.records → i < length trace.records → record_at trace.records i ≡ Err f → ⊥
+no_fault_in trace i f wf l said = let g = given trace wf in no_fault trace.records g.es i f g.are l said
+
+-- what a reader says of a record
+abbrev pub IsRead : Recording → ℕ → Event → Type 0
+IsRead trace i e = (record_at trace.records i ≡ Ok e) × IsEventOf (length trace.sites) (length trace.funcs) e
+
+pub is_read : (trace events : Recording) (i : ℕ) (r : Record) (e : Event) → events ≡ trace → r ≡ record_at events.records i
+    → IfOk r (λ (x : Event). IsEventOf (length events.sites) (length events.funcs) x) → r ≡ Ok e → IsRead trace i e
+is_read trace events i r e same said within is =
+    subst (λ (v : Recording). IsRead v i e) same (sym said ∙ is, subst (λ (x : Record). IfOk x (λ (y : Event). IsEventOf (length events.sites) (length events.funcs) y)) is within)
+
+-- the pass has its innermost frame first
+abbrev pub top_in : (s : PathRows) → (fs : List EnteredFrame) × ((told s).frames ≡ s.top ∷ fs)
+top_in s = (reverse s.below.items, refl)
+
+-- each event has its mark
+pub marks_len : (trace : Recording) → nesting.IsWellFormed trace.records → (marks : List Bool) → ((es : List Event) → AreEvents trace.records es → AreEntered es marks) → length marks ≡ length trace.records
+marks_len trace wf marks are =
+    let g = given trace wf in
+    (are g.es g.are).0 ∙ sym (length-map g.es (λ e. Ok e)) ∙ ap (λ (x : List Record). length x) (sym g.are)
+
+module _ (trace : Recording) (wf : nesting.IsWellFormed trace.records) (short : length trace.records ≤ 268435456) (i : ℕ) (s : PathRows) (at : Kept trace i s) where
+  events_len : (es : List Event) → AreEvents trace.records es → length trace.records ≡ length es
+  events_len es are = ap (λ (x : List Record). length x) are ∙ length-map es (λ e. Ok e)
+
+  pub ready_add : (n : ℕ) → i < length trace.records → IsRead trace i (Strand n) → CanAdd n (told s)
+  ready_add n l r =
+      let g = given trace wf in
+      can_add g.es g.wf trace.root g.span g.spans g.rest g.path i n (omega arith) r.1 (told s) (at.summed g.es g.are g.wf g.span g.spans g.rest g.path)
+
+  ready_enter : (site func : ℕ) → i < length trace.records → (site < length trace.sites) × (func < length trace.funcs) → CanEnter site func (told s)
+  ready_enter site func l r =
+      let g = given trace wf in
+      let n = at.sites in
+      let m = at.funcs in
+      let site_in : site < length trace.sites = r.0 in
+      let func_in : func < length trace.funcs = r.1 in
+      can_enter g.es g.wf trace.root g.span g.spans g.rest g.path i site func (omega arith) (told s) (omega arith) (omega arith) (at.summed g.es g.are g.wf g.span g.spans g.rest g.path)
+
+  pub ready_call : (site func : ℕ) → i < length trace.records → IsRead trace i (Call site func) → CanEnter site func (told s)
+  ready_call site func l r = ready_enter site func l r.1
+
+  pub ready_spawn : (site func : ℕ) → i < length trace.records → IsRead trace i (Spawn site func) → CanEnter site func (told s)
+  ready_spawn site func l r = ready_enter site func l r.1
+
+  pub ready_return : i < length trace.records → IsRead trace i Ret → s.skipped ≡ 0 → CanReturn s.top (told s)
+  ready_return l r z =
+      let g = given trace wf in
+      let n = events_len g.es g.are in
+      can_return g.es g.wf trace.root g.span g.spans g.rest g.path i (event_is trace.records g.es i Ret g.are l r.0) (omega arith) (omega arith) s.top (told s) (top_in s)
+      (at.summed g.es g.are g.wf g.span g.spans g.rest g.path) z
+
+  next_to : (new : PathRows) → ((es : List Event) → AreEvents trace.records es → (wf : IsWellFormed es) (span : ℕ → ℕ) (spans : AreSpans es span) (rest : List ℕ) (path : IsPath es unburdened 0 (length es) rest) → Summed es wf trace.root span spans rest path (suc i) (told new))
+      → SummedIn trace (i + 1) (told new)
+  next_to new h es are wf span spans rest path =
+      subst (λ k. Summed es wf trace.root span spans rest path k (told new)) (let z : suc i ≡ i + 1 = omega arith in z) (h es are wf span spans rest path)
+
+  next_in : (new : PathRows) → SameLengths (told s) (told new) → SummedIn trace (i + 1) (told new) → Kept trace (i + 1) new
+  next_in new e h = record { sites = e.0 ∙ at.sites; funcs = e.1 ∙ at.funcs; summed = h }
+
+  pub next_strand : (n : ℕ) (new : PathRows) → i < length trace.records → IsRead trace i (Strand n) → StrandDone n (told s) (told new) → Kept trace (i + 1) new
+  next_strand n new l r d =
+      next_in new (strand_lengths n (told s) (told new) d) (next_to new (λ es are wf span spans rest path.
+      strand_next es wf trace.root span spans rest path i n (event_is trace.records es i (Strand n) are l r.0) r.1 (told s) (told new) (at.summed es are wf span spans rest path) d))
+
+  pub next_sync : (new : PathRows) → i < length trace.records → IsRead trace i Sync → SyncDone (told s) (told new) → Kept trace (i + 1) new
+  next_sync new l r d =
+      next_in new (sync_lengths (told s) (told new) d) (next_to new (λ es are wf span spans rest path.
+      sync_next es wf trace.root span spans rest path i (event_is trace.records es i Sync are l r.0) (told s) (told new) (at.summed es are wf span spans rest path) d))
+
+  pub next_call : (site func : ℕ) (new : PathRows) → i < length trace.records → IsRead trace i (Call site func) → CallDone site func (told s) (told new) → Kept trace (i + 1) new
+  next_call site func new l r d =
+      let can = ready_call site func l r in
+      next_in new (call_lengths site func (told s) (told new) d) (next_to new (λ es are wf span spans rest path.
+      call_next es wf trace.root span spans rest path i site func (event_is trace.records es i (Call site func) are l r.0) (told s) (told new) can.site_known can.func_known (at.summed es are wf span spans rest path) d))
+
+  pub next_spawn : (marks : List Bool) → ((es : List Event) → AreEvents trace.records es → AreEntered es marks) → (site func : ℕ) (new : PathRows) → i < length trace.records → IsRead trace i (Spawn site func)
+      → SpawnDone (slice_index_or marks i false) site func (told s) (told new) → Kept trace (i + 1) new
+  next_spawn marks are_marks site func new l r d =
+      let can = ready_spawn site func l r in
+      next_in new (spawn_lengths (slice_index_or marks i false) site func (told s) (told new) d) (next_to new (λ es are wf span spans rest path.
+      let is = event_is trace.records es i (Spawn site func) are l r.0 in
+      let n = events_len es are in
+      spawn_next es wf trace.root span spans rest path i (slice_index_or marks i false) site func is
+      (marked es wf rest path marks (are_marks es are) i (omega arith) (ap spawns is)) (told s) (told new) can.site_known can.func_known (at.summed es are wf span spans rest path) d))
+
+  pub next_return : (new : PathRows) → i < length trace.records → IsRead trace i Ret → ReturnDone s.top (told s) (told new) → Kept trace (i + 1) new
+  next_return new l r d =
+      let can = ready_return l r in
+      next_in new (return_lengths s.top (told s) (told new) d) (next_to new (λ es are wf span spans rest path.
+      return_next es wf trace.root span spans rest path i (event_is trace.records es i Ret are l r.0) (omega arith) s.top (told s) (told new) (top_in s) (at.summed es are wf span spans rest path)
+      (λ z. let c = can z in (c.deep, c.site_known, c.func_known)) d))
+
+  pub ready_finish : i ≡ length trace.records → CanFinish s.top (told s)
+  ready_finish last =
+      let g = given trace wf in
+      let n = events_len g.es g.are in
+      can_finish g.es g.wf trace.root g.span g.spans g.rest g.path (omega arith) s.top (told s) (top_in s)
+      (subst (λ k. Summed g.es g.wf trace.root g.span g.spans g.rest g.path k (told s)) (last ∙ n) (at.summed g.es g.are g.wf g.span g.spans g.rest g.path))
+
+  pub finished_in : i ≡ length trace.records → IsPathTable trace (record s.table { root = plus s.table.root (entered_row s.top s.work s.weight) })
+  finished_in last =
+      let g = given trace wf in
+      let n = events_len g.es g.are in (
+        wf,
+        (
+          g.es,
+          g.are,
+          (
+            g.span,
+            g.spans,
+            (
+              g.rest,
+              g.path,
+              finished g.es g.wf trace.root g.span g.spans g.rest g.path s.top (told s) (top_in s)
+                  (subst (λ k. Summed g.es g.wf trace.root g.span g.spans g.rest g.path k (told s)) (last ∙ n) (at.summed g.es g.are g.wf g.span g.spans g.rest g.path)),
+            ),
+          ),
+        ),
+      )

@@ -1,0 +1,5 @@
+pub mod Choices
+pub mod Entered
+pub mod Settling
+pub mod Rows
+pub mod Tables

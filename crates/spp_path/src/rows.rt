@@ -1,0 +1,291 @@
+//! The rows of a run on its first greatest path: a pass over the events of a trace that is known to be well-formed,
+//! where it is known which spawned children the path enters.
+
+ghost use Rattle.std.specs.Prelude.{◌≡◌, ◌<◌, ◌≤◌, ◌&&◌, nat_eq, true, false, List, OnOk, IfOk};
+ghost use Rattle.spp_event.specs.declared.records.Event.{Event};
+ghost use Rattle.spp_frame.specs.Nesting.{AreEvents, IsWellFormed};
+ghost use Rattle.spp_dag.specs.Shares.{plus};
+ghost use Rattle.spp_path.specs.Entered.{AreEntered};
+ghost use Rattle.spp_path.specs.Tables.{IsPathTable};
+ghost use Rattle.spp_path.specs.Rows.{
+  told,
+  entered_row,
+  start_told,
+  runs,
+  strand_told,
+  beside_told,
+  enter_told,
+  skip_told,
+  wait_told,
+  sync_told,
+  leave_told,
+  CanAdd,
+  CanEnter,
+  CanReturn,
+  CanFinish,
+  IsReturned,
+};
+
+use spp_dag::Row;
+use spp_event::{Event, EventReader, Trace};
+use spp_site::Table;
+use std::alloc::{AllocError, Global};
+
+/// An open frame that the path enters.
+#[derive(Clone, Copy)]
+struct EnteredFrame {
+    /// The site that entered it; 0 for the root.
+    site: u32,
+    /// The function that it runs.
+    func: u32,
+    /// No frame that encloses it was entered by its site.
+    top_site: bool,
+    /// No frame that encloses its caller runs the caller's function.
+    top_caller: bool,
+    /// The frame runs on along the path: it waits for no child that the path enters.
+    running: bool,
+    /// The counts of all strands of the trace before its first event.
+    work_before: u128,
+    /// The counts of the path's strands before its first event.
+    weight_before: u128,
+    /// The counts of the path's strands directly in it.
+    local: u128,
+}
+
+impl EnteredFrame {
+    /// The frame's row, where it closes when `work` is the work so far, and `weight` that of the path so far.
+    #[inline(always)]
+    fn row(&self, work: u128, weight: u128) -> Row
+        requires work { self.now.work_before ≤ work }
+        requires weight { self.now.weight_before ≤ weight }
+        ensures { result ≡ entered_row self.now work weight }
+    {
+        let within = work - self.work_before;
+        let span = weight - self.weight_before;
+        Row {
+            count: 1,
+            local: self.local,
+            site_count: if self.top_site { 1 } else { 0 },
+            site_work: if self.top_site { within } else { 0 },
+            site_span: if self.top_site { span } else { 0 },
+            caller_count: if self.top_caller { 1 } else { 0 },
+            caller_work: if self.top_caller { within } else { 0 },
+            caller_span: if self.top_caller { span } else { 0 },
+        }
+    }
+}
+
+/// The pass, between two events.
+#[derive(Drop)]
+struct PathRows {
+    /// The innermost open frame that the path enters.
+    top: EnteredFrame,
+    /// The entered frames below it, the root first.
+    below: Vec<EnteredFrame>,
+    /// How many frames are open that the path doesn't enter. All of them lie within the innermost entered frame.
+    skipped: u32,
+    /// For each site how many open frames that the path enters were entered by it.
+    open_sites: Vec<u32>,
+    /// For each function how many open frames that the path enters run it.
+    open_funcs: Vec<u32>,
+    /// The counts of all strands so far.
+    work: u128,
+    /// The counts of the path's strands so far.
+    weight: u128,
+    /// The rows of the entered frames that have closed.
+    table: Table,
+}
+
+impl PathRows {
+    /// The pass before the first event, where there are that many sites and functions and the root frame runs `root`.
+    fn new(alloc: Global, root: u32, sites: u32, funcs: u32) -> Result<Self, AllocError>
+        requires { root < funcs }
+        ensures { IfOk result (λ s. told s ≡ start_told root sites funcs) }
+    {
+        let open_sites = vec![in alloc; 0; sites as usize]?;
+        let mut open_funcs = vec![in alloc; 0; funcs as usize]?;
+        open_funcs[root as usize] = 1;
+        Ok(PathRows {
+            top: EnteredFrame {
+                site: 0,
+                func: root,
+                top_site: true,
+                top_caller: true,
+                running: true,
+                work_before: 0,
+                weight_before: 0,
+                local: 0,
+            },
+            below: Vec::new(alloc),
+            skipped: 0,
+            open_sites,
+            open_funcs,
+            work: 0,
+            weight: 0,
+            table: Table::new(alloc),
+        })
+    }
+
+    /// Whether the innermost open frame is entered, and runs on along the path.
+    #[inline(always)]
+    fn runs(&self) -> bool
+        ensures { result ≡ runs (told self.now) }
+    {
+        self.skipped == 0 && self.top.running
+    }
+
+    /// A strand of that many instructions.
+    #[inline(always)]
+    fn strand(&mut self, count: u64)
+        requires { CanAdd count (told self.old) }
+        ensures on_path { runs (told self.old) ≡ true → told self.new ≡ strand_told count (told self.old) }
+        ensures beside { runs (told self.old) ≡ false → told self.new ≡ beside_told count (told self.old) }
+    {
+        let count = u128::from(count);
+        self.work += count;
+        if self.runs() {
+            self.weight += count;
+            self.top.local += count;
+        }
+    }
+
+    /// Opens a frame that the path enters, from the innermost one.
+    #[inline(always)]
+    fn enter(&mut self, site: u32, func: u32) -> Result<(), AllocError>
+        requires { CanEnter site func (told self.old) }
+        ensures { OnOk result (told self.new ≡ enter_told site func (told self.old)) }
+    {
+        let caller = self.top.func;
+        let frame = EnteredFrame {
+            site,
+            func,
+            top_site: self.open_sites[site as usize] == 0,
+            top_caller: self.open_funcs[caller as usize] == 1,
+            running: true,
+            work_before: self.work,
+            weight_before: self.weight,
+            local: 0,
+        };
+        self.below.push(self.top)?;
+        self.top = frame;
+        self.open_sites[site as usize] += 1;
+        self.open_funcs[func as usize] += 1;
+        Ok(())
+    }
+
+    /// A call.
+    #[inline(always)]
+    fn call(&mut self, site: u32, func: u32) -> Result<(), AllocError>
+        requires { CanEnter site func (told self.old) }
+        ensures enters { OnOk result (runs (told self.old) ≡ true → told self.new ≡ enter_told site func (told self.old)) }
+        ensures skips { OnOk result (runs (told self.old) ≡ false → told self.new ≡ skip_told (told self.old)) }
+    {
+        if !self.runs() {
+            self.skipped += 1;
+            return Ok(());
+        }
+        self.enter(site, func)
+    }
+
+    /// A spawn of a child that the path enters, or doesn't.
+    #[inline(always)]
+    fn spawn(&mut self, entered: bool, site: u32, func: u32) -> Result<(), AllocError>
+        requires { CanEnter site func (told self.old) }
+        ensures enters { OnOk result ((nat_eq self.old.skipped 0 && entered) ≡ true → told self.new ≡ enter_told site func (wait_told (told self.old))) }
+        ensures skips { OnOk result ((nat_eq self.old.skipped 0 && entered) ≡ false → told self.new ≡ skip_told (told self.old)) }
+    {
+        if self.skipped == 0 && entered {
+            self.top.running = false;
+            return self.enter(site, func);
+        }
+        self.skipped += 1;
+        Ok(())
+    }
+
+    /// A sync.
+    #[inline(always)]
+    fn sync(&mut self)
+        ensures waited { self.old.skipped ≡ 0 → told self.new ≡ sync_told (told self.old) }
+        ensures skipped { 0 < self.old.skipped → told self.new ≡ told self.old }
+    {
+        if self.skipped == 0 {
+            self.top.running = true;
+        }
+    }
+
+    /// A return of a frame that isn't the root.
+    #[inline(always)]
+    fn ret(&mut self) -> Result<(), AllocError>
+        requires { self.old.skipped ≡ 0 → CanReturn self.old.top (told self.old) }
+        ensures returned { OnOk result (self.old.skipped ≡ 0 → IsReturned self.old.top (told self.old) (told self.new)) }
+        ensures skipped { OnOk result (0 < self.old.skipped → told self.new ≡ leave_told (told self.old)) }
+    {
+        if self.skipped > 0 {
+            self.skipped -= 1;
+            return Ok(());
+        }
+        self.close()
+    }
+
+    /// The return of the innermost entered frame, which isn't the root.
+    #[inline(always)]
+    fn close(&mut self) -> Result<(), AllocError>
+        requires { CanReturn self.old.top (told self.old) }
+        ensures { OnOk result (IsReturned self.old.top (told self.old) (told self.new)) }
+    {
+        let child = self.top;
+        self.table
+            .add(child.site, &child.row(self.work, self.weight))?;
+        let Some(parent) = self.below.pop() else {
+            unreachable!();
+        };
+        self.top = parent;
+        self.open_sites[child.site as usize] -= 1;
+        self.open_funcs[child.func as usize] -= 1;
+        Ok(())
+    }
+
+    /// The table, where the last open frame, the root, closes.
+    fn finish(self) -> Table
+        requires { CanFinish self.top (told self) }
+        ensures { result ≡ record self.table { root = plus self.table.root (entered_row self.top self.work self.weight) } }
+    {
+        let root = self.top.row(self.work, self.weight);
+        let PathRows { mut table, .. } = self;
+        table.add_root(&root);
+        table
+    }
+}
+
+/// The rows of a run on its first greatest path. Its trace is known to be well-formed, and `entered` has a mark for
+/// each event, true at the spawns of the children that the path enters.
+///
+/// The events are read once, each in constant time, amortized, behind a step for each site and function. The memory is
+/// linear in the number of frames that are open at a time and that the path enters, and in the numbers of sites and
+/// functions.
+///
+/// # Errors
+///
+/// Where a growth was refused.
+pub fn path_table(alloc: Global, trace: &Trace<'_>, entered: &[bool]) -> Result<Table, AllocError>
+    requires formed { IsWellFormed trace.now.records }
+    requires marks { (es : List Event) → AreEvents trace.now.records es → AreEntered es entered.now }
+    ensures { IfOk result (λ t. IsPathTable trace.now t) }
+{
+    let count = trace.count();
+    let mut events = EventReader::new(trace);
+    let mut rows = PathRows::new(alloc, trace.root(), trace.sites(), trace.funcs())?;
+    for at in 0..count {
+        let Ok(event) = events.event_at(at) else {
+            unreachable!();
+        };
+        match event {
+            Event::Strand { count } => rows.strand(count),
+            Event::Call { site, func } => rows.call(site, func)?,
+            Event::Spawn { site, func } => rows.spawn(entered[at as usize], site, func)?,
+            Event::Ret => rows.ret()?,
+            Event::Sync => rows.sync(),
+        }
+    }
+    Ok(rows.finish())
+}

@@ -1,0 +1,100 @@
+//! The path of a run is settled from its end: which spawned children it enters.
+
+ghost use Rattle.std.specs.Prelude.{◌≡◌, ℕ, List, length, IfOk};
+ghost use Rattle.spp_event.specs.declared.records.Event.{Event};
+ghost use Rattle.spp_dag.specs.Trace.{IsWellFormed};
+ghost use Rattle.spp_path.specs.Choices.{AreChoices};
+ghost use Rattle.spp_path.specs.Entered.{AreEntered};
+ghost use Rattle.spp_path.specs.Settling.{last, later, ended, runs_to};
+
+use crate::choices::{Choices, End, Join};
+use std::alloc::{AllocError, Global};
+
+/// How the path of a run goes, told from the end backwards.
+#[derive(Clone, Copy, Debug)]
+enum Walk {
+    /// It comes to here.
+    Live,
+    /// Here is a child that it doesn't enter, spawned at that position.
+    Skip { spawn: u32 },
+    /// It comes to the join of a child that it enters, spawned at that position, whose return is yet to be found.
+    Seek { spawn: u32 },
+}
+
+/// One of the choices of a run.
+#[derive(Clone, Copy, Debug)]
+enum Note {
+    End(End),
+    Join(Join),
+}
+
+/// The last of these choices, and at one position the end: a return acts as a sync first.
+fn last_note(ends: &[End], joins: &[Join]) -> Option<Note>
+    ensures { result ≡ later (last ends.now) (last joins.now) }
+{
+    match (ends.last(), joins.last()) {
+        (Some(end), Some(join)) if join.at > end.at => Some(Note::Join(*join)),
+        (Some(end), _) => Some(Note::End(*end)),
+        (None, Some(join)) => Some(Note::Join(*join)),
+        (None, None) => None,
+    }
+}
+
+/// Whether the path comes to this position, after which it goes so.
+fn comes_to(at: u32, walk: Walk) -> bool
+    ensures { result ≡ runs_to at walk }
+{
+    match walk {
+        Walk::Live => true,
+        Walk::Skip { spawn } => at <= spawn,
+        Walk::Seek { .. } => false,
+    }
+}
+
+/// How the path goes before the return of a child, after which it goes so: out of the child that is sought, and beside
+/// any other.
+fn pass(end: End, walk: Walk) -> Walk
+    ensures { result ≡ ended end walk }
+{
+    match walk {
+        Walk::Seek { spawn } if spawn == end.spawn => Walk::Live,
+        Walk::Seek { .. } => walk,
+        Walk::Skip { spawn } if spawn < end.at => walk,
+        Walk::Live | Walk::Skip { .. } => Walk::Skip { spawn: end.spawn },
+    }
+}
+
+/// Which spawned children the path of a run enters, told by its choices: one mark for each event, true at the spawns of
+/// those children. `count` is the number of events. It goes over the choices once, from the last to the first, with no
+/// stack: it takes time linear in the numbers of events and choices, and memory for the marks alone.
+///
+/// # Errors
+///
+/// Where an allocation was refused.
+pub fn settle(alloc: Global, count: u32, choices: &Choices) -> Result<Vec<bool>, AllocError>
+    ensures { IfOk result (λ marks. (es : List Event) → IsWellFormed es → length es ≡ count → AreChoices es choices.now → AreEntered es marks.items) }
+{
+    let mut marks = vec![in alloc; false; count as usize]?;
+    let mut ends = choices.ends.len();
+    let mut joins = choices.joins.len();
+    let mut walk = Walk::Live;
+    while let Some(note) = last_note(&choices.ends[..ends], &choices.joins[..joins]) {
+        match note {
+            Note::End(end) => {
+                ends -= 1;
+                walk = pass(end, walk);
+            }
+            Note::Join(join) => {
+                joins -= 1;
+                if comes_to(join.at, walk) {
+                    // The spawns of a run lie within its events.
+                    if let Some(mark) = marks.get_mut(join.spawn as usize) {
+                        *mark = true;
+                    }
+                    walk = Walk::Seek { spawn: join.spawn };
+                }
+            }
+        }
+    }
+    Ok(marks)
+}

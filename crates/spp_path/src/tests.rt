@@ -1,0 +1,94 @@
+use crate::{Choices, End, Join, settle};
+use std::alloc::{AllocError, Global};
+use std::test::Fail;
+
+/// The choices of a run, each a position and that of a spawn.
+fn choices_of(
+    alloc: Global,
+    ends: &[(u32, u32)],
+    joins: &[(u32, u32)],
+) -> Result<Choices, AllocError> {
+    let mut choices = Choices {
+        ends: Vec::new(alloc),
+        joins: Vec::new(alloc),
+    };
+    for (at, spawn) in ends {
+        choices.ends.push(End {
+            at: *at,
+            spawn: *spawn,
+        })?;
+    }
+    for (at, spawn) in joins {
+        choices.joins.push(Join {
+            at: *at,
+            spawn: *spawn,
+        })?;
+    }
+    Ok(choices)
+}
+
+/// The spawns of the children that the path of a run with so many events enters.
+fn entered(
+    alloc: Global,
+    count: u32,
+    ends: &[(u32, u32)],
+    joins: &[(u32, u32)],
+) -> Result<Vec<usize>, AllocError> {
+    let marks = settle(alloc, count, &choices_of(alloc, ends, joins)?)?;
+    let mut spawns = Vec::new(alloc);
+    for (at, mark) in marks.iter().enumerate() {
+        if *mark {
+            spawns.push(at)?;
+        }
+    }
+    Ok(spawns)
+}
+
+/// A run: the number of its events, its ends and its joins, and the spawns of the children that its path enters.
+type Run<'a> = (u32, &'a [(u32, u32)], &'a [(u32, u32)], &'a [usize]);
+
+#[test]
+fn each_event_has_a_mark(rt: HostRuntime) -> Result<(), Fail> {
+    let choices = choices_of(rt.alloc(), &[(2, 0)], &[(4, 0)])?;
+    let marks = settle(rt.alloc(), 6, &choices)?;
+    assert_eq!(rt;
+        marks.as_slice(),
+        [true, false, false, false, false, false].as_slice()
+    );
+    let none = choices_of(rt.alloc(), &[], &[])?;
+    assert_eq!(rt; settle(rt.alloc(), 0, &none)?.len(), 0);
+    Ok(())
+}
+
+#[test]
+fn the_path_enters_the_children_that_are_taken_on_it(rt: HostRuntime) -> Result<(), Fail> {
+    let all: [Run; 10] = [
+        // spawn, 5, return, 3, sync, 1; and with 7 in place of the 3
+        (6, &[(2, 0)], &[(4, 0)], &[0]),
+        (6, &[(2, 0)], &[], &[]),
+        // spawn, 7, return, 2: the child joins at the end
+        (4, &[(2, 0)], &[(4, 0)], &[0]),
+        // spawn, 5, return, spawn, 5, return, sync: of two equal children the earlier one
+        (7, &[(2, 0), (5, 3)], &[(6, 0)], &[0]),
+        // spawn, spawn, 3, return, 1, return, 2, sync, 1: the outer child's return waits for the inner one
+        (9, &[(3, 1), (5, 0)], &[(5, 1), (7, 0)], &[0, 1]),
+        // with 9 in place of the 2 the outer child isn't taken
+        (9, &[(3, 1), (5, 0)], &[(5, 1)], &[]),
+        // spawn, spawn, 5, return, sync, return, 10, sync
+        (8, &[(3, 1), (5, 0)], &[(4, 1)], &[]),
+        // spawn, 4, return, 1, sync, spawn, 2, return, 5, sync
+        (10, &[(2, 0), (7, 5)], &[(4, 0)], &[0]),
+        // spawn, 6, return, call, spawn, 5, return, 1, return, 2, sync
+        (11, &[(2, 0), (6, 4)], &[(8, 4)], &[4]),
+        // with 9 in place of the 6 the path goes through the first child, and not through the call
+        (11, &[(2, 0), (6, 4)], &[(8, 4), (10, 0)], &[0]),
+    ];
+    for (i, (count, ends, joins, expected)) in all.iter().enumerate() {
+        assert_eq!(rt;
+            entered(rt.alloc(), *count, ends, joins)?.as_slice(),
+            *expected,
+            "run {i}"
+        );
+    }
+    Ok(())
+}
