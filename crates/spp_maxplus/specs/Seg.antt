@@ -34,6 +34,22 @@ spawned at weight burdens =
 abbrev pub synced : Seg
 synced = record { head = Some 0; add = 0; offer = None }
 
+-- ---- one list after another
+
+-- The second list has a sync, and m is the greatest weight from the last sync that the first list counts from, or from its
+-- beginning, to there.
+abbrev pub then_headed : Option ℕ → ℕ → Seg → Seg
+then_headed None m b = record { head = Some m; add = b.add; offer = b.offer }
+then_headed (Some h) m b = record { head = Some h; add = m + b.add; offer = shifted m b.offer }
+
+abbrev pub then_by : Seg → Option ℕ → Seg → Seg
+then_by a None b = record { head = a.head; add = a.add + b.add; offer = better a.offer (shifted a.add b.offer) }
+then_by a (Some h) b = then_headed a.head (greatest (a.add + h) a.offer) b
+
+-- the first list and then the second
+abbrev pub then : Seg → Seg → Seg
+then a b = then_by a b.head b
+
 -- ---- how large the sums get
 
 abbrev pub or_zero : Option ℕ → ℕ

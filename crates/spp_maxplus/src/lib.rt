@@ -3,9 +3,11 @@
 #![tactic(auto)]
 
 mod candidate;
+mod laws;
 mod seg;
 mod state;
 
+pub use laws::seg_laws;
 pub use seg::Seg;
 pub use state::{Burdens, State};
 

@@ -3,7 +3,7 @@
 ghost use Rattle.std.specs.Prelude.{◌≡◌, ◌+◌, ◌<◌, ◌≤◌, ◌^◌};
 ghost use Rattle.spp_maxplus.specs.declared.state.State.{State as AState};
 ghost use Rattle.spp_maxplus.specs.State.{after_strand, after_call, after_spawn, after_sync};
-ghost use Rattle.spp_maxplus.specs.Seg.{act, idle as idle_seg, along as along_seg, spawned as spawned_seg, synced as synced_seg, peak, rise};
+ghost use Rattle.spp_maxplus.specs.Seg.{act, idle as idle_seg, along as along_seg, spawned as spawned_seg, synced as synced_seg, then as then_seg, peak, rise};
 
 use crate::candidate::{better, greatest, shifted};
 use crate::state::{Burdens, State};
@@ -83,6 +83,35 @@ impl Seg {
             head: Some(0),
             add: 0,
             offer: None,
+        }
+    }
+
+    /// This list and then the next. What the two can add to a state must come to less than 2^127 together.
+    pub fn then(self, next: Seg) -> Self
+        requires { rise self + rise next < 2 ^ 127 }
+        ensures value { result ≡ then_seg self next }
+        ensures acts { (s : AState) → act result s ≡ act next (act self s) }
+        ensures bound { rise result ≤ rise self + rise next }
+    {
+        let Some(head) = next.head else {
+            return Seg {
+                head: self.head,
+                add: self.add + next.add,
+                offer: better(self.offer, shifted(self.add, next.offer)),
+            };
+        };
+        let most = greatest(self.add + head, self.offer);
+        match self.head {
+            None => Seg {
+                head: Some(most),
+                add: next.add,
+                offer: next.offer,
+            },
+            Some(_) => Seg {
+                head: self.head,
+                add: most + next.add,
+                offer: shifted(most, next.offer),
+            },
         }
     }
 

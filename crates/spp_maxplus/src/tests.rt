@@ -48,3 +48,34 @@ fn a_sync_joins_the_child(rt: HostRuntime) {
     );
     assert_eq!(rt; joined.after_call(4).close(), 11);
 }
+
+#[test]
+fn one_list_after_another(rt: HostRuntime) {
+    let middle = Seg::spawn(0, 6, Burdens::both(3)).then(Seg::strand(2));
+    assert_eq!(rt;
+        middle.apply(State::start()),
+        State {
+            spine: 5,
+            child: Some((9, 0)),
+        }
+    );
+    let synced = middle.then(Seg::sync()).then(Seg::strand(1));
+    assert_eq!(rt;
+        synced,
+        Seg {
+            head: Some(9),
+            add: 1,
+            offer: None,
+        }
+    );
+    let both = synced.then(middle).then(Seg::sync());
+    assert_eq!(rt;
+        both,
+        Seg {
+            head: Some(9),
+            add: 10,
+            offer: None,
+        }
+    );
+    assert_eq!(rt; Seg::idle().then(both).then(Seg::idle()), both);
+}
