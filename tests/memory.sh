@@ -99,7 +99,8 @@ each_refused 'check, a bad header' 1 '' 'bad header: short' "$folder/short" chec
 each_refused 'check, a bad event' 1 '' 'bad event 4: tag' "$folder/tag" check
 each_refused 'figures, a recorded trace' 0 'work 136861*' '' "$examples/cilksort.sptrace" figures
 each_refused 'figures, a bad event' 1 '' 'bad event 4: tag' "$folder/tag" figures --burden 3
-each_refused 'profile, a recorded trace' 0 'name,count*' '' "$examples/nqueens.sptrace" profile
+each_refused 'profile, a recorded trace' 0 'work 32744*' '' "$examples/nqueens.sptrace" profile
+each_refused 'profile as tables alone' 0 'name,count*' '' "$examples/nqueens.sptrace" profile --csv
 each_refused 'encode, a good text' 0 'SPTRACE1*' '' "$examples/small.txt" encode
 printf 'func f\nsync\nsync 1 2 3 4 5\n' > "$folder/text"
 each_refused 'encode, a bad text' 1 '' 'bad text line 3: count' "$folder/text" encode

@@ -53,15 +53,19 @@ figures_of 'fib' "$top/examples/fib.sptrace" 15000 3049 43 195043 70.90 0.01
 figures_of 'nqueens' "$top/examples/nqueens.sptrace" 15000 32744 831 210802 39.40 0.15
 expect 'figures without an option' 0 "work 17${lf}span 13${lf}burdened 15013${lf}parallelism 1.30${lf}burdened parallelism 0.00$lf" '' \
     "$small" figures
-# And so are the tables by call site.
+# And so are the reports, as text and as tables alone.
+report_of() { # TRACE FILE WORDS..: with these words, the program prints just the bytes of the file
+    local trace=$1 file=$2
+    shift 2
+    "$spprof" "$@" "$top/examples/$trace.sptrace" > "$folder/out" 2> "$folder/err"
+    status=$?
+    cmp -s "$folder/out" "$top/examples/$file" || status=125
+    : > "$folder/out"
+    judge "$* of $trace" 0 '' ''
+}
 for trace in cilksort fib nqueens; do
-    for words in profile 'profile --csv'; do
-        "$spprof" $words "$top/examples/$trace.sptrace" > "$folder/out" 2> "$folder/err"
-        status=$?
-        cmp -s "$folder/out" "$top/examples/$trace.csv" || status=125
-        : > "$folder/out"
-        judge "$words of $trace" 0 '' ''
-    done
+    report_of $trace $trace.report profile
+    report_of $trace $trace.csv profile --csv
 done
 expect 'a table of a part of a record' 1 '' "bad event 1: truncated$lf" <(head -c 60 "$small") profile
 expect 'a burden too large' 2 '' 'error: *' "$small" figures --burden 4294967296
@@ -134,12 +138,12 @@ awk 'BEGIN { print "func f\nsite A"; for (i = 0; i < 1000000; i++) print "spawn 
 timeout 30 "$spprof" figures --burden 1 "$folder/wide" > "$folder/out" 2> "$folder/err"
 status=$?
 judge 'figures of a million children' 0 "work 5000000${lf}span 5${lf}burdened 1000005${lf}parallelism 1000000.00${lf}burdened parallelism 4.99$lf" ''
-timeout 30 "$spprof" profile "$folder/nested" > "$folder/out" 2> "$folder/err"
+timeout 30 "$spprof" profile --csv "$folder/nested" > "$folder/out" 2> "$folder/err"
 status=$?
-judge 'a table of a million nested calls' 0 "name,*${lf}(root),1,0,1,5,5,1,5,5${lf}A,1000000,5,1,5,5,1,5,5$lf" ''
-timeout 30 "$spprof" profile "$folder/wide" > "$folder/out" 2> "$folder/err"
+judge 'tables of a million nested calls' 0 "name,*${lf}(root),1,0,1,5,5,1,5,5,1,0,1,5,5,1,5,5${lf}A,1000000,5,1,5,5,1,5,5,1000000,5,1,5,5,1,5,5$lf" ''
+timeout 30 "$spprof" profile --csv "$folder/wide" > "$folder/out" 2> "$folder/err"
 status=$?
-judge 'a table of a million children' 0 "name,*${lf}(root),1,0,1,5000000,5,1,5000000,5${lf}A,1000000,5000000,1000000,5000000,5000000,1000000,5000000,5000000$lf" ''
+judge 'tables of a million children' 0 "name,*${lf}(root),1,0,1,5000000,5,1,5000000,5,1,0,1,5000000,5,1,5000000,5${lf}A,1000000,5000000,1000000,5000000,5000000,1000000,5000000,5000000,1,5,1,5,5,1,5,5$lf" ''
 # The same frames left open are told, and the memory for them is given back.
 head -c 1000000 "$folder/nested" > "$folder/open"
 expect 'figures of frames left open' 1 '' "bad event *: truncated$lf" "$folder/open" figures

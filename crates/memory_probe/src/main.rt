@@ -2,14 +2,16 @@
 //! memory after the other.
 #![tactic(auto)]
 
+ghost use Rattle.std.specs.Prelude.{◌≡◌};
+
 use spp_event::{HeaderFault, open_trace};
 use spp_frame::check;
 use spp_maxplus::Burdens;
 use spp_piece::Figures;
 use spp_reference::{ReferenceFault, profile};
-use spp_report::{OutSink, csv_of_table, figures_text};
+use spp_report::{Named, OutSink, csv_text, figures_text, plain_text};
 use spp_request::{Command, Request, UsageFault, read_request};
-use spp_serial::{ProfileFault, figures_serial, profile_serial};
+use spp_serial::{Profile, ProfileFault, figures_serial, profile_serial};
 use spp_shell::{InSource, ReadFault, read_all, read_within, run};
 use spp_site::Table;
 use spp_text::{PrintFault, TextFault, TextWhy, parse_text, print_text};
@@ -39,11 +41,28 @@ parallelism 1.30
 burdened parallelism -
 ";
 
-/// The text of a table without rows.
+/// The tables without rows, as comma-separated values.
 const NO_ROWS: &str =
-    "name,count,local,site_count,site_work,site_span,caller_count,caller_work,caller_span
-(root),0,0,0,0,0,0,0,0
-A,0,0,0,0,0,0,0,0
+    "name,count,local,site_count,site_work,site_span,caller_count,caller_work,caller_span,\
+path_count,path_local,path_site_count,path_site_work,path_site_span,path_caller_count,path_caller_work,path_caller_span
+(root),0,0,0,0,0,0,0,0,0,0,0,0,0,0,0,0
+A,0,0,0,0,0,0,0,0,0,0,0,0,0,0,0,0
+";
+
+/// The figures, and the tables without rows.
+const REPORT: &str = "work 17
+span 13
+burdened 0
+parallelism 1.30
+burdened parallelism -
+
+whole dag
+       count        local   site_count    site_work    site_span caller_count  caller_work  caller_span name
+           0            0            0            0            0            0            0            0 (root)
+
+first greatest path
+       count        local   site_count    site_work    site_span caller_count  caller_work  caller_span name
+           0            0            0            0            0            0            0            0 (root)
 ";
 
 /// What a call answered.
@@ -101,14 +120,50 @@ fn profiled(alloc: Global) -> Answer {
     }
 }
 
+/// The profile that is told.
+fn without_rows(alloc: Global) -> Profile
+    ensures { result.figures.work ≡ 17 }
+{
+    Profile {
+        figures: Figures {
+            work: 17,
+            span: 13,
+            burdened: 0,
+        },
+        dag: Table::new(alloc),
+        path: Table::new(alloc),
+    }
+}
+
 fn summed(alloc: Global) -> Answer {
     let trace = match open_trace(alloc, NESTED) {
         Ok(trace) => trace,
         Err(HeaderFault::Memory) => return Answer::Memory,
         Err(_) => return Answer::Other,
     };
-    match csv_of_table(alloc, &trace, &Table::new(alloc)) {
+    let named = Named {
+        trace: &trace,
+        profile: &without_rows(alloc),
+    };
+    match csv_text(alloc, &named) {
         Ok(text) if text.as_slice() == NO_ROWS.as_bytes() => Answer::Good,
+        Ok(_) => Answer::Other,
+        Err(_) => Answer::Memory,
+    }
+}
+
+fn reported(alloc: Global) -> Answer {
+    let trace = match open_trace(alloc, NESTED) {
+        Ok(trace) => trace,
+        Err(HeaderFault::Memory) => return Answer::Memory,
+        Err(_) => return Answer::Other,
+    };
+    let named = Named {
+        trace: &trace,
+        profile: &without_rows(alloc),
+    };
+    match plain_text(alloc, &named) {
+        Ok(text) if text.as_slice() == REPORT.as_bytes() => Answer::Good,
         Ok(_) => Answer::Other,
         Err(_) => Answer::Memory,
     }
@@ -198,14 +253,14 @@ fn refused(alloc: Global) -> Answer {
 }
 
 /// A run on the bytes, over devices in memory of which the output has room for every answer.
-fn ran(alloc: Global, command: Command, bytes: &[u8], wanted: u8) -> Answer {
+fn ran(alloc: Global, command: Command, csv: bool, bytes: &[u8], wanted: u8) -> Answer {
     let request = Request {
         command,
         files: Vec::new(alloc),
         burden: 3,
-        csv: false,
+        csv,
     };
-    let (mut text, mut line) = ([0u8; 256], [0u8; 64]);
+    let (mut text, mut line) = ([0u8; 1024], [0u8; 64]);
     let mut out = OutSink::new(text.as_mut_slice());
     let mut err = OutSink::new(line.as_mut_slice());
     match run(
@@ -230,7 +285,8 @@ fn main(rt: HostRuntime) -> io::Result<()> {
         println!(rt; "parse_text, a fault: {:?}", misparsed(alloc))?;
         println!(rt; "figures_serial: {:?}", measured(alloc))?;
         println!(rt; "profile_serial: {:?}", profiled(alloc))?;
-        println!(rt; "csv_of_table: {:?}", summed(alloc))?;
+        println!(rt; "csv_text: {:?}", summed(alloc))?;
+        println!(rt; "plain_text: {:?}", reported(alloc))?;
         println!(rt; "figures_text: {:?}", told(alloc))?;
         println!(rt; "the reference's profile: {:?}", referred(alloc))?;
         println!(rt;
@@ -247,15 +303,18 @@ fn main(rt: HostRuntime) -> io::Result<()> {
             ("a good trace", Command::Check, TRACE, 0),
             ("figures of a good trace", Command::Figures, NESTED, 0),
             ("figures of a bad trace", Command::Figures, &TRACE[..60], 1),
-            ("a table", Command::Profile, NESTED, 0),
+            ("a report", Command::Profile, NESTED, 0),
             ("a bad header", Command::Check, &TRACE[..23], 1),
             ("a bad event", Command::Check, &TRACE[..60], 1),
             ("a good text", Command::Encode, TEXT.as_bytes(), 0),
             ("a bad text", Command::Encode, b"sync".as_slice(), 1),
             ("no text", Command::Encode, b"\xff".as_slice(), 1),
         ] {
-            println!(rt; "run, {name}: {:?}", ran(alloc, command, bytes, wanted))?;
+            let answer = ran(alloc, command, false, bytes, wanted);
+            println!(rt; "run, {name}: {answer:?}")?;
         }
+        let tables = ran(alloc, Command::Profile, true, NESTED, 0);
+        println!(rt; "run, tables alone: {tables:?}")?;
     }
     Ok(())
 }

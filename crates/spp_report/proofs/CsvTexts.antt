@@ -1,12 +1,10 @@
 -- The csv crate's default writer writes the records of the table as they are defined.
-use Rattle.std.proofs.Common.{◌≡◌, ℕ, ◌≤◌, ◌<◌, ◌^◌, List, [], ◌∷◌, ◌++◌, refl, sym, ◌∙◌, ap, subst, arith, inl, inr, true, false}
-use Rattle.std.specs.Prelude.{Bool, ◌||◌, nat_eq, decimal}
+use Rattle.std.proofs.Common.{◌≡◌, ℕ, ◌≤◌, List, [], ◌∷◌, ◌++◌, refl, sym, ◌∙◌, ap, subst, arith, inl, inr, true, false}
+use Rattle.std.specs.Prelude.{Bool, ◌||◌, nat_eq, nat_lt, cond, decimal, zero, suc, ◌/◌, ◌%◌, map}
+use Rattle.std.specs.Fmt.{digits, digits_onto, digit_glyph}
 use Rattle.std.specs.List.{AllByRecursion, list_any, flat_map, range_with_len}
 use Rattle.std.specs.Io.KnownBytes.{Appends}
 use Rattle.std.specs.Prelude.{◌+◌, Result, Option, Ok, Err, OnOk, is_ok, ◌≢◌}
-use Rattle.std.specs.Str.Parse.{AllDigits}
-use Rattle.std.proofs.lemmas.Fmt.{decimal_is_IsNumeral_wide}
-use Rattle.std.proofs.lemmas.Str.Parse.{digit_from_value}
 use Rattle.csv.specs.declared.writer.QuoteStyle.TheVariants as style
 use Rattle.csv.specs.declared.writer.Writer.{Writer}
 use Rattle.csv.specs.declared.writer.WriterBuilder.{WriterBuilder}
@@ -14,8 +12,7 @@ use Rattle.std.proofs.lemmas.Bool.{cases_Bool, eqb-true, ne_eqb}
 use Rattle.std.proofs.lemmas.List.{append-nil, flat_map_more, map-id}
 use Rattle.std.proofs.lemmas.List.FromFn.{map-range_with_len_more}
 use Rattle.csv.specs.Writing.{default_writer, needs_byte, needs_quotes, escaped, field_text, fields_text, is_blank, row_body, row_text, fields_written, has_written, writer_setup}
-use Rattle.spp_report.specs.Csv.{cells, comma, quote, doubled, field, parted, record_text, columns}
-use Rattle.spp_dag.specs.declared.row.Row.{Row}
+use Rattle.spp_report.specs.Csv.{comma, quote, doubled, field, parted, record_text, columns}
 use Rattle.spp_report.specs.Appended.{appends_both}
 use Rattle.spp_report.specs.CsvWriters.{AwaitsRecord, IsPlain}
 
@@ -65,52 +62,35 @@ unfolding escaped fields_text is_blank
 same_columns = refl
 
 -- the digits of a number
-plain_digits : (ds : List ℕ) → AllDigits 10 ds → IsPlain ds
-plain_digits [] h = tt
-plain_digits (d ∷ ds) h =
-    let digit = digit_from_value d h.0 in
-    (omega (arith, digit.0), plain_digits ds h.1)
+plain_glyph : (d : ℕ) → 32 ≤ digit_glyph false d
+plain_glyph d = by (nat_lt d 10)
+  where
+    by : (small : Bool) → 32 ≤ cond small (48 + d) (87 + d)
+    by true = omega arith
+    by false = omega arith
 
-plain_decimal : (n : ℕ) → n < 2 ^ 128 → IsPlain (decimal n)
-plain_decimal n h = plain_digits (decimal n) (decimal_is_IsNumeral_wide n (omega arith)).0.1
+plain_onto : (k n : ℕ) (acc : List ℕ) → IsPlain acc → IsPlain (digits_onto k 10 false n acc)
+plain_onto zero n acc h = h
+plain_onto (suc k) n acc h =
+    let more : IsPlain (digit_glyph false (n % 10) ∷ acc) = (plain_glyph (n % 10), h) in
+    either (nat_eq (n / 10) 0) _ _ more (plain_onto k (n / 10) (digit_glyph false (n % 10) ∷ acc) more)
+  where
+    either : (b : Bool) (xs ys : List ℕ) → IsPlain xs → IsPlain ys → IsPlain (cond b xs ys)
+    either true xs ys p q = p
+    either false xs ys p q = q
 
--- the numbers of a row are below 2^128
-pub record IsNarrow (r : Row) : Type 0 where
-  pub count : r.count < 2 ^ 128
-  pub local : r.local < 2 ^ 128
-  pub site_count : r.site_count < 2 ^ 128
-  pub site_work : r.site_work < 2 ^ 128
-  pub site_span : r.site_span < 2 ^ 128
-  pub caller_count : r.caller_count < 2 ^ 128
-  pub caller_work : r.caller_work < 2 ^ 128
-  pub caller_span : r.caller_span < 2 ^ 128
+plain_decimal : (n : ℕ) → IsPlain (decimal n)
+unfolding digits
+plain_decimal n = plain_onto 64 n [] tt
 
-pub plain_cells : (r : Row) → IsNarrow r → AllByRecursion IsPlain (cells r)
-plain_cells r h = (
-  plain_decimal r.count h.count,
-  (
-    plain_decimal r.local h.local,
-    (
-      plain_decimal r.site_count h.site_count,
-      (
-        plain_decimal r.site_work h.site_work,
-        (
-          plain_decimal r.site_span h.site_span,
-          (
-            plain_decimal r.caller_count h.caller_count,
-            (
-              plain_decimal r.caller_work h.caller_work,
-              (
-                plain_decimal r.caller_span h.caller_span,
-                tt,
-              ),
-            ),
-          ),
-        ),
-      ),
-    ),
-  ),
-)
+pub plain_decimals : (ns : List ℕ) → AllByRecursion IsPlain (map decimal ns)
+plain_decimals [] = tt
+plain_decimals (n ∷ ns) = (plain_decimal n, plain_decimals ns)
+
+-- two lists of such fields
+pub plain_both : (xs ys : List (List ℕ)) → AllByRecursion IsPlain xs → AllByRecursion IsPlain ys → AllByRecursion IsPlain (xs ++ ys)
+plain_both [] ys h k = k
+plain_both (x ∷ xs) ys h k = (h.0, plain_both xs ys h.1 k)
 
 -- a record written between two others, whose error is told as another
 pub wrote_record : {T E F W : Type 0} (r : Result T E) (s : Result T F) (w : Writer W) (old new : Option (List ℕ)) (fields : List (List ℕ)) (text : List ℕ)
@@ -124,14 +104,22 @@ wrote_record (Ok x) (Err y) w old new fields text e at same h = tt
 wrote_record (Err x) (Ok y) w old new fields text e at same h = cc e
 wrote_record (Err x) (Err y) w old new fields text e at same h = tt
 
--- the numbers up to one more
+-- what stands for the numbers up to one more
 range_more : (a n j : ℕ) → a + n ≡ j → range_with_len a (n + 1) ≡ range_with_len a n ++ j ∷ []
 range_more a n j e = sym (map-id _) ∙ map-range_with_len_more (λ (i : ℕ). i) a n j e ∙ ap (λ (l : List ℕ). l ++ j ∷ []) (map-id _)
+
+pub parts_more : (f : ℕ → List ℕ) (n : ℕ) → flat_map f (range_with_len 0 (n + 1)) ≡ flat_map f (range_with_len 0 n) ++ f n
+parts_more f n = ap (flat_map f) (range_more 0 n n (omega arith)) ∙ sym (flat_map_more f [] (range_with_len 0 n) n)
 
 -- one site more, behind those before it
 pub one_more : (f : ℕ → List ℕ) (n : ℕ) (a b c : Option (List ℕ)) (text : List ℕ)
     → Appends a b (flat_map f (range_with_len 0 n)) → Appends b c text → text ≡ f n → Appends a c (flat_map f (range_with_len 0 (n + 1)))
 one_more f n a b c text before here same =
-    let more : flat_map f (range_with_len 0 (n + 1)) ≡ flat_map f (range_with_len 0 n) ++ f n =
-    ap (flat_map f) (range_more 0 n n (omega arith)) ∙ sym (flat_map_more f [] (range_with_len 0 n) n) in
-    subst (λ (t : List ℕ). Appends a c t) (ap (λ (t : List ℕ). flat_map f (range_with_len 0 n) ++ t) same ∙ sym more) (appends_both a b c _ text before here)
+    subst (λ (t : List ℕ). Appends a c t) (ap (λ (t : List ℕ). flat_map f (range_with_len 0 n) ++ t) same ∙ sym (parts_more f n))
+    (appends_both a b c _ text before here)
+
+-- three parts, one after the other
+pub wrote_parts : {T E : Type 0} (r : Result T E) (a b c d : Option (List ℕ)) (xs ys zs : List ℕ)
+    → Appends a b xs → Appends b c ys → OnOk r (Appends c d zs) → OnOk r (Appends a d (xs ++ ys ++ zs))
+wrote_parts (Ok x) a b c d xs ys zs p q h = appends_both a c d (xs ++ ys) zs (appends_both a b c xs ys p q) h
+wrote_parts (Err x) a b c d xs ys zs p q h = tt

@@ -1,4 +1,4 @@
--- The table of a run as comma-separated values.
+-- The tables of a run as comma-separated values.
 use Rattle.std.specs.Prelude.{ℕ, ◌||◌, nat_eq, cond, List, [], ◌∷◌, ◌++◌, map, length, slice_index_or, codes, decimal}
 use Rattle.std.specs.List.{flat_map, list_any, range_with_len}
 use Rattle.spp_event.specs.Recordings.{Recording}
@@ -30,19 +30,35 @@ abbrev pub record_text : List (List ℕ) → List ℕ
 record_text fields = parted fields ++ codes "\n"
 
 -- the eight numbers of a row
+abbrev pub numbers : Row → List ℕ
+numbers r = r.count ∷ r.local ∷ r.site_count ∷ r.site_work ∷ r.site_span ∷ r.caller_count ∷ r.caller_work ∷ r.caller_span ∷ []
+
+-- their digits
 abbrev pub cells : Row → List (List ℕ)
-cells r = map decimal (r.count ∷ r.local ∷ r.site_count ∷ r.site_work ∷ r.site_span ∷ r.caller_count ∷ r.caller_work ∷ r.caller_span ∷ [])
+cells r = map decimal (numbers r)
+
+-- the names of the eight numbers on the whole dag, and on the first greatest path
+abbrev pub dag_columns : List (List ℕ)
+dag_columns = codes "count" ∷ codes "local" ∷ codes "site_count" ∷ codes "site_work" ∷ codes "site_span"
+    ∷ codes "caller_count" ∷ codes "caller_work" ∷ codes "caller_span" ∷ []
+
+abbrev pub path_columns : List (List ℕ)
+path_columns = map (λ name. codes "path_" ++ name) dag_columns
 
 -- the names of the columns
 abbrev pub columns : List (List ℕ)
-columns = codes "name" ∷ codes "count" ∷ codes "local" ∷ codes "site_count" ∷ codes "site_work" ∷ codes "site_span"
-    ∷ codes "caller_count" ∷ codes "caller_work" ∷ codes "caller_span" ∷ []
+columns = codes "name" ∷ dag_columns ++ path_columns
+
+-- the record of a name, with its row in each table
+abbrev pub named_record : List ℕ → Row → Row → List ℕ
+named_record name dag path = record_text (name ∷ cells dag ++ cells path)
 
 -- the record of a site
-abbrev pub site_record : Recording → Sums → ℕ → List ℕ
-site_record trace t site = record_text (slice_index_or trace.sites site [] ∷ cells (row_at t site))
+abbrev pub site_record : Recording → Sums → Sums → ℕ → List ℕ
+site_record trace dag path site = named_record (slice_index_or trace.sites site []) (row_at dag site) (row_at path site)
 
--- the columns, the root's row, and the row of each site in order
-abbrev pub table_text : Recording → Sums → List ℕ
-table_text trace t =
-    record_text columns ++ record_text (codes "(root)" ∷ cells t.root) ++ flat_map (site_record trace t) (range_with_len 0 (length trace.sites))
+-- the columns, the root's rows, and the rows of each site in order
+abbrev pub csv_text : Recording → Sums → Sums → List ℕ
+csv_text trace dag path =
+    record_text columns ++ named_record (codes "(root)") dag.root path.root
+    ++ flat_map (site_record trace dag path) (range_with_len 0 (length trace.sites))

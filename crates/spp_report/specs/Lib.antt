@@ -5,3 +5,4 @@ pub mod OutSinks
 pub mod Figures
 pub mod Csv
 pub mod CsvWriters
+pub mod Plain

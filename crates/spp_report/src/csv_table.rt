@@ -1,24 +1,24 @@
-//! The table of a run as comma-separated values.
+//! Both tables of a run as comma-separated values.
 
 ghost use Rattle.std.specs.Prelude.{◌≡◌, ◌∷◌, ◌++◌, [], length, IfOk, OnOk};
 ghost use Rattle.std.specs.Io.KnownBytes.{Appends};
-ghost use Rattle.std.specs.List.{AllByRecursion, flat_map, range_with_len};
+ghost use Rattle.std.specs.List.{flat_map, range_with_len};
 ghost use Rattle.csv.specs.Records.{fields_of, partial_of};
 ghost use Rattle.csv.specs.Writing.{text_written};
 ghost use Rattle.spp_event.specs.Header.{HasGoodNames};
-ghost use Rattle.spp_report.specs.Csv.{cells, columns, record_text, site_record, table_text};
+ghost use Rattle.spp_report.specs.Csv.{cells, columns, csv_text as csv_of_profile, named_record, record_text, site_record};
 ghost use Rattle.spp_report.specs.CsvWriters.{AwaitsRecord, IsPlain};
 
+use crate::cells::numbers;
+use crate::named::Named;
 use csv::{ByteRecord, Writer, WriterBuilder};
 use itoa::Buffer;
-use spp_event::Trace;
-use spp_serial::Profile;
-use spp_site::{Row, Table};
+use spp_site::Row;
 use std::alloc::{AllocError, Global};
 use std::io::Write;
 
 /// The names of the columns.
-const COLUMNS: [&[u8]; 9] = [
+const COLUMNS: [&[u8]; 17] = [
     b"name",
     b"count",
     b"local",
@@ -28,27 +28,25 @@ const COLUMNS: [&[u8]; 9] = [
     b"caller_count",
     b"caller_work",
     b"caller_span",
+    b"path_count",
+    b"path_local",
+    b"path_site_count",
+    b"path_site_work",
+    b"path_site_span",
+    b"path_caller_count",
+    b"path_caller_work",
+    b"path_caller_span",
 ];
 
 /// Adds the eight numbers of a row to a record.
 fn push_cells(fields: &mut ByteRecord, row: &Row) -> Result<(), AllocError>
     requires { partial_of fields.old ≡ [] }
     ensures fields { OnOk result (fields_of fields.new ≡ fields_of fields.old ++ cells row.now) }
-    ensures plain { OnOk result (AllByRecursion IsPlain (cells row.now)) }
+    ensures between { OnOk result (partial_of fields.new ≡ []) }
 {
     let mut digits = Buffer::new();
-    let cells = [
-        u128::from(row.count),
-        row.local,
-        u128::from(row.site_count),
-        row.site_work,
-        row.site_span,
-        u128::from(row.caller_count),
-        row.caller_work,
-        row.caller_span,
-    ];
-    for cell in &cells {
-        fields.push_field(digits.format(*cell).as_bytes())?;
+    for number in &numbers(row) {
+        fields.push_field(digits.format(*number).as_bytes())?;
     }
     Ok(())
 }
@@ -62,21 +60,23 @@ fn write_columns<W: Write + Drop>(writer: &mut Writer<W>) -> Result<(), AllocErr
     writer.write_fields(&COLUMNS).map_err(|_| AllocError)
 }
 
-/// Writes the record of a name and a row. What `fields` held before is lost.
-fn write_row<W: Write + Drop>(
+/// Writes the record of a name and its rows in both tables. What `fields` held before is lost.
+fn write_rows<W: Write + Drop>(
     writer: &mut Writer<W>,
     fields: &mut ByteRecord,
     name: &str,
-    row: &Row,
+    dag: &Row,
+    path: &Row,
 ) -> Result<(), AllocError>
     requires ready { AwaitsRecord writer.old }
     requires plain { IsPlain name.now }
-    ensures text { OnOk result (Appends (text_written W.contents writer.old) (text_written W.contents writer.new) (record_text (name.now ∷ cells row.now))) }
+    ensures text { OnOk result (Appends (text_written W.contents writer.old) (text_written W.contents writer.new) (named_record name.now dag.now path.now)) }
     ensures next { OnOk result (AwaitsRecord writer.new) }
 {
     fields.clear();
     fields.push_field(name.as_bytes())?;
-    push_cells(fields, row)?;
+    push_cells(fields, dag)?;
+    push_cells(fields, path)?;
     writer.write_byte_record(fields).map_err(|_| AllocError)
 }
 
@@ -84,55 +84,52 @@ fn write_row<W: Write + Drop>(
 fn write_sites<W: Write + Drop>(
     writer: &mut Writer<W>,
     fields: &mut ByteRecord,
-    trace: &Trace<'_>,
-    table: &Table,
+    named: &Named<'_, '_>,
 ) -> Result<(), AllocError>
     requires ready { AwaitsRecord writer.old }
-    requires names { HasGoodNames trace.now }
-    ensures { OnOk result (Appends (text_written W.contents writer.old) (text_written W.contents writer.new) (flat_map (site_record trace.now table.now) (range_with_len 0 (length trace.now.sites)))) }
+    requires names { HasGoodNames named.now.trace.now }
+    ensures { OnOk result (Appends (text_written W.contents writer.old) (text_written W.contents writer.new) (flat_map (site_record named.now.trace.now named.now.profile.now.dag named.now.profile.now.path) (range_with_len 0 (length named.now.trace.now.sites)))) }
 {
+    let Named { trace, profile } = *named;
     for site in 0..trace.sites() {
-        write_row(writer, fields, trace.site_name(site), &table.row(site))?;
+        let (dag, path) = (profile.dag.row(site), profile.path.row(site));
+        write_rows(writer, fields, trace.site_name(site), &dag, &path)?;
     }
     Ok(())
 }
 
-/// The profile of a run, with the trace that has the names.
-#[derive(Clone, Copy)]
-pub struct Named<'t, 'a> {
-    /// The trace of the run.
-    pub trace: &'t Trace<'a>,
-    /// Its profile.
-    pub profile: &'t Profile,
+/// Writes the columns, the record of the root frame, and that of each site.
+fn write_tables<W: Write + Drop>(
+    writer: &mut Writer<W>,
+    fields: &mut ByteRecord,
+    named: &Named<'_, '_>,
+) -> Result<(), AllocError>
+    requires ready { AwaitsRecord writer.old }
+    requires names { HasGoodNames named.now.trace.now }
+    ensures { OnOk result (Appends (text_written W.contents writer.old) (text_written W.contents writer.new) (csv_of_profile named.now.trace.now named.now.profile.now.dag named.now.profile.now.path)) }
+{
+    write_columns(writer)?;
+    let profile = named.profile;
+    let (dag, path) = (profile.dag.root_row(), profile.path.root_row());
+    write_rows(writer, fields, "(root)", &dag, &path)?;
+    write_sites(writer, fields, named)
 }
 
-/// The table of a run on its whole dag as comma-separated values, by [`csv_of_table`].
+/// Both tables of a run as comma-separated values: a header of seventeen columns, a record for the root frame under the
+/// name `(root)`, and one for each site in the order of the trace. A record has the name, the eight numbers of its row
+/// on the whole dag, and the eight of its row on the first greatest path. A name stands in double quotes where it has a
+/// comma or a double quote, with each quote of it doubled. It takes memory and time linear in the text.
 ///
 /// # Errors
 ///
 /// No memory was left.
 pub fn csv_text(alloc: Global, named: &Named<'_, '_>) -> Result<Vec<u8>, AllocError>
-    ensures { IfOk result (λ text. text.items ≡ table_text named.now.trace.now named.now.profile.now.dag) }
-{
-    csv_of_table(alloc, named.trace, &named.profile.dag)
-}
-
-/// The table as comma-separated values: a header of nine columns, the row of the root frame under the name `(root)`,
-/// and the row of each site in the order of the trace. A name stands in double quotes where it has a comma or a double
-/// quote, with each quote of it doubled. It takes memory and time linear in the text.
-///
-/// # Errors
-///
-/// No memory was left.
-pub fn csv_of_table(alloc: Global, trace: &Trace<'_>, table: &Table) -> Result<Vec<u8>, AllocError>
-    ensures { IfOk result (λ text. text.items ≡ table_text trace.now table.now) }
+    ensures { IfOk result (λ text. text.items ≡ csv_of_profile named.now.trace.now named.now.profile.now.dag named.now.profile.now.path) }
 {
     // Its clauses tell that names are printable.
-    let _count = trace.count();
+    let _count = named.trace.count();
     let mut writer = WriterBuilder::new().from_writer(Vec::new(alloc));
     let mut fields = ByteRecord::new(alloc);
-    write_columns(&mut writer)?;
-    write_row(&mut writer, &mut fields, "(root)", &table.root_row())?;
-    write_sites(&mut writer, &mut fields, trace, table)?;
+    write_tables(&mut writer, &mut fields, named)?;
     writer.into_inner().map_err(|_| AllocError)
 }

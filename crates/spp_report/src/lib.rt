@@ -2,15 +2,20 @@
 //! interrupted, or fail.
 #![tactic(auto)]
 
+mod cells;
 mod csv_table;
 mod figures;
+mod named;
 mod out_sink;
+mod plain;
 mod sink;
 mod writing;
 
-pub use csv_table::{Named, csv_of_table, csv_text};
+pub use csv_table::csv_text;
 pub use figures::{figures_text, hundredths};
+pub use named::Named;
 pub use out_sink::OutSink;
+pub use plain::plain_text;
 pub use sink::{Sink, SinkFault, WriteFault};
 pub use writing::write_out;
 

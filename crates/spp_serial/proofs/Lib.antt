@@ -1,8 +1,11 @@
 pub mod Steps
 pub mod Reached
 pub mod Keeping
-pub mod RowSums
-pub mod Counts
-pub mod Summing
-pub mod Summed
+pub mod Told
+pub mod Bounded
+pub mod Shared
+pub mod Choosing
+pub mod Projected
+pub mod Passed
 pub mod Tops
+pub mod Whole

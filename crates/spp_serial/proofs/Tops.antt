@@ -3,6 +3,8 @@ use Rattle.std.proofs.Common.{◌≡◌, ◌-◌, ◌<◌, List, [], ◌∷◌, 
 use Rattle.std.proofs.lemmas.List.{reverse-reverse, reverse-append, length-reverse, length-append}
 use Rattle.std.proofs.lemmas.Grind.{reverse_onto}
 use Rattle.std.proofs.Math.Seq.{set-append_seam, get_or-append_seam}
+use Rattle.spp_serial.specs.declared.summing.CountedFrame.{CountedFrame}
+use Rattle.spp_serial.specs.Passes.{OnTop}
 
 module _ {A : Type 0} where
   -- the last element of the list, and the others, the last first
@@ -34,3 +36,11 @@ module _ {A : Type 0} where
       go (y ∷ ys) e =
           let back : reverse ys ++ y ∷ [] ≡ xs = sym (reverse_onto ys y []) ∙ ap reverse (sym e) ∙ reverse-reverse xs in
           subst Topped back (ended ys y)
+
+-- some frame is open
+pub some_open : (P : CountedFrame → Type 0) (xs : List CountedFrame) → OnTop P (reverse xs) → 0 < length xs
+some_open P xs h = by (reverse xs) (length-reverse xs) h
+  where
+    by : (ys : List CountedFrame) → length ys ≡ length xs → OnTop P ys → 0 < length xs
+    by [] e h = absurd h
+    by (y ∷ ys) e h = let z : 0 < length (y ∷ ys) = omega arith in omega arith

@@ -1,5 +1,5 @@
 pub mod Answers
 pub mod Tables
-pub mod Rows
+pub mod Passes
 pub mod Texts
 pub mod Weights

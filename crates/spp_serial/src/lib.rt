@@ -5,33 +5,38 @@ ghost use Rattle.std.specs.Prelude.{◌≡◌, ◌≤◌, ◌^◌, IfOk, IfErr, 
 ghost use Rattle.spp_maxplus.specs.State.{both};
 ghost use Rattle.spp_piece.specs.Figures.{AreFigures};
 ghost use Rattle.spp_serial.specs.Answers.{IsFaultOf};
-ghost use Rattle.spp_serial.specs.Tables.{IsDagTable};
+ghost use Rattle.spp_path.specs.Tables.{IsPathTable};
+ghost use Rattle.spp_serial.specs.Tables.{IsDagTable, IsProfileOf};
 ghost use Rattle.spp_serial.specs.Texts.{profile_fault_text};
 ghost use Rattle.spp_serial.specs.declared.ProfileFault.TheVariants.{Memory as MemoryFault};
 
-mod rows;
+mod first_pass;
 mod stack;
+mod summing;
 mod weights;
 
-use crate::rows::dag_table;
+use crate::first_pass::first_pass;
 use crate::stack::Stack;
 use spp_dag::FrameKind;
 use spp_event::{Event, EventReader, Trace};
 use spp_frame::{Fault, Why};
 use spp_maxplus::Burdens;
+use spp_path::{path_table, settle};
 use spp_piece::Figures;
 use spp_site::Table;
 use std::alloc::{AllocError, Global};
 use std::error::Error;
 use std::fmt;
 
-/// What is told of a run: its figures, and its table on the whole dag. The table on the path isn't told yet.
+/// What is told of a run: its figures, and its tables by call site.
 #[derive(Drop)]
 pub struct Profile {
     /// Its work, span and burdened span.
     pub figures: Figures,
-    /// Its rows by call site, on its whole dag.
+    /// Its rows on its whole dag (Cilkprof's work profile, with spans).
     pub dag: Table,
+    /// Its rows on its first greatest path (Cilkprof's profile on the span).
+    pub path: Table,
 }
 
 /// Why a run has no profile.
@@ -64,11 +69,13 @@ impl From<AllocError> for ProfileFault {
     }
 }
 
-/// The figures of a run, where each continuation edge and each return edge bears `burden` instructions, and its table on the
-/// whole dag, which has no burdens.
+/// The profile of a run: its figures, where each continuation edge and each return edge bears `burden` instructions, and
+/// its tables on the whole dag and on the first greatest path, which have no burdens.
 ///
-/// The events are read twice. The time is linear in the numbers of events, sites and functions; the memory in the number of
-/// frames that are open at a time, and in the numbers of sites and functions. The work is at most 2^92.
+/// The events are read twice: once for the figures, the table of the dag and the choices that settle the path, and once for
+/// the path's table. The time is linear in the numbers of events, sites and functions; the memory too: 16 bytes at most
+/// for each spawned child, one for each event, and what the open frames, the sites and the functions take. The work is at
+/// most 2^92.
 ///
 /// # Errors
 ///
@@ -81,11 +88,18 @@ pub fn profile_serial(
     ensures figures { IfOk result (λ p. AreFigures trace.now.records (both burden) p.figures) }
     ensures small { IfOk result (λ p. p.figures.work ≤ 2 ^ 92) }
     ensures dag { IfOk result (λ p. IsDagTable trace.now p.dag) }
+    ensures path { IfOk result (λ p. IsPathTable trace.now p.path) }
+    ensures profile { IfOk result (λ p. IsProfileOf trace.now (both burden) p) }
     ensures fault { IfErr result (λ f. IsFaultOf trace.now.records f) }
 {
-    let figures = figures_serial(alloc, trace, burden)?;
-    let dag = dag_table(alloc, trace)?;
-    Ok(Profile { figures, dag })
+    let pass = first_pass(alloc, trace, burden)?;
+    let entered = settle(alloc, trace.count(), &pass.choices)?;
+    let path = path_table(alloc, trace, &entered)?;
+    Ok(Profile {
+        figures: pass.figures,
+        dag: pass.dag,
+        path,
+    })
 }
 
 /// The work, span and burdened span of a run, where each continuation edge and each return edge bears `burden` instructions.

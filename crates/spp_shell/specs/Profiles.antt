@@ -1,16 +1,25 @@
--- What `profile` answers: the table of the run whose trace the input is. Its line of fault is that of `check`.
-use Rattle.std.specs.Prelude.{◌≡◌, ℕ, List, [], ◌∷◌}
+-- What `profile` answers: the report of the run whose trace the input is. Its line of fault is that of `check`.
+use Rattle.std.specs.Prelude.{◌≡◌, ℕ, Bool, true, false, List, [], ◌∷◌}
 use Rattle.spp_event.specs.Recordings.{Recording}
 use Rattle.spp_event.specs.Header.{IsTraceOf}
+use Rattle.spp_maxplus.specs.State.{both}
+use Rattle.spp_piece.specs.declared.figures.Figures.{Figures}
 use Rattle.spp_site.specs.Table.{Sums}
-use Rattle.spp_serial.specs.Tables.{IsDagTable}
-use Rattle.spp_report.specs.Csv.{table_text}
+use Rattle.spp_serial.specs.Tables.{IsProfileOf}
+use Rattle.spp_report.specs.Csv.{csv_text}
+use Rattle.spp_report.specs.Plain.{plain_text}
 
--- the bytes are those of a well-formed trace, and the text tells the table of its dag
-abbrev pub TellsTable : List ℕ → List ℕ → Type 0
-TellsTable bytes text =
-    (t : Recording) × (body : List ℕ) × (table : Sums) × IsTraceOf bytes t body × IsDagTable t table × (text ≡ table_text t table)
+-- both tables as comma-separated values where these are asked for, and otherwise figures and tables as text
+abbrev pub report_text : Bool → Recording → Figures → Sums → Sums → List ℕ
+report_text true t f dag path = csv_text t dag path
+report_text false t f dag path = plain_text t f dag path
+
+-- the bytes are those of a well-formed trace, and the text tells the profile of its run
+abbrev pub TellsProfile : ℕ → Bool → List ℕ → List ℕ → Type 0
+TellsProfile burden csv bytes text =
+    (t : Recording) × (body : List ℕ) × (f : Figures) × (dag : Sums) × (path : Sums)
+    × IsTraceOf bytes t body × IsProfileOf t (both burden) (record { figures = f; dag = dag; path = path }) × (text ≡ report_text csv t f dag path)
 
 -- the text for one input
-abbrev pub IsProfileText : List (List ℕ) → List ℕ → Type 0
-IsProfileText inputs text = (bytes : List ℕ) × (inputs ≡ bytes ∷ []) × TellsTable bytes text
+abbrev pub IsProfileText : ℕ → Bool → List (List ℕ) → List ℕ → Type 0
+IsProfileText burden csv inputs text = (bytes : List ℕ) × (inputs ≡ bytes ∷ []) × TellsProfile burden csv bytes text

@@ -1,5 +1,5 @@
 -- What the definitions give for a request and the bytes of its inputs.
-use Rattle.std.specs.Prelude.{ℕ, List}
+use Rattle.std.specs.Prelude.{ℕ, Bool, List}
 use Rattle.spp_request.specs.declared.request.Command.{Command}
 use Rattle.spp_request.specs.declared.request.Command.TheVariants.{Check, Figures, Profile, Encode}
 use Rattle.spp_shell.specs.Check.{IsCheckText, IsCheckLine}
@@ -7,12 +7,12 @@ use Rattle.spp_shell.specs.Encode.{IsEncodeText, IsEncodeLine}
 use Rattle.spp_shell.specs.Figures.{IsFiguresText}
 use Rattle.spp_shell.specs.Profiles.{IsProfileText}
 
--- the text of the answer, with that burden where the command asks for one
-abbrev pub text_for : Command → ℕ → List (List ℕ) → List ℕ → Type 0
-text_for Check burden = IsCheckText
-text_for Figures burden = IsFiguresText burden
-text_for Profile burden = IsProfileText
-text_for Encode burden = IsEncodeText
+-- the text of the answer, with that burden, and as comma-separated values or not, where the command asks for these
+abbrev pub text_for : Command → ℕ → Bool → List (List ℕ) → List ℕ → Type 0
+text_for Check burden csv = IsCheckText
+text_for Figures burden csv = IsFiguresText burden
+text_for Profile burden csv = IsProfileText burden csv
+text_for Encode burden csv = IsEncodeText
 
 -- the line of fault of inputs that are refused
 abbrev pub line_for : Command → List (List ℕ) → List ℕ → Type 0

@@ -1,36 +1,52 @@
-//! The task `profile`: the table of a run by call site, or its trace's first fault.
-ghost use Rattle.std.specs.Prelude.{◌≡◌};
+//! The task `profile`: the figures and both tables of a run, or its trace's first fault.
+ghost use Rattle.std.specs.Prelude.{◌≡◌, ◌<◌, ◌^◌, IfOk};
 ghost use Rattle.spp_shell.specs.Check.{IsCheckLine};
-ghost use Rattle.spp_shell.specs.Profiles.{IsProfileText};
+ghost use Rattle.spp_shell.specs.Profiles.{IsProfileText, report_text};
 
 use crate::check_task::{line_of_event, refusal_of_header};
 use crate::task::{Refusal, Task};
 use spp_event::open_trace;
-use spp_report::{Named, csv_text};
+use spp_report::{Named, csv_text, plain_text};
 use spp_request::Request;
 use spp_serial::{ProfileFault, profile_serial};
-use std::alloc::Global;
+use std::alloc::{AllocError, Global};
 
-/// Tells the table of a run.
+/// Tells the figures and tables of a run.
 #[derive(Drop)]
 pub(crate) struct ProfileTask {
     /// What each continuation edge and each return edge bears, in instructions.
     pub(crate) burden: u32,
+    /// Whether the tables alone are told, as comma-separated values.
+    pub(crate) csv: bool,
 }
 
 impl ProfileTask {
     /// The task that is asked for.
     pub(crate) fn of(request: &Request) -> Self
-        ensures { result.burden ≡ request.now.burden }
+        ensures burden { result.burden ≡ request.now.burden }
+        ensures csv { result.csv ≡ request.now.csv }
     {
         ProfileTask {
             burden: request.burden,
+            csv: request.csv,
         }
     }
 }
 
+/// The tables alone as comma-separated values, where `csv` says so, or else the figures and tables as text.
+fn report(alloc: Global, named: &Named<'_, '_>, csv: bool) -> Result<Vec<u8>, AllocError>
+    requires { named.now.profile.now.figures.work < 2 ^ 120 }
+    ensures { IfOk result (λ text. text.items ≡ report_text csv named.now.trace.now named.now.profile.now.figures named.now.profile.now.dag named.now.profile.now.path) }
+{
+    if csv {
+        csv_text(alloc, named)
+    } else {
+        plain_text(alloc, named)
+    }
+}
+
 impl Task for ProfileTask {
-    ghost text_for = { λ _. IsProfileText };
+    ghost text_for = { λ task. IsProfileText task.burden task.csv };
 
     ghost line_for = { λ _. IsCheckLine };
 
@@ -45,7 +61,7 @@ impl Task for ProfileTask {
                     trace: &trace,
                     profile: &profile,
                 };
-                Ok(csv_text(alloc, &named)?)
+                Ok(report(alloc, &named, self.csv)?)
             }
             Err(ProfileFault::Bad(fault)) => Err(Refusal::Line(line_of_event(alloc, fault)?)),
             Err(ProfileFault::Memory) => Err(Refusal::Memory),

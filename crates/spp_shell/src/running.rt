@@ -100,7 +100,7 @@ pub fn run<S: Source, O: Sink, E: Sink>(
       OutUntouched = out.new ≡ out.old;
       Told = ToldLine E.took E.finished E.failures err.old err.new;
       Silent = err.new ≡ err.old;
-    }) (text_for request.now.command request.now.burden) (line_for request.now.command) result }
+    }) (text_for request.now.command request.now.burden request.now.csv) (line_for request.now.command) result }
 {
     match request.command {
         Command::Check => run_task(alloc, &Check, first, out, err),

@@ -24,13 +24,20 @@ pub fn command_ends_with(
     text: &[u8],
     line: &[u8],
 ) -> bool {
+    let request = request_for(alloc, command);
+    request_ends_with(alloc, &request, bytes, ends, text, line)
+}
+
+/// Runs the request on the bytes, and says the same.
+pub fn request_ends_with(
+    alloc: Global,
+    request: &Request,
+    bytes: &[u8],
+    ends: u8,
+    text: &[u8],
+    line: &[u8],
+) -> bool {
     let (mut out, mut err) = (empty_cup(alloc, 1000), empty_cup(alloc, 100));
-    let got = run(
-        alloc,
-        &request_for(alloc, command),
-        &mut dripping(bytes),
-        &mut out,
-        &mut err,
-    );
+    let got = run(alloc, request, &mut dripping(bytes), &mut out, &mut err);
     got == ends && out.taken.as_slice() == text && err.taken.as_slice() == line
 }

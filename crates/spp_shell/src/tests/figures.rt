@@ -1,7 +1,7 @@
 //! Runs of `figures` and `profile`.
 
-use super::commands::command_ends_with;
-use spp_request::Command;
+use super::commands::{command_ends_with, request_ends_with, request_for};
+use spp_request::{Command, Request};
 use std::alloc::Global;
 
 /// A strand of 1, a child that is spawned with a strand of 10, a strand of 4 beside it, a sync, and a strand of 2.
@@ -22,10 +22,28 @@ parallelism 1.30
 burdened parallelism 1.06
 ";
 
-const TABLE: &str =
-    "name,count,local,site_count,site_work,site_span,caller_count,caller_work,caller_span
-(root),1,7,1,17,13,1,17,13
-A,1,10,1,10,10,1,10,10
+const REPORT: &str = "work 17
+span 13
+burdened 16
+parallelism 1.30
+burdened parallelism 1.06
+
+whole dag
+       count        local   site_count    site_work    site_span caller_count  caller_work  caller_span name
+           1            7            1           17           13            1           17           13 (root)
+           1           10            1           10           10            1           10           10 A
+
+first greatest path
+       count        local   site_count    site_work    site_span caller_count  caller_work  caller_span name
+           1            3            1           17           13            1           17           13 (root)
+           1           10            1           10           10            1           10           10 A
+";
+
+const CSV: &str =
+    "name,count,local,site_count,site_work,site_span,caller_count,caller_work,caller_span,\
+path_count,path_local,path_site_count,path_site_work,path_site_span,path_caller_count,path_caller_work,path_caller_span
+(root),1,7,1,17,13,1,17,13,1,3,1,17,13,1,17,13
+A,1,10,1,10,10,1,10,10,1,10,1,10,10,1,10,10
 ";
 
 /// Whether `figures` of the bytes ends with this status, output and line of fault.
@@ -59,13 +77,30 @@ fn a_trace_without_figures_is_told_in_one_line(rt: HostRuntime) {
 }
 
 #[test]
-fn a_good_trace_prints_its_table(rt: HostRuntime) {
+fn a_good_trace_prints_its_report(rt: HostRuntime) {
     let printed = command_ends_with(
         rt.alloc(),
         Command::Profile,
         SMALL,
         0,
-        TABLE.as_bytes(),
+        REPORT.as_bytes(),
+        b"".as_slice(),
+    );
+    assert!(rt; printed);
+}
+
+#[test]
+fn a_good_trace_prints_its_tables_alone(rt: HostRuntime) {
+    let request = Request {
+        csv: true,
+        ..request_for(rt.alloc(), Command::Profile)
+    };
+    let printed = request_ends_with(
+        rt.alloc(),
+        &request,
+        SMALL,
+        0,
+        CSV.as_bytes(),
         b"".as_slice(),
     );
     assert!(rt; printed);

@@ -1,0 +1,170 @@
+use Rattle.std.proofs.Common.{◌≡◌, ℕ, suc, ◌+◌, ◌<◌, Bool, false, length, Ok, Err, sym, ap, subst, ◌∙◌, arith}
+use Rattle.spp_event.specs.declared.records.Event.{Event}
+use Rattle.spp_event.specs.declared.records.Event.TheVariants.{Strand, Call, Spawn, Ret, Sync}
+use Rattle.spp_event.specs.Recordings.{Recording, record_at}
+use Rattle.spp_maxplus.specs.declared.state.Burdens.{Burdens}
+use Rattle.spp_piece.specs.Figures.{AreFigures}
+use Rattle.spp_serial.specs.declared.ProfileFault.{ProfileFault}
+use Rattle.spp_serial.specs.Answers.{IsFaultOf}
+use Rattle.spp_serial.specs.Passes.{Seen, seen, start_seen, Returns, IsFinished}
+use Rattle.spp_serial.proofs.Keeping.{kept_bad, kept_return, kept_open}
+use Rattle.spp_serial.proofs.Passed.{light_of, leans, Passed, start_passed, is_read, ready_add, ready_call, ready_spawn, ready_return, strand_passed, sync_passed, call_passed, spawn_passed, root_stays, return_passed, ready_finish, IsTold, is_told}
+use Rattle.spp_serial.proofs.first_pass.first_pass.Goals as goal
+use Rattle.spp_serial.proofs.first_pass.first_pass.Goals.{in-Strand, in-Call+in_ok-open-in-Call, in-Spawn+in_ok-open-in-Spawn, in-Ret+in_ok-ret-in-Ret+else-not-branch, in-Sync+in_ok-sync-in-Sync}
+use Rattle.std.proofs.lemmas.List.{length-map}
+
+pub loop-at-init : goal.loop-at-init
+loop-at-init c =
+    let trace : Recording = c.args.trace.now in
+    let root : c.root.result ≡ trace.root = c.root.ensures in
+    let sites : c.sites.result ≡ length trace.sites = c.sites.ensures in
+    let funcs : c.funcs.result ≡ length trace.funcs = c.funcs.ensures in
+    let is : seen c.in_ok-summing.summing ≡ start_seen c.root.result c.sites.result c.funcs.result = c.in_ok-summing.ensures in
+    record {
+      same = c.new-events.ensures;
+      passed = start_passed trace c.both-burdens.result (seen c.in_ok-summing.summing) c.count-count.ensures.limits.root
+          (is ∙ ap (λ n. start_seen n c.sites.result c.funcs.result) root ∙ ap (λ n. start_seen trace.root n c.funcs.result) sites ∙ ap (λ n. start_seen trace.root (length trace.sites) n) funcs);
+    }
+
+pub returns-in-Err-clause-fault : goal.returns-in-Err-clause-fault
+returns-in-Err-clause-fault c =
+    let trace : Recording = c.args.trace.now in
+    let at : ℕ = c.loop-at.at in
+    let s : Seen = seen c.loop-at.summing in
+    let inv = c.loop-at.invariant in
+    let lt : at < length trace.records = omega (arith, c.count-count.ensures.count) in
+    let read : record_at c.loop-at.events.records at ≡ Err c.in-Err.fault = sym c.event_at.ensures.said ∙ c.in-Err.is in
+    let said : record_at trace.records at ≡ Err c.in-Err.fault = subst (λ (v : Recording). record_at v.records at ≡ Err c.in-Err.fault) inv.same read in
+    subst (λ (f : ProfileFault). IsFaultOf trace.records f) (sym c.bad.ensures)
+    (kept_bad trace.records c.both-burdens.result trace.root at s.work (leans s.frames) c.in-Err.fault lt said inv.passed.reached)
+
+pub strand-requires : goal.strand-requires
+strand-requires c =
+    let trace : Recording = c.args.trace.now in
+    let lt : c.loop-at.at < length trace.records = omega (arith, c.count-count.ensures.count) in
+    let e : Event = Strand c.in-Strand.count in
+    let read = is_read trace c.loop-at.events c.loop-at.at c.event_at.result e c.loop-at.invariant.same c.event_at.ensures.said c.event_at.ensures.within (c.in-Ok.is ∙ ap (λ (e : Event). Ok e) c.in-Strand.is) in
+    let b : Burdens = c.both-burdens.result in
+    let light = light_of b c.args.burden c.both-burdens.ensures c.ranges.burden.fits in
+    ready_add trace b light c.count-count.ensures.limits.events c.loop-at.at lt c.in-Strand.count read (seen c.loop-at.summing) c.loop-at.invariant.passed
+
+pub open-requires : goal.open-requires
+open-requires c =
+    let trace : Recording = c.args.trace.now in
+    let lt : c.loop-at.at < length trace.records = omega (arith, c.count-count.ensures.count) in
+    let e : Event = Call c.in-Call.site c.in-Call.func in
+    let read = is_read trace c.loop-at.events c.loop-at.at c.event_at.result e c.loop-at.invariant.same c.event_at.ensures.said c.event_at.ensures.within (c.in-Ok.is ∙ ap (λ (e : Event). Ok e) c.in-Call.is) in
+    let b : Burdens = c.both-burdens.result in
+    let light = light_of b c.args.burden c.both-burdens.ensures c.ranges.burden.fits in
+    ready_call trace b light c.count-count.ensures.limits.events c.loop-at.at lt c.in-Call.site c.in-Call.func read (seen c.loop-at.summing) c.loop-at.invariant.passed
+
+pub open-requires-in-Spawn : goal.open-requires-in-Spawn
+open-requires-in-Spawn c =
+    let trace : Recording = c.args.trace.now in
+    let lt : c.loop-at.at < length trace.records = omega (arith, c.count-count.ensures.count) in
+    let e : Event = Spawn c.in-Spawn.site c.in-Spawn.func in
+    let read = is_read trace c.loop-at.events c.loop-at.at c.event_at.result e c.loop-at.invariant.same c.event_at.ensures.said c.event_at.ensures.within (c.in-Ok.is ∙ ap (λ (e : Event). Ok e) c.in-Spawn.is) in
+    let b : Burdens = c.both-burdens.result in
+    let light = light_of b c.args.burden c.both-burdens.ensures c.ranges.burden.fits in
+    ready_spawn trace b light c.count-count.ensures.limits.events c.loop-at.at lt c.in-Spawn.site c.in-Spawn.func read (seen c.loop-at.summing) c.loop-at.invariant.passed
+
+pub ret-requires : goal.ret-requires
+ret-requires c =
+    let trace : Recording = c.args.trace.now in
+    let lt : c.loop-at.at < length trace.records = omega (arith, c.count-count.ensures.count) in
+    let b : Burdens = c.both-burdens.result in
+    let light = light_of b c.args.burden c.both-burdens.ensures c.ranges.burden.fits in
+    ready_return trace b light c.count-count.ensures.limits.events c.loop-at.at lt (seen c.loop-at.summing) c.loop-at.invariant.passed
+
+pub returns-then-not-branch-clause-fault : goal.returns-then-not-branch-clause-fault
+returns-then-not-branch-clause-fault c =
+    let trace : Recording = c.args.trace.now in
+    let at : ℕ = c.loop-at.at in
+    let s : Seen = seen c.loop-at.summing in
+    let inv = c.loop-at.invariant in
+    let lt : at < length trace.records = omega (arith, c.count-count.ensures.count) in
+    let b : Burdens = c.both-burdens.result in
+    let light = light_of b c.args.burden c.both-burdens.ensures c.ranges.burden.fits in
+    let read = is_read trace c.loop-at.events at c.event_at.result Ret inv.same c.event_at.ensures.said c.event_at.ensures.within (c.in-Ok.is ∙ ap (λ (e : Event). Ok e) c.in-Ret.is) in
+    let went : Returns b at s s.frames false (seen c.ret.new.self) = subst (λ (x : Bool). Returns b at s s.frames x (seen c.ret.new.self)) c.if-not-branch.true c.in_ok-ret-in-Ret.ensures in
+    let stop = root_stays trace b light c.count-count.ensures.limits.events at lt s (seen c.ret.new.self) went inv.passed in
+    subst (λ (f : ProfileFault). IsFaultOf trace.records f) (sym c.bad-then-not-branch.ensures)
+    (kept_return trace.records b trace.root at s.work (leans s.frames) lt read.0 stop inv.passed.reached)
+
+pub loop-at-preserved : goal.loop-at-preserved
+loop-at-preserved c =
+    let trace : Recording = c.args.trace.now in
+    let at : ℕ = c.loop-at.at in
+    let s : Seen = seen c.loop-at.summing in
+    let inv = c.loop-at.invariant in
+    let lt : at < length trace.records = omega (arith, c.count-count.ensures.count) in
+    let short = c.count-count.ensures.limits.events in
+    let b : Burdens = c.both-burdens.result in
+    let light = light_of b c.args.burden c.both-burdens.ensures c.ranges.burden.fits in
+    let read = λ (e : Event) (is : c.in-Ok.event ≡ e).
+    is_read trace c.loop-at.events at c.event_at.result e inv.same c.event_at.ensures.said c.event_at.ensures.within (c.in-Ok.is ∙ ap (λ (e : Event). Ok e) is) in
+    let further : suc at ≡ at + 1 = omega arith in
+    let moved = λ (new : Seen) (is : seen c.match-event.summing ≡ new) (k : Passed trace b (suc at) new).
+    subst (λ n. Passed trace b n (seen c.match-event.summing)) further (subst (λ (x : Seen). Passed trace b (suc at) x) (sym is) k) in
+    record {
+      same = c.event_at.ensures.same ∙ inv.same;
+      passed = elim c.match-event.branch [
+        | in-Strand w ↦
+            moved (seen w.strand.new.self) (ap seen w.summing-is)
+            (strand_passed trace b light short at lt w.in-Strand.count (read (Strand w.in-Strand.count) w.in-Strand.is) s (seen w.strand.new.self) w.strand.ensures inv.passed)
+        | in-Call+in_ok-open-in-Call w ↦
+            moved (seen w.open.new.self) (ap seen w.summing-is)
+            (call_passed trace b light short at lt w.in-Call.site w.in-Call.func (read (Call w.in-Call.site w.in-Call.func) w.in-Call.is) s (seen w.open.new.self) w.in_ok-open-in-Call.ensures inv.passed)
+        | in-Spawn+in_ok-open-in-Spawn w ↦
+            moved (seen w.open-in-Spawn.new.self) (ap seen w.summing-is)
+            (spawn_passed trace b light short at lt w.in-Spawn.site w.in-Spawn.func (read (Spawn w.in-Spawn.site w.in-Spawn.func) w.in-Spawn.is) s (seen w.open-in-Spawn.new.self) w.in_ok-open-in-Spawn.ensures inv.passed)
+        | in-Ret+in_ok-ret-in-Ret+else-not-branch w ↦
+            moved (seen w.ret.new.self) (ap seen w.summing-is)
+            (return_passed trace b light short at lt (read Ret w.in-Ret.is) s (seen w.ret.new.self) (subst (λ (x : Bool). Returns b at s s.frames x (seen w.ret.new.self)) w.if-not-branch.false w.in_ok-ret-in-Ret.ensures) inv.passed)
+        | in-Sync+in_ok-sync-in-Sync w ↦
+            moved (seen w.sync.new.self) (ap seen w.summing-is)
+            (sync_passed trace b light short at lt (read Sync w.in-Sync.is) s (seen w.sync.new.self) w.in_ok-sync-in-Sync.ensures inv.passed)
+      ];
+    }
+
+pub returns-then-depth-gt0-clause-fault : goal.returns-then-depth-gt0-clause-fault
+returns-then-depth-gt0-clause-fault c =
+    let trace : Recording = c.args.trace.now in
+    let s : Seen = seen c.loop-at.summing in
+    let end : c.loop-at.at ≡ length trace.records = omega (arith, c.count-count.ensures.count) in
+    let deep : c.depth-depth.result + 1 ≡ length (leans s.frames) = c.depth-depth.ensures ∙ sym (length-map s.frames _) in
+    subst (λ (f : ProfileFault). IsFaultOf trace.records f) (sym c.bad-then-depth-gt0.ensures)
+    (kept_open trace.records c.both-burdens.result trace.root c.loop-at.at s.work c.count-count.result c.depth-depth.result (leans s.frames) end c.count-count.ensures.count deep (omega arith) c.loop-at.invariant.passed.reached)
+
+pub finish-requires : goal.finish-requires
+finish-requires c =
+    let trace : Recording = c.args.trace.now in
+    let s : Seen = seen c.loop-at.summing in
+    let end : c.loop-at.at ≡ length trace.records = omega (arith, c.count-count.ensures.count) in
+    let one : length s.frames ≡ 1 = omega (arith, c.depth-depth.ensures) in
+    ready_finish trace c.both-burdens.result c.count-count.ensures.limits.events c.loop-at.at end s one c.loop-at.invariant.passed
+
+-- what is told at the end
+module _ (c : goal.In_ok-finish) where
+  end : c.loop-at.at ≡ length c.args.trace.now.records
+  end = omega (arith, c.count-count.ensures.count)
+
+  told : IsTold c.args.trace.now c.both-burdens.result c.count-count.ensures.limits.events c.loop-at.at end c.in_ok-finish.field-0
+  told =
+      let s : Seen = seen c.loop-at.summing in
+      let one : length s.frames ≡ 1 = omega (arith, c.depth-depth.ensures) in
+      let same : c.count-count.result ≡ c.loop-at.at = omega (arith, c.count-count.ensures.count) in
+      is_told c.args.trace.now c.both-burdens.result c.count-count.ensures.limits.events c.loop-at.at end s c.in_ok-finish.field-0 one c.loop-at.invariant.passed
+      (subst (λ k. IsFinished k s s.frames c.in_ok-finish.field-0) same c.in_ok-finish.ensures)
+
+pub returns-clause-figures : goal.returns-clause-figures
+returns-clause-figures c = subst (λ (b : Burdens). AreFigures c.args.trace.now.records b c.in_ok-finish.field-0.figures) c.both-burdens.ensures (told c).figures
+
+pub returns-clause-small : goal.returns-clause-small
+returns-clause-small c = (told c).small
+
+pub returns-clause-dag : goal.returns-clause-dag
+returns-clause-dag c = (told c).dag
+
+pub returns-clause-choices : goal.returns-clause-choices
+returns-clause-choices c = (told c).choices

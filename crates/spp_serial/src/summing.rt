@@ -1,0 +1,341 @@
+//! What one pass over the events of a run has between two events, and what each event does to it.
+
+ghost use Rattle.std.specs.Prelude.{◌≡◌, ◌+◌, ◌<◌, ◌≤◌, ◌^◌, ◌++◌, length, OnOk, IfOk};
+ghost use Rattle.spp_maxplus.specs.State.{taken as taken_of};
+ghost use Rattle.spp_serial.specs.Weights.{close as close_of};
+ghost use Rattle.spp_serial.specs.Passes.{
+  state_of,
+  row_of,
+  strand_frame,
+  sync_frame,
+  returned_frame,
+  FitsStrand,
+  FitsReturn,
+  joins_at,
+  ends_at,
+  seen,
+  start_seen,
+  strand_seen,
+  sync_seen,
+  open_seen,
+  HasOpen,
+  CanAdd,
+  CanOpen,
+  CanReturn,
+  Returns,
+  CanFinish,
+  IsFinished,
+};
+
+use crate::weights::Weights;
+use spp_dag::{FrameKind, Row};
+use spp_maxplus::Burdens;
+use spp_path::{Choices, End, Join};
+use spp_piece::Figures;
+use spp_site::Table;
+use std::alloc::{AllocError, Global};
+
+/// What one reading of a run's events tells.
+#[derive(Drop)]
+pub(crate) struct FirstPass {
+    /// Its work, span and burdened span.
+    pub(crate) figures: Figures,
+    /// Its rows by call site, on its whole dag.
+    pub(crate) dag: Table,
+    /// What settles its path.
+    pub(crate) choices: Choices,
+}
+
+/// An open frame.
+#[derive(Clone, Copy)]
+struct CountedFrame {
+    /// Its weights without burdens; `plain.child` is 0 where no child waits.
+    plain: Weights,
+    /// Its weights with the burdens.
+    burdened: Weights,
+    /// The work of the trace before its first event.
+    before: u128,
+    /// The counts of the strands directly in it, which the table doesn't have yet.
+    local: u128,
+    /// The spawn of the waiting child that `plain.child` is the weight of.
+    child: Option<u32>,
+    /// The position of the event that opened it; 0 for the root.
+    at: u32,
+    /// The call site by which it was entered; 0 for the root.
+    site: u32,
+    /// The function that runs in it.
+    func: u32,
+    /// How it was entered. The small fields are last, so that no padding is written between the weights.
+    kind: FrameKind,
+    /// No frame of the same site encloses it.
+    top_site: bool,
+    /// Its caller is enclosed by no frame of the caller's function.
+    top_caller: bool,
+}
+
+impl CountedFrame {
+    /// A strand of that many instructions.
+    #[inline(always)]
+    fn strand(&mut self, count: u64)
+        requires { FitsStrand count self.old }
+        ensures { self.new ≡ strand_frame count self.old }
+    {
+        self.plain = self.plain.after_strand(count);
+        self.burdened = self.burdened.after_strand(count);
+        self.local += u128::from(count);
+    }
+
+    /// A sync.
+    #[inline(always)]
+    fn sync(&mut self)
+        ensures { self.new ≡ sync_frame self.old }
+    {
+        self.plain = self.plain.after_sync();
+        self.burdened = self.burdened.after_sync();
+        self.child = None;
+    }
+
+    /// The return of that frame, which this one opened. Of two waiting children of the same weight the first is kept.
+    #[inline(always)]
+    fn receive(&mut self, child: &CountedFrame, burdens: Burdens)
+        requires { FitsReturn burdens child.now self.old }
+        ensures { self.new ≡ returned_frame burdens child.now self.old }
+    {
+        let plain = child.plain.close();
+        let burdened = child.burdened.close();
+        match child.kind {
+            FrameKind::Root => {}
+            FrameKind::Called => {
+                self.plain = self.plain.after_call(plain);
+                self.burdened = self.burdened.after_call(burdened);
+            }
+            FrameKind::Spawned => {
+                if self.child.is_none() || self.plain.child < self.plain.spine + plain {
+                    self.child = Some(child.at);
+                }
+                self.plain = self.plain.after_spawn(plain, Burdens::default());
+                self.burdened = self.burdened.after_spawn(burdened, burdens);
+            }
+        }
+    }
+
+    /// The spawn of the child that the frame takes where it waits now: the child wins against an equal spine.
+    #[inline(always)]
+    fn taken(&self) -> Option<u32>
+        ensures { result ≡ taken_of (state_of self.now) }
+    {
+        match self.child {
+            Some(spawn) if self.plain.spine <= self.plain.child => Some(spawn),
+            _ => None,
+        }
+    }
+
+    /// The frame's whole row, its strands included, where it closes when `work` is the work so far.
+    #[inline(always)]
+    fn row(&self, work: u128) -> Row
+        requires { self.now.before ≤ work }
+        ensures { result ≡ row_of self.now work }
+    {
+        let within = work - self.before;
+        let span = self.plain.close();
+        Row {
+            count: 1,
+            local: self.local,
+            site_count: if self.top_site { 1 } else { 0 },
+            site_work: if self.top_site { within } else { 0 },
+            site_span: if self.top_site { span } else { 0 },
+            caller_count: if self.top_caller { 1 } else { 0 },
+            caller_work: if self.top_caller { within } else { 0 },
+            caller_span: if self.top_caller { span } else { 0 },
+        }
+    }
+}
+
+/// Notes that a frame waits at `at` and takes that child, where it takes one.
+#[inline(always)]
+fn note_join(joins: &mut Vec<Join>, at: u32, taken: Option<u32>) -> Result<(), AllocError>
+    ensures { OnOk result (joins.new.items ≡ joins.old.items ++ joins_at at taken) }
+{
+    if let Some(spawn) = taken {
+        joins.push(Join { at, spawn })?;
+    }
+    Ok(())
+}
+
+/// Notes that a frame of that kind, opened at `spawn`, returns at `at`, where it was spawned.
+#[inline(always)]
+fn note_end(ends: &mut Vec<End>, at: u32, kind: FrameKind, spawn: u32) -> Result<(), AllocError>
+    ensures { OnOk result (ends.new.items ≡ ends.old.items ++ ends_at at kind spawn) }
+{
+    match kind {
+        FrameKind::Root | FrameKind::Called => {}
+        FrameKind::Spawned => ends.push(End { at, spawn })?,
+    }
+    Ok(())
+}
+
+/// The pass, between two events.
+#[derive(Drop)]
+pub(crate) struct Summing {
+    /// The open frames, the root first. They are changed where they lie, since to move one costs more than all else.
+    frames: Vec<CountedFrame>,
+    /// For each site how many open frames were entered by it.
+    open_sites: Vec<u32>,
+    /// For each function how many open frames run it.
+    open_funcs: Vec<u32>,
+    /// The counts of all strands so far.
+    work: u128,
+    /// The rows of the frames that have closed.
+    table: Table,
+    /// The returns and the taken children so far.
+    choices: Choices,
+}
+
+impl Summing {
+    /// The pass before the first event, where there are that many sites and functions and the root frame runs `root`.
+    pub(crate) fn new(alloc: Global, root: u32, sites: u32, funcs: u32) -> Result<Self, AllocError>
+        requires { root < funcs }
+        ensures { IfOk result (λ s. seen s ≡ start_seen root sites funcs) }
+    {
+        let open_sites = vec![in alloc; 0; sites as usize]?;
+        let mut open_funcs = vec![in alloc; 0; funcs as usize]?;
+        open_funcs[root as usize] = 1;
+        let mut frames = Vec::new(alloc);
+        frames.push(CountedFrame {
+            plain: Weights::start(),
+            burdened: Weights::start(),
+            before: 0,
+            local: 0,
+            child: None,
+            at: 0,
+            site: 0,
+            func: root,
+            kind: FrameKind::Root,
+            top_site: true,
+            top_caller: true,
+        })?;
+        Ok(Summing {
+            frames,
+            open_sites,
+            open_funcs,
+            work: 0,
+            table: Table::new(alloc),
+            choices: Choices {
+                ends: Vec::new(alloc),
+                joins: Vec::new(alloc),
+            },
+        })
+    }
+
+    /// How many frames besides the root are open.
+    pub(crate) fn depth(&self) -> u32
+        requires some { HasOpen (seen self.now) }
+        requires few { length (seen self.now).frames ≤ 2 ^ 32 }
+        ensures { result + 1 ≡ length (seen self.now).frames }
+    {
+        (self.frames.len() - 1) as u32
+    }
+
+    /// A strand of that many instructions.
+    #[inline(always)]
+    pub(crate) fn strand(&mut self, count: u64)
+        requires { CanAdd count (seen self.old) }
+        ensures { seen self.new ≡ strand_seen count (seen self.old) }
+    {
+        let last = self.frames.len() - 1;
+        self.frames[last].strand(count);
+        self.work += u128::from(count);
+    }
+
+    /// A call or a spawn at the position `at`.
+    #[inline(always)]
+    pub(crate) fn open(
+        &mut self,
+        kind: FrameKind,
+        at: u32,
+        site: u32,
+        func: u32,
+    ) -> Result<(), AllocError>
+        requires { CanOpen site func (seen self.old) }
+        ensures { OnOk result (seen self.new ≡ open_seen kind at site func (seen self.old)) }
+    {
+        let caller = self.frames[self.frames.len() - 1].func;
+        let top_site = self.open_sites[site as usize] == 0;
+        let top_caller = self.open_funcs[caller as usize] == 1;
+        self.frames.push(CountedFrame {
+            plain: Weights::start(),
+            burdened: Weights::start(),
+            before: self.work,
+            local: 0,
+            child: None,
+            at,
+            site,
+            func,
+            kind,
+            top_site,
+            top_caller,
+        })?;
+        self.open_sites[site as usize] += 1;
+        self.open_funcs[func as usize] += 1;
+        Ok(())
+    }
+
+    /// A sync at the position `at`.
+    #[inline(always)]
+    pub(crate) fn sync(&mut self, at: u32) -> Result<(), AllocError>
+        requires { HasOpen (seen self.old) }
+        ensures { OnOk result (seen self.new ≡ sync_seen at (seen self.old)) }
+    {
+        let last = self.frames.len() - 1;
+        note_join(&mut self.choices.joins, at, self.frames[last].taken())?;
+        self.frames[last].sync();
+        Ok(())
+    }
+
+    /// A return at the position `at`; false where the root frame alone is open.
+    #[inline(always)]
+    pub(crate) fn ret(&mut self, at: u32, burdens: Burdens) -> Result<bool, AllocError>
+        requires { CanReturn burdens (seen self.old) (seen self.old).frames }
+        ensures { IfOk result (λ went. Returns burdens at (seen self.old) (seen self.old).frames went (seen self.new)) }
+    {
+        if self.frames.len() < 2 {
+            return Ok(false);
+        }
+        let Some(child) = self.frames.pop() else {
+            return Ok(false);
+        };
+        note_join(&mut self.choices.joins, at, child.taken())?;
+        note_end(&mut self.choices.ends, at, child.kind, child.at)?;
+        self.table.add(child.site, &child.row(self.work))?;
+        self.open_sites[child.site as usize] -= 1;
+        self.open_funcs[child.func as usize] -= 1;
+        let last = self.frames.len() - 1;
+        self.frames[last].receive(&child, burdens);
+        Ok(true)
+    }
+
+    /// What the pass tells, where the root, which alone is open, closes at the end `at`.
+    pub(crate) fn finish(self, at: u32) -> Result<FirstPass, AllocError>
+        requires { CanFinish (seen self) }
+        ensures { IfOk result (λ p. IsFinished at (seen self) (seen self).frames p) }
+    {
+        let root = self.frames[self.frames.len() - 1];
+        let Summing {
+            work,
+            mut table,
+            mut choices,
+            ..
+        } = self;
+        note_join(&mut choices.joins, at, root.taken())?;
+        table.add_root(&root.row(work));
+        Ok(FirstPass {
+            figures: Figures {
+                work,
+                span: root.plain.close(),
+                burdened: root.burdened.close(),
+            },
+            dag: table,
+            choices,
+        })
+    }
+}
