@@ -7,6 +7,7 @@ ghost use Rattle.spp_site.specs.Rows.{Fits};
 use spp_dag::Row;
 
 /// The sum of two rows, field by field.
+#[inline(always)]
 pub(crate) fn sum(a: &Row, b: &Row) -> Row
     requires { Fits (plus a.now b.now) }
     ensures { result ≡ plus a.now b.now }

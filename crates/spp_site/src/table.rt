@@ -14,8 +14,8 @@ use std::marker::Model;
 /// The row of a site.
 #[derive(Clone, Copy, Debug, PartialEq, Eq)]
 struct SiteRow {
-    site: u32,
     row: Row,
+    site: u32,
 }
 
 /// What the frames of a run, or of a part of it, add up to: a row for the root frame, and one for each call site. Works,
@@ -91,6 +91,7 @@ impl Table {
     /// # Errors
     ///
     /// Where a growth was refused; the table then has the rows that it had.
+    #[inline(always)]
     pub fn add(&mut self, site: u32, row: &Row) -> Result<(), AllocError>
         requires { Fits (plus (row_at self.old site) row.now) }
         ensures added { OnOk result (IsAdded self.old self.new site row.now) }
@@ -149,6 +150,7 @@ impl Table {
 }
 
 /// The place of a site's row, or none where the site has no row.
+#[inline(always)]
 fn place_of(index: &[u32], rows: &[SiteRow], site: u32) -> Option<usize>
     requires { IsIndexed index.now rows.now }
     ensures { MatchOption result (HasNoRow rows.now site) (IsPlaceOf rows.now site) }

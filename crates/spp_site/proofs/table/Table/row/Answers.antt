@@ -16,6 +16,6 @@ pub returns-in-None : goal.returns-in-None
 returns-in-None c =
     let none = subst (λ r. HasNoRow r c.args.site) c.deref-2.ensures.value c.in-None.ensures in
     let d = c.default.ensures in
-    let zero : c.default.result ≡ zero_row = same_rows c.default.result zero_row d.0 d.1.0 d.1.1.0 d.1.1.1.0 d.1.1.1.1.0 d.1.1.1.1.1.0 d.1.1.1.1.1.1.0 d.1.1.1.1.1.1.1 in
+    let zero : c.default.result ≡ zero_row = same_rows c.default.result zero_row d.0 d.1.1.1.0 d.1.0 d.1.1.1.1.0 d.1.1.1.1.1.0 d.1.1.0 d.1.1.1.1.1.1.0 d.1.1.1.1.1.1.1 in
     zero
     ∙ (sym (no_row c.self.inside.root c.self.inside.rows.items c.args.site none) ∙ ap (λ t. row_at t c.args.site) c.self.view_is)
