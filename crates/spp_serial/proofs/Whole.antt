@@ -1,7 +1,6 @@
 -- The figures, the table of the dag and that of the path make the profile.
-use Rattle.std.proofs.Common.{◌≡◌, ℕ, List, [], ◌∷◌, map, Option, Ok, sym, ap, subst, ◌∙◌, refl}
+use Rattle.std.proofs.Common.{◌≡◌, ℕ, List, [], ◌∷◌, map, Ok, sym, ap, subst, ◌∙◌, refl}
 use Rattle.spp_event.specs.declared.records.Event.{Event}
-use Rattle.spp_event.specs.declared.records.EventFault.{EventFault}
 use Rattle.spp_event.specs.Recordings.{Record, Recording}
 use Rattle.spp_frame.specs.Nesting.{AreEvents, IsWellFormed, work}
 use Rattle.spp_maxplus.specs.declared.state.Burdens.{Burdens}
@@ -44,16 +43,25 @@ whole trace burdens p figures dags paths =
       burdened_span = p.figures.burdened;
       dag = λ key. row es trace.root rows.0 everywhere key;
       path = λ key. row es trace.root rows.0 (contains (0 ∷ rest)) key;
-    } in
-    (es, here, (q, record {
-      well_formed = formed;
-      work = figures.work ∙ ap (λ (rs : List Record). work rs) here;
-      span = figures.span;
-      burdened_span = figures.burdened;
-      spans = rows.0;
-      are_spans = rows.1;
-      rest = rest;
-      is_path = ways.2.1;
-      dag = λ key. refl;
-      path = λ key. refl;
-    }, refl, rows.2, λ key. ways.2.2 key ∙ rows_one es trace.root (contains (0 ∷ rest)) ways.0 rows.0 key ways.1 rows.1))
+    } in (
+      es,
+      here,
+      (
+        q,
+        record {
+          well_formed = formed;
+          work = figures.work ∙ ap (λ (rs : List Record). work rs) here;
+          span = figures.span;
+          burdened_span = figures.burdened;
+          spans = rows.0;
+          are_spans = rows.1;
+          rest = rest;
+          is_path = ways.2.1;
+          dag = λ key. refl;
+          path = λ key. refl;
+        },
+        refl,
+        rows.2,
+        λ key. ways.2.2 key ∙ rows_one es trace.root (contains (0 ∷ rest)) ways.0 rows.0 key ways.1 rows.1,
+      ),
+    )

@@ -1,9 +1,8 @@
 -- The table of a run on its whole dag, and its whole profile.
-use Rattle.std.specs.Prelude.{◌≡◌, ℕ, List, Option, Some, None}
+use Rattle.std.specs.Prelude.{◌≡◌, ℕ, List, Option}
 use Rattle.spp_event.specs.declared.records.Event.{Event}
 use Rattle.spp_event.specs.Recordings.{Recording}
 use Rattle.spp_frame.specs.Nesting.{AreEvents, IsWellFormed}
-use Rattle.spp_dag.specs.declared.row.Row.{Row}
 use Rattle.spp_maxplus.specs.declared.state.Burdens.{Burdens}
 use Rattle.spp_dag.specs.Profile as dag
 use Rattle.spp_dag.specs.Rows.{AreSpans, everywhere, row}
