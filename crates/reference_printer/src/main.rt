@@ -31,8 +31,19 @@ fn profiled(alloc: Global, text: &str, burdens: Burdens) -> Option<Reference> {
     profile(alloc, &trace, burdens).ok()
 }
 
-/// Whether the profiler on one thread has the same figures and the same rows on the whole dag for the trace that the text
-/// names, with that burden on edges of both kinds.
+/// Whether a table of the profiler on one thread has the rows that were told, the root's and one for each of so many
+/// sites.
+fn has_rows(table: &spp_site::Table, told: &Table, sites: u32) -> bool {
+    let mut same = table.root_row() == told.root;
+    for site in 0..sites {
+        let row = told.sites.get(site as usize).copied();
+        same = same && row == Some(table.row(site));
+    }
+    same
+}
+
+/// Whether the profiler on one thread has the same figures and the same rows, on the whole dag and on the path, for the
+/// trace that the text names, with that burden on edges of both kinds.
 fn is_confirmed(alloc: Global, text: &str, told: &Reference, burden: u32) -> Option<bool> {
     let bytes = parse_text(alloc, text).ok()?;
     let trace = open_trace(alloc, bytes.as_slice()).ok()?;
@@ -42,11 +53,9 @@ fn is_confirmed(alloc: Global, text: &str, told: &Reference, burden: u32) -> Opt
         span: told.span,
         burdened: told.burdened_span,
     };
-    let mut same = serial.figures == figures && serial.dag.root_row() == told.dag_rows.root;
-    for site in 0..trace.sites() {
-        let row = told.dag_rows.sites.get(site as usize).copied();
-        same = same && row == Some(serial.dag.row(site));
-    }
+    let same = serial.figures == figures
+        && has_rows(&serial.dag, &told.dag_rows, trace.sites())
+        && has_rows(&serial.path, &told.path_rows, trace.sites());
     Some(same)
 }
 
