@@ -73,9 +73,9 @@ impl From<AllocError> for ProfileFault {
 /// its tables on the whole dag and on the first greatest path, which have no burdens.
 ///
 /// The events are read twice: once for the figures, the table of the dag and the choices that settle the path, and once for
-/// the path's table. The time is linear in the numbers of events, sites and functions; the memory too: 16 bytes at most
-/// for each spawned child, one for each event, and what the open frames, the sites and the functions take. The work is at
-/// most 2^92.
+/// the path's table. The time is linear in the numbers of events, sites and functions; the memory too: up to 16 bytes for
+/// each spawned child, or twice that where the lists grew bit by bit, one for each event, and what the open frames, the
+/// sites and the functions take. The work is at most 2^92.
 ///
 /// # Errors
 ///
