@@ -5,7 +5,9 @@ use Rattle.std.proofs.lemmas.Option.{some_pair_parts}
 use Rattle.spp_maxplus.specs.declared.state.State.{State}
 use Rattle.spp_maxplus.specs.declared.seg.Seg.{Seg}
 use Rattle.spp_maxplus.specs.Candidate.{greatest, better, shifted}
-use Rattle.spp_maxplus.specs.Seg.{act, idle, then, peak, rise}
+use Rattle.spp_maxplus.specs.declared.state.Burdens.{Burdens}
+use Rattle.spp_maxplus.specs.State.{after_strand, after_call, after_spawn, after_sync}
+use Rattle.spp_maxplus.specs.Seg.{act, idle, along, spawned, synced, then, peak, rise}
 
 pub shifted_zero : (o : Option (ℕ × ℕ)) → shifted 0 o ≡ o
 shifted_zero None = refl
@@ -174,6 +176,23 @@ pub exact_headless : (m n : ℕ) (o p : Option (ℕ × ℕ)) → ((x : State) �
 exact_headless m n o p h =
     let e = h (record { spine = 0; child = None }) in
     same_seg None m n o p (omega (arith, ap (λ (s : State). s.spine) e)) (sym (shifted_zero o) ∙ (ap (λ (s : State). s.child) e ∙ shifted_zero p))
+
+-- each Seg of one event does what the event does
+pub act-strand : (count : ℕ) (x : State) → act (along count) x ≡ after_strand count x
+act-strand count x = ap (λ c. record { spine = x.spine + count; child = c }) (better_none x.child)
+
+pub act-call : (g : ℕ) (x : State) → act (along g) x ≡ after_call g x
+act-call g x = ap (λ c. record { spine = x.spine + g; child = c }) (better_none x.child)
+
+pub act-spawn : (at g : ℕ) (burden : Burdens) (x : State) → act (spawned at g burden) x ≡ after_spawn at g burden x
+act-spawn at g burden x =
+    refl
+
+sync_at : (n : ℕ) (o : Option (ℕ × ℕ)) → act synced (record { spine = n; child = o }) ≡ after_sync (record { spine = n; child = o })
+sync_at n o = ap (λ k. record { spine = k; child = None }) (add-zero (greatest (n + 0) o) ∙ ap (λ k. greatest k o) (add-zero n))
+
+pub act-sync : (x : State) → act synced x ≡ after_sync x
+act-sync x = sync_at x.spine x.child
 
 pair_same : (m n a b : ℕ) → m ≡ n → a ≡ b → ◌≡◌ {A = Option (ℕ × ℕ)} (Some (m, a)) (Some (n, b))
 pair_same m n a b d e = cc

@@ -1,1 +1,10 @@
 pub mod Figures
+pub mod Pair
+pub mod Stack
+pub mod Machine
+pub mod Summary
+pub mod Action
+pub mod Bound
+pub mod Pile
+pub mod Account
+pub mod Ends

@@ -1,6 +1,11 @@
-//! What is told of a run as a whole.
+//! What is told of a run as a whole, its figures, and summaries of its pieces, which join to that.
 #![tactic(auto)]
 
 mod figures;
+mod pieces;
+mod pile;
+mod summary;
 
 pub use figures::Figures;
+pub use pieces::{Frame, Kind, Segs, States, Unmatched};
+pub use summary::{JoinRefused, Summary, laws};

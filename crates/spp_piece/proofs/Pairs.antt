@@ -1,0 +1,42 @@
+use Rattle.std.proofs.Common.{◌≡◌, ℕ}
+use Rattle.spp_maxplus.specs.declared.state.Burdens.{Burdens}
+use Rattle.spp_maxplus.specs.declared.state.State.{State}
+use Rattle.spp_maxplus.specs.declared.seg.Seg.{Seg}
+use Rattle.spp_maxplus.proofs.SegLaws as one
+use Rattle.spp_piece.specs.declared.pieces.States.{States}
+use Rattle.spp_piece.specs.declared.pieces.Segs.{Segs}
+use Rattle.spp_piece.specs.declared.pieces.Frame.{Frame}
+use Rattle.spp_piece.specs.declared.pieces.Kind.{Kind}
+use Rattle.spp_piece.specs.declared.pieces.Kind.TheVariants.{Called, Spawned}
+use Rattle.spp_piece.specs.Pair.{act, free, then, idle, strand, sync, fed, fed_by, after_strand, after_sync, after_return, after_return_by}
+
+states : (a b c d : State) → a ≡ c → b ≡ d → ◌≡◌ {A = States} (record { plain = a; burdened = b }) (record { plain = c; burdened = d })
+states a b c d e f = cc
+
+segs : (a b c d : Seg) → a ≡ c → b ≡ d → ◌≡◌ {A = Segs} (record { plain = a; burdened = b }) (record { plain = c; burdened = d })
+segs a b c d e f = cc
+
+pub act_idle : (x : States) → act idle x ≡ x
+act_idle x = states _ _ _ _ (one.act_idle x.plain) (one.act_idle x.burdened)
+
+pub act-then : (a b : Segs) (x : States) → act (then a b) x ≡ act b (act a x)
+act-then a b x = states _ _ _ _ (one.act-then a.plain b.plain x.plain) (one.act-then a.burdened b.burdened x.burdened)
+
+pub then_idle : (a : Segs) → then a idle ≡ a
+then_idle a = segs _ _ _ _ (one.then_idle a.plain) (one.then_idle a.burdened)
+
+pub then_assoc : (a b c : Segs) → then (then a b) c ≡ then a (then b c)
+then_assoc a b c = segs _ _ _ _ (one.then_assoc a.plain b.plain c.plain) (one.then_assoc a.burdened b.burdened c.burdened)
+
+pub act-strand : (count : ℕ) (x : States) → act (strand count) x ≡ after_strand count x
+act-strand count x = states _ _ _ _ (one.act-strand count x.plain) (one.act-strand count x.burdened)
+
+pub act-sync : (x : States) → act sync x ≡ after_sync x
+act-sync x = states _ _ _ _ (one.act-sync x.plain) (one.act-sync x.burdened)
+
+fed_kind : (k : Kind) (burden : Burdens) (at g h : ℕ) (x : States) → act (fed_by k burden at g h) x ≡ after_return_by k burden at g h x
+fed_kind Called burden at g h x = states _ _ _ _ (one.act-call g x.plain) (one.act-call h x.burdened)
+fed_kind Spawned burden at g h x = states _ _ _ _ (one.act-spawn at g free x.plain) (one.act-spawn at h burden x.burdened)
+
+pub act-fed : (burden : Burdens) (f : Frame) (x : States) → act (fed burden f) x ≡ after_return burden f x
+act-fed burden f x = fed_kind f.kind burden f.at _ _ x

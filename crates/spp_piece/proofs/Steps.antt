@@ -1,0 +1,59 @@
+-- One more return, and one more frame, of a later piece.
+use Rattle.std.proofs.Common.{◌≡◌, ℕ, ◌+◌, ◌≤◌, ◌<◌, List, ◌∷◌, length, get_or, drop, None, Result, sym, ◌∙◌, ap, subst, add_assoc, arith}
+use Rattle.std.proofs.lemmas.List.{drop_more}
+use Rattle.spp_maxplus.specs.declared.state.Burdens.{Burdens}
+use Rattle.spp_event.specs.declared.records.EventFault.{EventFault}
+use Rattle.spp_piece.specs.declared.pieces.Unmatched.{Unmatched}
+use Rattle.spp_piece.specs.Pair.{idle}
+use Rattle.spp_event.specs.declared.records.Event.{Event}
+use Rattle.spp_piece.specs.Machine.{event, events}
+use Rattle.spp_piece.specs.Summary.{Sum, along_by, ret_by, summary_ops, play_returns}
+use Rattle.spp_piece.specs.Bound.{worst, cost, load, load_returns, IsSmall, IsCount}
+use Rattle.spp_piece.proofs.Piles.{unless_none}
+use Rattle.spp_piece.proofs.Bounds.{load-along_by, load-ret_by}
+use Rattle.spp_piece.proofs.Small.{along_sound, small_event}
+
+-- what reading past the end would give
+abbrev pub no_return : Unmatched
+no_return = record { segs = idle; at = 0 }
+
+abbrev pub return_at : List Unmatched → ℕ → Unmatched
+return_at xs i = get_or xs i no_return
+
+module _ (burden : Burdens) (xs : List Unmatched) (i : ℕ) (h : i < length xs) where
+  abbrev r : Unmatched
+  r = return_at xs i
+
+  next_return : drop i xs ≡ r ∷ drop (i + 1) xs
+  next_return = drop_more xs i no_return h
+
+  pub return_load : load_returns burden (drop i xs) ≡ cost r.segs + worst burden + load_returns burden (drop (i + 1) xs)
+  return_load = ap (load_returns burden) next_return
+
+  pub return_step : (s t u : Sum) → s.fault ≡ None → t ≡ along_by s.frames r.segs s → u ≡ ret_by t.frames burden r.at t → play_returns (summary_ops burden) (drop (i + 1) xs) u ≡ play_returns (summary_ops burden) (drop i xs) s
+  return_step s t u sound a b =
+      let rest = drop (i + 1) xs in
+      let o = summary_ops burden in
+      let along : o.along r.segs s ≡ t = unless_none s.fault s _ sound ∙ sym a in
+      let fault : t.fault ≡ None = ap (λ (z : Sum). z.fault) a ∙ (along_sound s.returns s.middle s.frames s.work s.fault r.segs ∙ sound) in
+      let ret : o.ret r.at t ≡ u = unless_none t.fault t _ fault ∙ sym b in
+      sym (ap (λ zs. play_returns o zs s) next_return ∙ ap (λ z. play_returns o rest (o.ret r.at z)) along ∙ ap (play_returns o rest) ret)
+
+  pub along_load : (s t : Sum) → t ≡ along_by s.frames r.segs s → load burden t ≤ load burden s + cost r.segs
+  along_load s t a = let l = load-along_by burden r.segs s in let f = ap (load burden) a in omega arith
+
+  pub ret_load : (t u : Sum) → u ≡ ret_by t.frames burden r.at t → load burden u ≤ load burden t + worst burden
+  ret_load t u b = let l = load-ret_by burden r.at t in let f = ap (load burden) b in omega arith
+
+-- one more event
+pub event_step : (burden : Burdens) (first i n : ℕ) (xs : List (Result Event EventFault)) (d : Result Event EventFault) (s t : Sum) → i < length xs → n ≡ i → t ≡ event (summary_ops burden) (first + n) (get_or xs i d) s → events (summary_ops burden) (first + (i + 1)) (drop (i + 1) xs) t ≡ events (summary_ops burden) (first + i) (drop i xs) s
+event_step burden first i n xs d s t h e a =
+    let o = summary_ops burden in
+    let x = get_or xs i d in
+    let rest = drop (i + 1) xs in
+    ap (events o (first + (i + 1)) rest) (a ∙ ap (λ k. event o (first + k) x s) e)
+    ∙ ap (λ k. events o k rest (event o (first + i) x s)) (sym (add_assoc first i 1))
+    ∙ sym (ap (λ zs. events o (first + i) zs s) (drop_more xs i d h))
+
+pub small_step : (burden : Burdens) (at i : ℕ) (x : Result Event EventFault) (s t : Sum) → t ≡ event (summary_ops burden) at x s → IsCount x → IsSmall burden i s → IsSmall burden (i + 1) t
+small_step burden at i x s t a c h = subst (IsSmall burden (i + 1)) (sym a) (small_event burden i at x s c h)

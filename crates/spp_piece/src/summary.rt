@@ -1,0 +1,221 @@
+//! Summaries, and how they are made and joined.
+ghost use Rattle.std.specs.Prelude.{◌≡◌, ◌+◌, ◌*◌, ◌<◌, ◌≤◌, ◌^◌, ◌-◌, ℕ, List, [], ◌∷◌, ◌++◌, length, reverse, Result, Ok, IfOk, IfErr, OnErr, OnOk};
+ghost use Rattle.spp_piece.specs.Stack.{Stack, run};
+ghost use Rattle.spp_piece.specs.Summary.{Sum, summary_of, joined};
+ghost use Rattle.spp_event.specs.declared.records.Event.{Event as EventValue};
+ghost use Rattle.spp_event.specs.declared.records.EventFault.{EventFault as FaultValue};
+ghost use Rattle.spp_piece.specs.Account.{account_of, both, at_start};
+ghost use Rattle.spp_piece.specs.Action.{action};
+ghost use Rattle.spp_piece.specs.Ends.{figures_of};
+ghost use Rattle.spp_maxplus.specs.declared.state.Burdens.{Burdens as BurdensValue};
+ghost use Rattle.spp_piece.specs.Bound.{cost, IsCount};
+
+use crate::figures::Figures;
+use crate::pieces::{Frame, Segs, States, Unmatched};
+use crate::pile::Pile;
+use spp_event::{Event, EventFault};
+use spp_frame::{Fault, Why};
+use spp_maxplus::Burdens;
+use std::alloc::{AllocError, Global};
+use std::marker::Model;
+
+/// What a range of events does to whatever stands before it.
+#[derive(Drop)]
+pub struct Summary {
+    burden: Burdens,
+    first: u32,
+    events: u32,
+    pile: Pile,
+}
+
+impl Model for Summary {
+    ghost use Rattle.spp_piece.specs.Account.{Account, IsSound};
+    ghost use Rattle.spp_piece.specs.Pile.{seen};
+
+    ghost Value = { Account };
+
+    ghost view = { λ a. record { burden = a.burden; first = a.first; events = a.events; sum = seen a.pile } };
+
+    ghost invariant = { λ a. IsSound (record { burden = a.burden; first = a.first; events = a.events; sum = seen a.pile }) };
+}
+
+/// Two summaries that found no memory to be joined.
+#[derive(Drop)]
+pub struct JoinRefused<T> {
+    pub left: T,
+    pub right: T,
+}
+
+impl Summary {
+    /// The summary of a range of events. It acts on every stack as they do one by one.
+    pub fn summarise(
+        alloc: Global,
+        first: u32,
+        items: &[Result<Event, EventFault>],
+        burden: Burdens,
+    ) -> Result<Summary, AllocError>
+        requires { first + length items.now ≤ 2 ^ 28 }
+        ensures value { IfOk result (λ s. s ≡ account_of burden first items.now) }
+        ensures acts { IfOk result (λ s. (stack : Stack) → action burden s.sum (Ok stack) ≡ run burden first items.now (Ok stack)) }
+    {
+        let mut pile = Pile::empty(alloc);
+        let mut events: u32 = 0;
+        for item in items {
+            known(item);
+            pile.read(burden, first + events, *item)?;
+            events += 1;
+        }
+        Ok(Summary {
+            burden,
+            first,
+            events,
+            pile,
+        })
+    }
+
+    /// The summary of two neighbouring ranges together. It acts as the one and then the other.
+    pub fn join(left: Summary, right: Summary) -> Result<Summary, JoinRefused<Summary>>
+        requires burden { left.burden ≡ right.burden }
+        requires neighbours { right.first ≡ left.first + left.events }
+        ensures ok { IfOk result (λ s. s ≡ both left right) }
+        ensures err { IfErr result (λ r. (r.left ≡ left) × (r.right ≡ right)) }
+    {
+        let mut left = left;
+        match left.pile.make_room(&right.pile) {
+            Ok(()) => {}
+            Err(_) => return Err(JoinRefused { left, right }),
+        }
+        left.pile.absorb(left.burden, &right.pile);
+        left.events += right.events;
+        Ok(left)
+    }
+
+    /// The burden.
+    pub fn burden(&self) -> Burdens
+        ensures { result ≡ self.now.burden }
+    {
+        self.burden
+    }
+
+    /// The first position of the range.
+    pub fn first(&self) -> u32
+        ensures { result ≡ self.now.first }
+    {
+        self.first
+    }
+
+    /// The number of events of the range.
+    pub fn events(&self) -> u32
+        ensures value { result ≡ self.now.events }
+        ensures range { self.now.first + self.now.events ≤ 2 ^ 28 }
+    {
+        self.events
+    }
+
+    /// The work of the range.
+    pub fn work(&self) -> u128
+        ensures value { result ≡ self.now.sum.work }
+        ensures bound { result < 2 ^ 92 }
+    {
+        self.pile.work
+    }
+
+    /// The returns whose frames were opened before the range, in order.
+    pub fn returns(&self) -> &[Unmatched]
+        ensures { result.now ≡ self.now.sum.returns }
+    {
+        self.pile.returns.as_slice()
+    }
+
+    /// What the events after the last unmatched return do to the frame that is then the innermost.
+    pub fn middle(&self) -> Segs
+        ensures value { result ≡ self.now.sum.middle }
+        ensures bound { cost result < 2 ^ 94 }
+    {
+        self.pile.middle
+    }
+
+    /// The frames that are open at the end, the outermost first.
+    pub fn frames(&self) -> &[Frame]
+        ensures { reverse result.now ≡ self.now.sum.frames }
+    {
+        self.pile.frames.as_slice()
+    }
+
+    /// The first bad record.
+    pub fn fault(&self) -> Option<(u32, EventFault)>
+        ensures { result ≡ self.now.sum.fault }
+    {
+        self.pile.fault
+    }
+
+    /// The same summary once more.
+    pub fn copy(alloc: Global, summary: &Summary) -> Result<Summary, AllocError>
+        ensures { IfOk result (λ s. s ≡ summary.now) }
+    {
+        let pile = Pile {
+            returns: summary.pile.returns.to_vec(alloc)?,
+            middle: summary.pile.middle,
+            frames: summary.pile.frames.to_vec(alloc)?,
+            work: summary.pile.work,
+            fault: summary.pile.fault,
+        };
+        Ok(Summary {
+            burden: summary.burden,
+            first: summary.first,
+            events: summary.events,
+            pile,
+        })
+    }
+
+    /// The figures of a whole trace, or its first bad event.
+    pub fn finish(&self) -> Result<Figures, Fault>
+        requires { self.now.first ≡ 0 }
+        ensures { result ≡ figures_of self.now.events (action self.now.burden self.now.sum (Ok at_start)) }
+    {
+        if let [unmatched, ..] = self.pile.returns.as_slice() {
+            return Err(Fault {
+                at: unmatched.at,
+                why: Why::RootReturn,
+            });
+        }
+        if let Some((at, why)) = self.pile.fault {
+            return Err(Fault {
+                at,
+                why: Why::Event(why),
+            });
+        }
+        let depth = self.pile.frames.len();
+        if depth > 0 {
+            return Err(Fault {
+                at: self.events,
+                why: Why::Unclosed {
+                    depth: depth as u32,
+                },
+            });
+        }
+        let states = self.pile.middle.apply(States::start());
+        Ok(Figures {
+            work: self.pile.work,
+            span: states.plain.close(),
+            burdened: states.burdened.close(),
+        })
+    }
+}
+
+/// A strand's count is a number of 64 bits.
+fn known(item: &Result<Event, EventFault>)
+    ensures { IsCount item.now }
+{
+    if let Ok(Event::Strand { count }) = item {
+        let _count = *count;
+    }
+}
+
+/// Joins are summaries of both lists together, and act so; so the order of joining doesn't matter.
+pub fn laws()
+    ensures account { (burden : BurdensValue) (first : ℕ) (xs ys : List (Result EventValue FaultValue)) → both (account_of burden first xs) (account_of burden (first + length xs) ys) ≡ account_of burden first (xs ++ ys) }
+    ensures joined { (burden : BurdensValue) (first : ℕ) (xs ys : List (Result EventValue FaultValue)) → joined burden (summary_of burden first xs) (summary_of burden (first + length xs) ys) ≡ summary_of burden first (xs ++ ys) }
+    ensures acts { (burden : BurdensValue) (left right : Sum) (stack : Stack) → action burden (joined burden left right) (Ok stack) ≡ action burden right (action burden left (Ok stack)) }
+    ensures assoc { (burden : BurdensValue) (a b c : Sum) → joined burden (joined burden a b) c ≡ joined burden a (joined burden b c) }
+{}
