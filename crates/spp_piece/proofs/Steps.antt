@@ -1,6 +1,10 @@
 -- One more return, and one more frame, of a later piece.
-use Rattle.std.proofs.Common.{◌≡◌, ℕ, ◌+◌, ◌≤◌, ◌<◌, List, ◌∷◌, length, get_or, drop, None, Result, sym, ◌∙◌, ap, subst, add_assoc, arith}
-use Rattle.std.proofs.lemmas.List.{drop_more}
+use Rattle.std.proofs.Common.{◌≡◌, ℕ, ◌+◌, ◌≤◌, ◌<◌, List, ◌∷◌, length, get_or, drop, None, Result, Ok, Err, IfOk, sym, ◌∙◌, ap, subst, add_assoc, arith}
+use Rattle.std.proofs.lemmas.List.{drop_more, get_or-take, get_or-drop, length-drop, length-take-le}
+use Rattle.spp_event.specs.declared.records.Event.TheVariants.{Strand, Call, Spawn, Ret, Sync}
+use Rattle.spp_event.specs.Records.{IsEventOf}
+use Rattle.spp_event.specs.Recordings.{Record}
+use Rattle.spp_cut.specs.Parts.{PartOf, records_in}
 use Rattle.spp_maxplus.specs.declared.state.Burdens.{Burdens}
 use Rattle.spp_event.specs.declared.records.EventFault.{EventFault}
 use Rattle.spp_piece.specs.declared.pieces.Unmatched.{Unmatched}
@@ -57,3 +61,21 @@ event_step burden first i n xs d s t h e a =
 
 pub small_step : (burden : Burdens) (at i : ℕ) (x : Result Event EventFault) (s t : Sum) → t ≡ event (summary_ops burden) at x s → IsCount x → IsSmall burden i s → IsSmall burden (i + 1) t
 small_step burden at i x s t a c h = subst (IsSmall burden (i + 1)) (sym a) (small_event burden i at x s c h)
+
+-- ---- the records of a part
+
+pub record_in : (p : PartOf) (k : ℕ) (d : Record) → k < p.count → get_or (records_in p) k d ≡ get_or p.trace.records (p.first + k) d
+record_in p k d lt = get_or-take p.count (drop p.first p.trace.records) k d lt ∙ get_or-drop p.first p.trace.records k d
+
+pub count_in : (p : PartOf) → p.first + p.count ≤ length p.trace.records → length (records_in p) ≡ p.count
+count_in p within =
+    let l : p.count ≤ length (drop p.first p.trace.records) = omega (arith, length-drop p.first p.trace.records) in
+    length-take-le p.count (drop p.first p.trace.records) l
+
+pub is_count : (sites funcs : ℕ) (x : Record) → IfOk x (λ e. IsEventOf sites funcs e) → IsCount x
+is_count sites funcs (Ok (Strand n)) h = h
+is_count sites funcs (Ok (Call s u)) h = tt
+is_count sites funcs (Ok (Spawn s u)) h = tt
+is_count sites funcs (Ok Ret) h = tt
+is_count sites funcs (Ok Sync) h = tt
+is_count sites funcs (Err q) h = tt

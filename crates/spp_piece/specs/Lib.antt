@@ -8,3 +8,4 @@ pub mod Bound
 pub mod Pile
 pub mod Account
 pub mod Ends
+pub mod Model

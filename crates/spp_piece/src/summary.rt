@@ -8,12 +8,17 @@ ghost use Rattle.spp_piece.specs.Account.{account_of, both, at_start};
 ghost use Rattle.spp_piece.specs.Action.{action};
 ghost use Rattle.spp_piece.specs.Ends.{figures_of};
 ghost use Rattle.spp_maxplus.specs.declared.state.Burdens.{Burdens as BurdensValue};
-ghost use Rattle.spp_piece.specs.Bound.{cost, IsCount};
+ghost use Rattle.spp_event.specs.Recordings.{Record};
+ghost use Rattle.spp_frame.specs.Nesting.{IsFirstBad};
+ghost use Rattle.spp_cut.specs.Parts.{records_in};
+ghost use Rattle.spp_piece.specs.Figures.{AreFigures};
+ghost use Rattle.spp_piece.specs.Bound.{cost, worst, AreCounted};
 
 use crate::figures::Figures;
 use crate::pieces::{Frame, Segs, States, Unmatched};
 use crate::pile::Pile;
-use spp_event::{Event, EventFault};
+use spp_cut::Part;
+use spp_event::{EventFault, EventReader};
 use spp_frame::{Fault, Why};
 use spp_maxplus::Burdens;
 use std::alloc::{AllocError, Global};
@@ -47,23 +52,32 @@ pub struct JoinRefused<T> {
 }
 
 impl Summary {
-    /// The summary of a range of events. It acts on every stack as they do one by one.
+    /// The summary of a part. On every stack it acts as the part's events do one by one.
+    ///
+    /// It takes time linear in the number of events, and memory linear in the numbers of frames that the part opens and
+    /// doesn't close, and of those that it closes and doesn't open.
+    ///
+    /// # Errors
+    ///
+    /// Where a growth was refused.
     pub fn summarise(
         alloc: Global,
-        first: u32,
-        items: &[Result<Event, EventFault>],
+        part: &Part<'_, '_>,
         burden: Burdens,
     ) -> Result<Summary, AllocError>
-        requires { first + length items.now ≤ 2 ^ 28 }
-        ensures value { IfOk result (λ s. s ≡ account_of burden first items.now) }
-        ensures acts { IfOk result (λ s. (stack : Stack) → action burden s.sum (Ok stack) ≡ run burden first items.now (Ok stack)) }
+        ensures value { IfOk result (λ s. s ≡ account_of burden part.now.first (records_in part.now)) }
+        ensures acts { IfOk result (λ s. (stack : Stack) → action burden s.sum (Ok stack) ≡ run burden part.now.first (records_in part.now) (Ok stack)) }
     {
+        let first = part.first();
+        let events = part.count();
+        let trace = part.trace();
+        // Its clauses tell that positions fit.
+        let _all = trace.count();
+        let mut reader = EventReader::new(trace);
         let mut pile = Pile::empty(alloc);
-        let mut events: u32 = 0;
-        for item in items {
-            known(item);
-            pile.read(burden, first + events, *item)?;
-            events += 1;
+        for k in 0..events {
+            let item = reader.event_at(first + k);
+            pile.read(burden, first + k, item)?;
         }
         Ok(Summary {
             burden,
@@ -168,8 +182,24 @@ impl Summary {
         })
     }
 
-    /// The figures of a whole trace, or its first bad event.
+    /// The figures of a whole trace, or its first bad event. It takes no memory.
+    ///
+    /// # Errors
+    ///
+    /// The first bad event.
     pub fn finish(&self) -> Result<Figures, Fault>
+        requires { self.now.first ≡ 0 }
+        ensures value { result ≡ figures_of self.now.events (action self.now.burden self.now.sum (Ok at_start)) }
+        ensures figures { IfOk result (λ f. (rs : List Record) → AreCounted rs → self.now ≡ account_of self.now.burden 0 rs → AreFigures rs self.now.burden f) }
+        ensures fault { IfErr result (λ f. (rs : List Record) → AreCounted rs → self.now ≡ account_of self.now.burden 0 rs → IsFirstBad rs f) }
+    {
+        // Its invariant tells that burdens are small.
+        let _burden = self.burden;
+        self.ended()
+    }
+
+    /// What the root frame alone comes to.
+    fn ended(&self) -> Result<Figures, Fault>
         requires { self.now.first ≡ 0 }
         ensures { result ≡ figures_of self.now.events (action self.now.burden self.now.sum (Ok at_start)) }
     {
@@ -200,15 +230,6 @@ impl Summary {
             span: states.plain.close(),
             burdened: states.burdened.close(),
         })
-    }
-}
-
-/// A strand's count is a number of 64 bits.
-fn known(item: &Result<Event, EventFault>)
-    ensures { IsCount item.now }
-{
-    if let Ok(Event::Strand { count }) = item {
-        let _count = *count;
     }
 }
 

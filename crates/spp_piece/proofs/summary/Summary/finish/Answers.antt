@@ -1,40 +1,21 @@
-use Rattle.std.proofs.Common.{length, reverse, get_or, Result, Ok, Err, ap, sym, ◌∙◌, arith}
-use Rattle.std.proofs.lemmas.List.{length-reverse}
-use Rattle.spp_frame.specs.declared.Fault.{Fault}
-use Rattle.spp_frame.specs.declared.Why.TheVariants.{RootReturn, Unclosed}
-use Rattle.spp_piece.specs.declared.figures.Figures.{Figures}
-use Rattle.spp_piece.specs.Account.{Account, at_start}
-use Rattle.spp_piece.specs.Action.{action}
-use Rattle.spp_piece.specs.Ends.{figures_of}
-use Rattle.spp_piece.proofs.Steps.{no_return}
-use Rattle.spp_piece.proofs.Finish.{root_return, bad_record, unclosed}
+use Rattle.std.proofs.Common.{◌≡◌, ◌<◌, ◌^◌, IfOk, IfErr, sym, subst}
+use Rattle.spp_frame.specs.Nesting.{IsFirstBad}
+use Rattle.spp_piece.specs.Figures.{AreFigures}
+use Rattle.spp_piece.specs.Account.{account_of}
+use Rattle.spp_piece.specs.Bound.{worst, AreCounted}
+use Rattle.spp_piece.proofs.Bridge.{summary_ends, all_ok, all_err}
 use Rattle.spp_piece.proofs.summary.Summary.finish.Goals as goal
 
-abbrev finished : Account → Result Figures Fault
-finished a = figures_of a.events (action a.burden a.sum (Ok at_start))
+pub returns-clause-figures : goal.returns-clause-figures
+returns-clause-figures c =
+    let a = c.args.self.now in
+    let small : worst a.burden < 2 ^ 32 = subst (λ x. worst x.burden < 2 ^ 32) c.self.view_is c.self.invariant.burden in
+    all_ok c.ended.result (λ rs f. AreFigures rs a.burden f) AreCounted (λ rs. a ≡ account_of a.burden 0 rs)
+    (λ rs counted is. subst (λ r. IfOk r (AreFigures rs a.burden)) (sym c.ended.ensures) (summary_ends a.burden rs small counted a is).0)
 
-pub returns-in-len1-up : goal.returns-in-len1-up
-returns-in-len1-up c =
-    let s = c.self.inside in
-    let p = s.pile in
-    let e = c.as_slice.ensures.value in
-    ap (λ us. Err (record { at = (get_or us 0 no_return).at; why = RootReturn })) e
-    ∙ sym (root_return s.burden s.events p.returns.items p.middle (reverse p.frames.items) p.work p.fault no_return (omega (arith, ap length e, c.in-len1-up.len_at_least)))
-    ∙ ap finished c.self.view_is
-
-pub returns-in-Some : goal.returns-in-Some
-returns-in-Some c =
-    let s = c.self.inside in
-    let p = s.pile in
-    sym (bad_record s.burden s.events p.returns.items p.middle (reverse p.frames.items) p.work p.fault (c.in-Some.at, c.in-Some.why) (omega (arith, ap length c.as_slice.ensures.value, c.in_default.len_below)) c.in-Some.is)
-    ∙ ap finished c.self.view_is
-
-pub returns-then-depth-gt0 : goal.returns-then-depth-gt0
-returns-then-depth-gt0 c =
-    let s = c.self.inside in
-    let p = s.pile in
-    let n = length-reverse p.frames.items in
-    let k = p.frames.ok.0 in
-    ap (λ d. Err (record { at = s.events; why = Unclosed d })) (omega (arith, n, k, c.len-depth.ensures))
-    ∙ sym (unclosed s.burden s.events p.returns.items p.middle (reverse p.frames.items) p.work p.fault (omega (arith, ap length c.as_slice.ensures.value, c.in_default.len_below)) c.in_default-fault.is (omega (arith, n, k, c.len-depth.ensures, c.if-depth-gt0.true)))
-    ∙ ap finished c.self.view_is
+pub returns-clause-fault : goal.returns-clause-fault
+returns-clause-fault c =
+    let a = c.args.self.now in
+    let small : worst a.burden < 2 ^ 32 = subst (λ x. worst x.burden < 2 ^ 32) c.self.view_is c.self.invariant.burden in
+    all_err c.ended.result (λ rs f. IsFirstBad rs f) AreCounted (λ rs. a ≡ account_of a.burden 0 rs)
+    (λ rs counted is. subst (λ r. IfErr r (IsFirstBad rs)) (sym c.ended.ensures) (summary_ends a.burden rs small counted a is).1)
