@@ -1,10 +1,9 @@
 -- A run over records, from the root frame alone, is that of the model's stack machine: it ends with the figures, or at the
 -- first bad event.
-use Rattle.std.proofs.Common.{◌≡◌, ℕ, zero, suc, ◌+◌, ◌<◌, ◌≤◌, ◌^◌, List, [], ◌∷◌, length, drop, get_or, Option, Some, None, Result, Ok, Err, IfOk, IfErr, refl, sym, ap, subst, ◌∙◌, arith}
+use Rattle.std.proofs.Common.{◌≡◌, ℕ, zero, suc, ◌+◌, ◌<◌, ◌≤◌, ◌^◌, List, [], ◌∷◌, length, drop, Option, Some, None, Result, Ok, Err, IfOk, IfErr, refl, sym, ap, subst, ◌∙◌, arith}
 use Rattle.std.proofs.lemmas.List.{length-drop}
 use Rattle.spp_event.specs.declared.records.Event.{Event}
 use Rattle.spp_event.specs.declared.records.Event.TheVariants.{Strand, Call, Spawn, Ret, Sync}
-use Rattle.spp_event.specs.declared.records.EventFault.{EventFault}
 use Rattle.spp_event.specs.declared.records.EventFault.TheVariants.{Truncated}
 use Rattle.spp_event.specs.Recordings.{Record, record_at}
 use Rattle.spp_frame.specs.declared.Fault.{Fault}
@@ -19,14 +18,14 @@ use Rattle.spp_piece.specs.declared.pieces.Kind.{Kind}
 use Rattle.spp_piece.specs.declared.pieces.Kind.TheVariants.{Called, Spawned}
 use Rattle.spp_piece.specs.declared.figures.Figures.{Figures}
 use Rattle.spp_piece.specs.Figures.{AreFigures}
-use Rattle.spp_piece.specs.Stack.{Stack, step, step_from, run}
+use Rattle.spp_piece.specs.Stack.{Stack, step, run}
 use Rattle.spp_piece.specs.Ends.{figures_of}
 use Rattle.spp_piece.specs.Account.{Account, account_of, at_start}
 use Rattle.spp_piece.specs.Action.{action}
 use Rattle.spp_piece.specs.Bound.{worst, IsCount}
 use Rattle.spp_piece.specs.Bound as every
 use Rattle.spp_piece.proofs.Stacks.{action_summary}
-use Rattle.spp_piece.specs.Model.{open_frames, open_frame, open_root}
+use Rattle.spp_piece.specs.Model.{open_frames, open_root}
 use Rattle.spp_piece.proofs.Reached.{Reached, reached_none, reached_more, bad_event, root_return, left_open, all_reached}
 
 abbrev stack : List Frame → States → ℕ → Stack

@@ -1,5 +1,5 @@
 -- What a summary does to a stack.
-use Rattle.std.specs.Prelude.{ℕ, ◌+◌, ◌∷◌, Result, Ok, Err}
+use Rattle.std.specs.Prelude.{◌+◌, ◌∷◌, Result, Ok, Err}
 use Rattle.spp_maxplus.specs.declared.state.Burdens.{Burdens}
 use Rattle.spp_frame.specs.declared.Why.TheVariants.{Event as Record}
 use Rattle.spp_frame.specs.declared.Fault.{Fault}

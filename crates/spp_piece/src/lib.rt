@@ -8,4 +8,7 @@ mod summary;
 
 pub use figures::Figures;
 pub use pieces::{Frame, Kind, Segs, States, Unmatched};
-pub use summary::{JoinRefused, Summary, laws};
+pub use summary::{JoinRefused, Summary, piece_laws};
+
+#[cfg(test)]
+mod tests;

@@ -6,36 +6,47 @@ ghost use Rattle.spp_piece.specs.Bound.{cost, height, worst};
 
 use spp_maxplus::{Burdens, Seg, State};
 
-/// How a frame was entered.
+/// How a frame that a piece opens was entered. The root is opened by none.
 #[derive(Clone, Copy, Debug, PartialEq, Eq)]
 pub enum Kind {
+    /// By a call.
     Called,
+    /// By a spawn.
     Spawned,
 }
 
-/// A frame's state at burden 0 and at the burden.
+/// What is known of an open frame.
 #[derive(Clone, Copy, Debug, PartialEq, Eq)]
 pub struct States {
+    /// Without burdens.
     pub plain: State,
+    /// With them.
     pub burdened: State,
 }
 
 /// What events do to both states of a frame.
 #[derive(Clone, Copy, Debug, PartialEq, Eq)]
 pub struct Segs {
+    /// Without burdens.
     pub plain: Seg,
+    /// With them.
     pub burdened: Seg,
 }
 
 /// An open frame that a piece has entered.
 #[derive(Clone, Copy, Debug, PartialEq, Eq)]
 pub struct Frame {
+    /// How it was entered.
     pub kind: Kind,
+    /// The position of the event that opened it.
     pub at: u32,
+    /// The call site by which it was entered.
     pub site: u32,
+    /// The function that runs in it.
     pub func: u32,
-    /// The work before the frame's first event.
+    /// The work of the range before its first event, in instructions.
     pub before: u128,
+    /// What is known of its weights.
     pub states: States,
 }
 
@@ -44,6 +55,7 @@ pub struct Frame {
 pub struct Unmatched {
     /// What the events since the last such return do to that frame.
     pub segs: Segs,
+    /// The position of the return.
     pub at: u32,
 }
 

@@ -24,7 +24,11 @@ use spp_maxplus::Burdens;
 use std::alloc::{AllocError, Global};
 use std::marker::Model;
 
-/// What a range of events does to whatever stands before it.
+/// What a range of events, however unbalanced, does to the open frames that it meets: the returns that close frames opened
+/// before it; what it does to the frame that is then the innermost; and the frames that it opens and leaves open. Reading
+/// stops at a bad record.
+///
+/// Contracts see the burdens, the range, and these. It takes memory for its unmatched returns and frames alone.
 #[derive(Drop)]
 pub struct Summary {
     burden: Burdens,
@@ -44,10 +48,12 @@ impl Model for Summary {
     ghost invariant = { λ a. IsSound (record { burden = a.burden; first = a.first; events = a.events; sum = seen a.pile }) };
 }
 
-/// Two summaries that found no memory to be joined.
+/// Two values that weren't joined for want of memory, as they were.
 #[derive(Drop)]
 pub struct JoinRefused<T> {
+    /// The earlier one.
     pub left: T,
+    /// The later one.
     pub right: T,
 }
 
@@ -87,7 +93,14 @@ impl Summary {
         })
     }
 
-    /// The summary of two neighbouring ranges together. It acts as the one and then the other.
+    /// The summary of two neighbouring ranges together, with the same burdens: it acts as the one and then the other, and is
+    /// the summary of both lists of events.
+    ///
+    /// It takes time linear in the unmatched returns and frames of the right one, and doesn't go over those of the left.
+    ///
+    /// # Errors
+    ///
+    /// Where a growth was refused; both are handed back.
     pub fn join(left: Summary, right: Summary) -> Result<Summary, JoinRefused<Summary>>
         requires burden { left.burden ≡ right.burden }
         requires neighbours { right.first ≡ left.first + left.events }
@@ -104,7 +117,7 @@ impl Summary {
         Ok(left)
     }
 
-    /// The burden.
+    /// What continuation edges and return edges bear.
     pub fn burden(&self) -> Burdens
         ensures { result ≡ self.now.burden }
     {
@@ -126,7 +139,7 @@ impl Summary {
         self.events
     }
 
-    /// The work of the range.
+    /// The work of the range, in instructions.
     pub fn work(&self) -> u128
         ensures value { result ≡ self.now.sum.work }
         ensures bound { result < 2 ^ 92 }
@@ -156,14 +169,18 @@ impl Summary {
         self.pile.frames.as_slice()
     }
 
-    /// The first bad record.
+    /// The position of the first bad record, and its fault.
     pub fn fault(&self) -> Option<(u32, EventFault)>
         ensures { result ≡ self.now.sum.fault }
     {
         self.pile.fault
     }
 
-    /// The same summary once more.
+    /// The same summary once more. It takes time linear in its unmatched returns and frames.
+    ///
+    /// # Errors
+    ///
+    /// Where an allocation was refused.
     pub fn copy(alloc: Global, summary: &Summary) -> Result<Summary, AllocError>
         ensures { IfOk result (λ s. s ≡ summary.now) }
     {
@@ -233,8 +250,9 @@ impl Summary {
     }
 }
 
-/// Joins are summaries of both lists together, and act so; so the order of joining doesn't matter.
-pub fn laws()
+/// The laws of joins: what is joined is the summary of both lists together; it acts as the one and then the other; and it's
+/// one which two of three are joined first. Its contract is what it is for.
+pub fn piece_laws()
     ensures account { (burden : BurdensValue) (first : ℕ) (xs ys : List (Result EventValue FaultValue)) → both (account_of burden first xs) (account_of burden (first + length xs) ys) ≡ account_of burden first (xs ++ ys) }
     ensures joined { (burden : BurdensValue) (first : ℕ) (xs ys : List (Result EventValue FaultValue)) → joined burden (summary_of burden first xs) (summary_of burden (first + length xs) ys) ≡ summary_of burden first (xs ++ ys) }
     ensures acts { (burden : BurdensValue) (left right : Sum) (stack : Stack) → action burden (joined burden left right) (Ok stack) ≡ action burden right (action burden left (Ok stack)) }

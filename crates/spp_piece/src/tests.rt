@@ -1,0 +1,234 @@
+use crate::{Figures, Frame, Kind, Segs, States, Summary, Unmatched};
+use spp_cut::{Cut, cut_at};
+use spp_event::{Event, EventFault, open_trace, record_of};
+use spp_frame::{Fault, Why};
+use spp_maxplus::{Burdens, State};
+use std::alloc::{AllocError, Global};
+use std::test::Fail;
+
+const SPAWN: Event = Event::Spawn { site: 0, func: 1 };
+
+/// A spawn within a spawn, and what follows both: the outer child is waited for at the end.
+const NESTED: [Event; 7] = [
+    SPAWN,
+    SPAWN,
+    Event::Strand { count: 3 },
+    Event::Ret,
+    Event::Strand { count: 1 },
+    Event::Ret,
+    Event::Strand { count: 2 },
+];
+
+/// The bytes of a trace of these events, of the functions `main` and `f` and the site `A`.
+fn trace_of(alloc: Global, events: &[Event]) -> Result<Vec<u8>, AllocError> {
+    let count = u8::try_from(events.len()).unwrap_or(0);
+    let mut bytes = b"SPTRACE1\x00\x00\x00\x02\x00\x00\x00\x01\x00\x00\x00\x00\x00\x00\x00".to_vec(
+        alloc,
+    )?;
+    bytes.push(count)?;
+    bytes.extend_from_slice(b"\x00\x04main\x00\x01f\x00\x01A")?;
+    for event in events {
+        bytes.extend_from_slice(&record_of(*event))?;
+    }
+    Ok(bytes)
+}
+
+/// The join of two summaries; none where they are no neighbours or no memory was left.
+fn joined(left: Summary, right: Summary) -> Option<Summary> {
+    let (first, events) = (left.first(), left.events());
+    if left.burden() != right.burden() || right.first() != first + events {
+        return None;
+    }
+    Summary::join(left, right).ok()
+}
+
+/// The parts of a cut, summarised with a burden of 3 and joined from the left.
+fn from_left(alloc: Global, cut: &Cut<'_, '_>) -> Option<Summary> {
+    let mut all: Option<Summary> = None;
+    for part in cut.parts() {
+        let next = Summary::summarise(alloc, part, Burdens::both(3)).ok()?;
+        all = match all {
+            None => Some(next),
+            Some(before) => Some(joined(before, next)?),
+        };
+    }
+    all
+}
+
+/// The same joined from the right.
+fn from_right(alloc: Global, cut: &Cut<'_, '_>) -> Option<Summary> {
+    let mut all: Option<Summary> = None;
+    for part in cut.parts().iter().rev() {
+        let before = Summary::summarise(alloc, part, Burdens::both(3)).ok()?;
+        all = match all {
+            None => Some(before),
+            Some(next) => Some(joined(before, next)?),
+        };
+    }
+    all
+}
+
+/// What a summary of a whole trace comes to.
+fn finished(all: Option<Summary>) -> Option<Result<Figures, Fault>> {
+    let all = all?;
+    if all.first() != 0 {
+        return None;
+    }
+    Some(all.finish())
+}
+
+/// Whether a run of these events, in parts of one event joined from the left and from the right, comes to this.
+fn comes_to(
+    alloc: Global,
+    bytes: &[u8],
+    cuts: &[u32],
+    end: Result<Figures, Fault>,
+) -> Result<bool, AllocError> {
+    let Ok(trace) = open_trace(alloc, bytes) else {
+        return Ok(false);
+    };
+    let Ok(cut) = cut_at(alloc, &trace, cuts) else {
+        return Ok(false);
+    };
+    let left = finished(from_left(alloc, &cut));
+    let right = finished(from_right(alloc, &cut));
+    Ok(left == Some(end) && right == Some(end))
+}
+
+fn figures(work: u128, span: u128, burdened: u128) -> Result<Figures, Fault> {
+    Ok(Figures {
+        work,
+        span,
+        burdened,
+    })
+}
+
+fn fault(at: u32, why: Why) -> Result<Figures, Fault> {
+    Err(Fault { at, why })
+}
+
+/// What is seen of the two parts of `NESTED` at a cut behind its first strand, and of their join; none where there is no
+/// memory.
+fn halves(alloc: Global) -> Option<(Summary, Summary, Summary)> {
+    let bytes = trace_of(alloc, &NESTED).ok()?;
+    let trace = open_trace(alloc, bytes.as_slice()).ok()?;
+    let cut = cut_at(alloc, &trace, &[3]).ok()?;
+    let [front, back] = cut.parts() else {
+        return None;
+    };
+    let front = Summary::summarise(alloc, front, Burdens::both(3)).ok()?;
+    let back = Summary::summarise(alloc, back, Burdens::both(3)).ok()?;
+    let both = joined(
+        Summary::copy(alloc, &front).ok()?,
+        Summary::copy(alloc, &back).ok()?,
+    )?;
+    Some((front, back, both))
+}
+
+/// A state with this spine and no child.
+fn along(spine: u128) -> State {
+    State { spine, child: None }
+}
+
+fn spawned(at: u32, spine: u128) -> Frame {
+    Frame {
+        kind: Kind::Spawned,
+        at,
+        site: 0,
+        func: 1,
+        before: 0,
+        states: States {
+            plain: along(spine),
+            burdened: along(spine),
+        },
+    }
+}
+
+#[test]
+fn parts_are_told_apart_and_together(rt: HostRuntime) -> Result<(), Fail> {
+    let Some((front, back, both)) = halves(rt.alloc()) else {
+        return Err(AllocError.into());
+    };
+    assert_eq!(rt; front.work(), 3);
+    assert!(rt; front.returns().is_empty());
+    assert_eq!(rt; front.middle(), Segs::idle());
+    assert_eq!(rt; front.frames(), [spawned(0, 0), spawned(1, 3)].as_slice());
+    assert_eq!(rt; back.work(), 3);
+    let returns = [
+        Unmatched {
+            segs: Segs::idle(),
+            at: 3,
+        },
+        Unmatched {
+            segs: Segs::strand(1),
+            at: 5,
+        },
+    ];
+    assert_eq!(rt; back.returns(), returns.as_slice());
+    assert_eq!(rt; back.middle(), Segs::strand(2));
+    assert!(rt; back.frames().is_empty());
+    assert_eq!(rt; both.work(), 6);
+    assert!(rt; both.returns().is_empty() && both.frames().is_empty());
+    let end = States {
+        plain: State {
+            spine: 2,
+            child: Some((3, 0)),
+        },
+        burdened: State {
+            spine: 5,
+            child: Some((9, 0)),
+        },
+    };
+    assert_eq!(rt; both.middle().apply(States::start()), end);
+    Ok(())
+}
+
+#[test]
+fn parts_of_one_event_come_to_the_figures(rt: HostRuntime) -> Result<(), Fail> {
+    let ret = Event::Ret;
+    let sync = Event::Sync;
+    let small = [
+        Event::Strand { count: 1 },
+        SPAWN,
+        Event::Strand { count: 10 },
+        ret,
+        Event::Strand { count: 4 },
+        sync,
+        Event::Strand { count: 2 },
+    ];
+    let cuts = [1, 2, 3, 4, 5, 6];
+    let bytes = trace_of(rt.alloc(), &small)?;
+    assert!(rt; comes_to(rt.alloc(), &bytes, &cuts, figures(17, 13, 16))?);
+    let bytes = trace_of(rt.alloc(), &NESTED)?;
+    assert!(rt; comes_to(rt.alloc(), &bytes, &cuts, figures(6, 3, 9))?);
+    let bytes = trace_of(rt.alloc(), &[])?;
+    assert!(rt; comes_to(rt.alloc(), &bytes, &[], figures(0, 0, 0))?);
+    Ok(())
+}
+
+#[test]
+fn parts_of_one_event_come_to_the_first_bad_event(rt: HostRuntime) -> Result<(), Fail> {
+    let ret = Event::Ret;
+    let bytes = trace_of(rt.alloc(), &[SPAWN, ret, ret, ret])?;
+    assert!(rt; comes_to(rt.alloc(), &bytes, &[1, 2, 3], fault(2, Why::RootReturn))?);
+    let bytes = trace_of(rt.alloc(), &[SPAWN, SPAWN, ret])?;
+    assert!(rt;
+        comes_to(
+            rt.alloc(),
+            &bytes,
+            &[1, 2],
+            fault(3, Why::Unclosed { depth: 1 })
+        )?
+    );
+    let mut bytes = trace_of(rt.alloc(), &[SPAWN, ret, ret])?;
+    bytes.truncate(bytes.len().saturating_sub(20));
+    assert!(rt;
+        comes_to(
+            rt.alloc(),
+            &bytes,
+            &[1, 2],
+            fault(1, Why::Event(EventFault::Truncated))
+        )?
+    );
+    Ok(())
+}
