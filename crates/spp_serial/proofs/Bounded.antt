@@ -20,7 +20,7 @@ use Rattle.spp_site.proofs.Rows.{plus-zero, zero-plus}
 use Rattle.spp_path.specs.Tables.{key_row}
 use Rattle.spp_serial.specs.Passes.{lowered}
 use Rattle.spp_serial.proofs.Told.{Counted, Told, state_sum, full_row, start_told, strand_told, sync_told, opened_frame, open_told, return_frames, IsReturned}
-use Rattle.spp_serial.proofs.Steps.{greatest_more, child_adds}
+use Rattle.spp_piece.proofs.MachineSteps.{greatest_more, child_adds}
 use Rattle.spp_path.proofs.RowSums.{strand_owed, none_owed, closed_owed, Low, low_zero, low_plus, low_strand, low_closed, low_fits}
 use Rattle.spp_path.proofs.Counts.{count_site, count_func, site_le, func_le, known, raised_is, lowered_is}
 

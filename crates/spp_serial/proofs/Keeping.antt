@@ -20,7 +20,7 @@ use Rattle.spp_dag.specs.Limits as sums
 use Rattle.spp_piece.specs.Figures.{AreFigures}
 use Rattle.spp_serial.specs.declared.stack.Frame.{Frame}
 use Rattle.spp_serial.specs.Weights.{new_frame, close, after_child, advance, plain_sum, burdened_sum, child_weight, weights_of, kept}
-use Rattle.spp_serial.proofs.Reached.{Reached, reached_none, reached_more, bad_event, root_return, left_open, all_reached}
+use Rattle.spp_piece.proofs.Reached.{Reached, reached_none, reached_more, bad_event, root_return, left_open, all_reached}
 
 -- ---- one state
 

@@ -1,5 +1,3 @@
-pub mod Steps
-pub mod Reached
 pub mod Keeping
 pub mod Told
 pub mod Bounded
