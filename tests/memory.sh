@@ -54,8 +54,8 @@ probe_refused() {
         [ "$(requests)" -ge $at ] || break
         at=$((at + 1))
     done
-    # 44 calls, each with a request at least
-    [ $told -ge 44 ] || { fails "the calls: $told refusals were told"; return; }
+    # 46 calls, each with a request at least
+    [ $told -ge 46 ] || { fails "the calls: $told refusals were told"; return; }
     echo "memory: the calls: $((at - 1)) requests refused in turn, $told times told by the call"
     passed=$((passed + 1))
 }
@@ -98,7 +98,10 @@ each_refused 'check, a file by name' 0 'work 17' '' /dev/null check "$examples/s
 each_refused 'check, a bad header' 1 '' 'bad header: short' "$folder/short" check
 each_refused 'check, a bad event' 1 '' 'bad event 4: tag' "$folder/tag" check
 each_refused 'figures, a recorded trace' 0 'work 136861*' '' "$examples/cilksort.sptrace" figures
+each_refused 'figures, in one part' 0 'work 136861*' '' "$examples/cilksort.sptrace" figures --parts 1
+each_refused 'figures, more parts than events' 0 'work 17*' '' "$examples/small.sptrace" figures --parts 65536
 each_refused 'figures, a bad event' 1 '' 'bad event 4: tag' "$folder/tag" figures --burden 3
+each_refused 'figures, a bad event in the second part' 1 '' 'bad event 4: tag' "$folder/tag" figures --parts 2
 each_refused 'profile, a recorded trace' 0 'work 32744*' '' "$examples/nqueens.sptrace" profile
 each_refused 'profile as tables alone' 0 'name,count*' '' "$examples/nqueens.sptrace" profile --csv
 each_refused 'encode, a good text' 0 'SPTRACE1*' '' "$examples/small.txt" encode

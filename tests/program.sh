@@ -44,8 +44,11 @@ expect 'nqueens' 0 "work 32744$lf" '' "$top/examples/nqueens.sptrace" check
 
 # The figures of the recorded traces are that program's too.
 figures_of() { # NAME FILE BURDEN WORK SPAN BURDENED PARALLELISM BURDENED_PARALLELISM
-    expect "figures of $1" 0 "work $4${lf}span $5${lf}burdened $6${lf}parallelism $7${lf}burdened parallelism $8$lf" '' \
-        /dev/null figures --burden "$3" "$2"
+    local text="work $4${lf}span $5${lf}burdened $6${lf}parallelism $7${lf}burdened parallelism $8$lf" parts
+    expect "figures of $1" 0 "$text" '' /dev/null figures --burden "$3" "$2"
+    for parts in 1 2 7 65536; do
+        expect "figures of $1 in $parts parts" 0 "$text" '' /dev/null figures --parts $parts --burden "$3" "$2"
+    done
 }
 figures_of 'the small trace' "$small" 3 17 13 16 1.30 1.06
 figures_of 'cilksort' "$top/examples/cilksort.sptrace" 15000 136861 11392 596194 12.01 0.22
@@ -68,6 +71,14 @@ for trace in cilksort fib nqueens; do
     report_of $trace $trace.csv profile --csv
 done
 expect 'a table of a part of a record' 1 '' "bad event 1: truncated$lf" <(head -c 60 "$small") profile
+expect 'no parts' 2 '' 'error: *' "$small" figures --parts 0
+expect 'parts too many' 2 '' 'error: *' "$small" figures --parts 65537
+expect 'parts without a number' 2 '' 'error: *' "$small" figures --parts x
+printf 'func main\n' | "$spprof" encode > "$folder/empty"
+for parts in 1 16 65536; do
+    expect "figures of no events in $parts parts" 0 \
+        "work 0${lf}span 0${lf}burdened 0${lf}parallelism -${lf}burdened parallelism -$lf" '' "$folder/empty" figures --parts=$parts
+done
 expect 'a burden too large' 2 '' 'error: *' "$small" figures --burden 4294967296
 
 expect 'no bytes' 1 '' "bad header: short$lf" /dev/null check
@@ -204,7 +215,8 @@ expect 'help of a command' 0 'Check a trace*' '' /dev/null check --help
 expect 'no command' 2 '' 'error: *Usage: *' /dev/null
 expect 'another command' 2 '' 'error: *' /dev/null chek
 expect 'two files' 2 '' 'error: *' /dev/null check a b
-expect 'another option' 2 '' 'error: *' /dev/null check --parts 2
+expect 'an option of another command' 2 '' 'error: *' /dev/null check --parts 3
+expect 'another option' 2 '' 'error: *' /dev/null check --nothing
 expect 'a word that is no UTF-8' 2 '' "error: an argument is not UTF-8 text$lf" /dev/null $'\377'
 "$spprof" --help > /dev/full 2> "$folder/err"
 status=$?

@@ -7,10 +7,10 @@ ghost use Rattle.std.specs.Prelude.{◌≡◌};
 use spp_event::{HeaderFault, open_trace};
 use spp_frame::check;
 use spp_maxplus::Burdens;
-use spp_piece::Figures;
+use spp_piece::{Figures, FiguresFault, figures_in_parts};
 use spp_reference::{ReferenceFault, profile};
 use spp_report::{Named, OutSink, csv_text, figures_text, plain_text};
-use spp_request::{Command, Request, UsageFault, read_request};
+use spp_request::{Command, Parts, Request, UsageFault, read_request};
 use spp_serial::{Profile, ProfileFault, figures_serial, profile_serial};
 use spp_shell::{InSource, ReadFault, read_all, read_within, run};
 use spp_site::Table;
@@ -183,6 +183,20 @@ fn measured(alloc: Global) -> Answer {
     }
 }
 
+/// The same by way of a part for each of its two events.
+fn measured_in_parts(alloc: Global) -> Answer {
+    let trace = match open_trace(alloc, NESTED) {
+        Ok(trace) => trace,
+        Err(HeaderFault::Memory) => return Answer::Memory,
+        Err(_) => return Answer::Other,
+    };
+    match figures_in_parts(alloc, &trace, 3, 2) {
+        Ok(figures) if figures.burdened == 0 => Answer::Good,
+        Err(FiguresFault::Memory) => Answer::Memory,
+        _ => Answer::Other,
+    }
+}
+
 fn told(alloc: Global) -> Answer {
     let figures = Figures {
         work: 17,
@@ -258,6 +272,7 @@ fn ran(alloc: Global, command: Command, csv: bool, bytes: &[u8], wanted: u8) -> 
         command,
         files: Vec::new(alloc),
         burden: 3,
+        parts: Parts::default(),
         csv,
     };
     let (mut text, mut line) = ([0u8; 1024], [0u8; 64]);
@@ -284,6 +299,7 @@ fn main(rt: HostRuntime) -> io::Result<()> {
         println!(rt; "parse_text: {:?}", parsed(alloc))?;
         println!(rt; "parse_text, a fault: {:?}", misparsed(alloc))?;
         println!(rt; "figures_serial: {:?}", measured(alloc))?;
+        println!(rt; "figures_in_parts: {:?}", measured_in_parts(alloc))?;
         println!(rt; "profile_serial: {:?}", profiled(alloc))?;
         println!(rt; "csv_text: {:?}", summed(alloc))?;
         println!(rt; "plain_text: {:?}", reported(alloc))?;

@@ -9,3 +9,4 @@ pub mod Pile
 pub mod Account
 pub mod Ends
 pub mod Model
+pub mod Faults

@@ -5,10 +5,12 @@ mod figures;
 mod pieces;
 mod pile;
 mod summary;
+mod whole;
 
 pub use figures::Figures;
 pub use pieces::{Frame, Kind, Segs, States, Unmatched};
 pub use summary::{JoinRefused, Summary, piece_laws};
+pub use whole::{FiguresFault, figures_in_parts};
 
 #[cfg(test)]
 mod tests;

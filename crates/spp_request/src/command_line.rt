@@ -1,5 +1,6 @@
 //! The commands and their options, as `clap` is told of them. It writes the texts of help and usage.
 
+use crate::parts::Parts;
 use clap::{Arg, ArgAction, Command, value_parser};
 use std::alloc::{AllocError, Global};
 
@@ -10,6 +11,9 @@ pub(crate) const DEFAULT_BURDEN: u32 = 15000;
 
 /// The same as a word.
 const DEFAULT_BURDEN_WORD: &str = "15000";
+
+/// The number of parts where none is given, as a word.
+const DEFAULT_PARTS_WORD: &str = "16";
 
 const STATUSES: &str = "Exit status:
   0  the answer stands on standard output, whole
@@ -42,6 +46,19 @@ fn burden<'a>(alloc: Global) -> Arg<'a> {
         .help("Instructions that a stolen continuation costs")
 }
 
+/// Into how many parts the trace is cut.
+fn parts<'a>(alloc: Global) -> Arg<'a> {
+    let most = i64::from(Parts::MOST);
+    Arg::new(alloc, "parts")
+        .long("parts")
+        .value_name("N")
+        .value_parser(value_parser!(u32).range(1..=most))
+        .default_value(DEFAULT_PARTS_WORD)
+        .help(
+            "Parts that the trace is cut into, 1 to 65536; the answer is the same for each number",
+        )
+}
+
 /// The whole command line. It lives as long as the words that it is to read.
 pub(crate) fn command_line<'a>(alloc: Global) -> Result<Command<'a>, AllocError> {
     let check = command_over(
@@ -56,7 +73,8 @@ pub(crate) fn command_line<'a>(alloc: Global) -> Result<Command<'a>, AllocError>
         "Print the work, the span and the burdened span of a run",
         "The trace; without it standard input is read",
     )?
-    .arg(burden(alloc))?;
+    .arg(burden(alloc))?
+    .arg(parts(alloc))?;
     let csv = Arg::new(alloc, "csv")
         .long("csv")
         .action(ArgAction::SetTrue)

@@ -2,8 +2,10 @@
 #![tactic(auto)]
 
 mod command_line;
+mod parts;
 mod request;
 
+pub use parts::Parts;
 pub use request::{Command, Request, UsageFault, read_request};
 
 #[cfg(test)]

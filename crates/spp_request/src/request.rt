@@ -4,6 +4,7 @@ ghost use Rattle.spp_request.specs.Usage.{EndsByUsage};
 ghost use Rattle.spp_request.specs.declared.request.UsageFault.TheVariants.{Memory};
 
 use crate::command_line::{DEFAULT_BURDEN, command_line};
+use crate::parts::Parts;
 use clap::Error;
 use clap::error::ErrorKind;
 use std::alloc::{AllocError, AllocFailed, Global};
@@ -31,6 +32,8 @@ pub struct Request {
     pub files: Vec<String>,
     /// What each continuation edge and each return edge bears, in instructions; 15,000 where none is given.
     pub burden: u32,
+    /// Into how many parts the trace is cut, which changes no answer; 16 where no number is given.
+    pub parts: Parts,
     /// Whether comma-separated values are asked for.
     pub csv: bool,
 }
@@ -123,10 +126,12 @@ pub fn read_request<S: AsStr>(alloc: Global, words: &[S]) -> Result<Request, Usa
         files.push(path.to_string(alloc)?)?;
     }
     let burden = given.get_one::<u32>("burden").unwrap_or(DEFAULT_BURDEN);
+    let parts = given.get_one::<u32>("parts").and_then(Parts::new);
     Ok(Request {
         command,
         files,
         burden,
+        parts: parts.unwrap_or_default(),
         csv: given.get_flag("csv"),
     })
 }

@@ -1,6 +1,6 @@
-use crate::{Command, Request, UsageFault, read_request};
+use crate::{Command, Parts, Request, UsageFault, read_request};
 
-/// Whether the words ask for this command over these files, with this burden and no CSV.
+/// Whether the words ask for this command over these files, with this burden, 16 parts and no CSV.
 fn asks(
     rt: &impl AllocGlobal,
     words: &[&str],
@@ -14,11 +14,12 @@ fn asks(
                 command,
                 files: given,
                 burden,
+                parts,
                 csv: false,
             },
         ) => {
             let same = given.iter().map(|f| f.as_str()).eq(files.iter().copied());
-            command == wanted && same && burden == bears
+            command == wanted && same && burden == bears && parts.number() == 16
         }
         _ => false,
     }
@@ -88,6 +89,7 @@ Arguments:
 
 Options:
       --burden <N>  Instructions that a stolen continuation costs [default: 15000]
+      --parts <N>   Parts that the trace is cut into, 1 to 65536; the answer is the same for each number [default: 16]
   -h, --help        Print help
 
 Exit status:
@@ -159,6 +161,26 @@ Usage: spprof encode [FILE]
 For more information, try '--help'.
 ";
 
+const NO_PARTS: &str = "error: invalid value '0' for '--parts <N>': 0 is not in 1..=65536
+
+For more information, try '--help'.
+";
+
+const TOO_MANY_PARTS: &str =
+    "error: invalid value '65537' for '--parts <N>': 65537 is not in 1..=65536
+
+For more information, try '--help'.
+";
+
+const PARTS_OF_CHECK: &str = "error: unexpected argument '--parts' found
+
+  tip: to pass '--parts' as a value, use '-- --parts'
+
+Usage: spprof check [FILE]
+
+For more information, try '--help'.
+";
+
 const NO_COMMAND: &str = "error: 'spprof' requires a subcommand but one was not provided
   [subcommands: check, figures, profile, encode]
 
@@ -206,6 +228,39 @@ fn a_burden_is_read(rt: HostRuntime) {
 }
 
 #[test]
+fn parts_are_read(rt: HostRuntime) {
+    for (words, wanted) in [
+        (["spprof", "figures", "--parts", "1"].as_slice(), 1),
+        (
+            ["spprof", "figures", "--burden", "3", "--parts=7", "a"].as_slice(),
+            7,
+        ),
+        (["spprof", "figures", "--parts", "65536"].as_slice(), 65536),
+    ] {
+        let asked = match read_request(rt.alloc(), words) {
+            Ok(request) => request.parts.number() == wanted && request.command == Command::Figures,
+            Err(_) => false,
+        };
+        assert!(rt; asked, "{wanted} parts");
+    }
+    for word in ["0", "65537", "4294967296", "-1", "x", ""] {
+        assert!(rt; is_refused(&rt, ["spprof", "figures", "--parts", word].as_slice()));
+    }
+    assert!(rt; is_refused(&rt, ["spprof", "figures", "--parts"].as_slice()));
+    for command in ["check", "profile", "encode"] {
+        assert!(rt; is_refused(&rt, ["spprof", command, "--parts", "3"].as_slice()));
+    }
+}
+
+#[test]
+fn a_number_of_parts_has_bounds(rt: HostRuntime) {
+    assert!(rt; Parts::new(0).is_none() && Parts::new(65537).is_none());
+    assert_eq!(rt; Parts::new(1).map(Parts::number), Some(1));
+    assert_eq!(rt; Parts::new(Parts::MOST).map(Parts::number), Some(65536));
+    assert_eq!(rt; Parts::default().number(), 16);
+}
+
+#[test]
 fn csv_is_asked_for(rt: HostRuntime) {
     for words in [
         ["spprof", "profile", "--csv"].as_slice(),
@@ -242,6 +297,15 @@ fn a_usage_fault_is_shown_with_status_2(rt: HostRuntime) {
         (["spprof", "check", "a", "b"].as_slice(), TWO_FILES),
         (["spprof", "encode", "a", "b"].as_slice(), TWO_TEXTS),
         (["spprof", "encode", "--nothing"].as_slice(), NO_OPTION),
+        (["spprof", "figures", "--parts", "0"].as_slice(), NO_PARTS),
+        (
+            ["spprof", "figures", "--parts", "65537"].as_slice(),
+            TOO_MANY_PARTS,
+        ),
+        (
+            ["spprof", "check", "--parts", "3"].as_slice(),
+            PARTS_OF_CHECK,
+        ),
         (["spprof"].as_slice(), NO_COMMAND),
     ] {
         assert!(rt; shows(&rt, words, 2, text));

@@ -1,4 +1,5 @@
-//! The task `figures`: the work, the span and the burdened span of a run, or its trace's first fault.
+//! The task `figures`: the work, the span and the burdened span of a run, by way of parts of its trace, or its trace's first
+//! fault.
 ghost use Rattle.std.specs.Prelude.{◌≡◌, IfErr};
 ghost use Rattle.spp_shell.specs.Tasks.{IfLine};
 ghost use Rattle.spp_shell.specs.Check.{IsCheckLine};
@@ -7,9 +8,9 @@ ghost use Rattle.spp_shell.specs.Figures.{IsFiguresText};
 use crate::check_task::{line_of_event, refusal_of_header};
 use crate::task::{Refusal, Task};
 use spp_event::open_trace;
+use spp_piece::{FiguresFault, figures_in_parts};
 use spp_report::figures_text;
-use spp_request::Request;
-use spp_serial::{ProfileFault, figures_serial};
+use spp_request::{Parts, Request};
 use std::alloc::Global;
 
 /// Tells the figures of a run.
@@ -17,15 +18,19 @@ use std::alloc::Global;
 pub(crate) struct FiguresTask {
     /// What each continuation edge and each return edge bears, in instructions.
     pub(crate) burden: u32,
+    /// Into how many parts the trace is cut, which changes no answer.
+    pub(crate) parts: Parts,
 }
 
 impl FiguresTask {
     /// The task that is asked for.
     pub(crate) fn of(request: &Request) -> Self
-        ensures { result.burden ≡ request.now.burden }
+        ensures burden { result.burden ≡ request.now.burden }
+        ensures parts { result.parts ≡ request.now.parts }
     {
         FiguresTask {
             burden: request.burden,
+            parts: request.parts,
         }
     }
 }
@@ -40,10 +45,10 @@ impl Task for FiguresTask {
             Ok(trace) => trace,
             Err(fault) => return Err(refusal_of_header(alloc, fault)),
         };
-        match figures_serial(alloc, &trace, self.burden) {
+        match figures_in_parts(alloc, &trace, self.burden, self.parts.number()) {
             Ok(figures) => Ok(figures_text(alloc, &figures)?),
-            Err(ProfileFault::Bad(fault)) => Err(Refusal::Line(line_of_event(alloc, fault)?)),
-            Err(ProfileFault::Memory) => Err(Refusal::Memory),
+            Err(FiguresFault::Bad(fault)) => Err(Refusal::Line(line_of_event(alloc, fault)?)),
+            Err(FiguresFault::Memory) => Err(Refusal::Memory),
         }
     }
 }

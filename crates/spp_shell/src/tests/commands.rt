@@ -2,15 +2,16 @@
 
 use super::fakes::{dripping, empty_cup};
 use crate::run;
-use spp_request::{Command, Request};
+use spp_request::{Command, Parts, Request};
 use std::alloc::Global;
 
-/// A request for this over standard input, with a burden of 3.
+/// A request for this over standard input, with a burden of 3 and 16 parts.
 pub fn request_for(alloc: Global, command: Command) -> Request {
     Request {
         command,
         files: Vec::new(alloc),
         burden: 3,
+        parts: Parts::default(),
         csv: false,
     }
 }

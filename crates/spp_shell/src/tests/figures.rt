@@ -1,7 +1,7 @@
 //! Runs of `figures` and `profile`.
 
 use super::commands::{command_ends_with, request_ends_with, request_for};
-use spp_request::{Command, Request};
+use spp_request::{Command, Parts, Request};
 use std::alloc::Global;
 
 /// A strand of 1, a child that is spawned with a strand of 10, a strand of 4 beside it, a sync, and a strand of 2.
@@ -46,16 +46,43 @@ path_count,path_local,path_site_count,path_site_work,path_site_span,path_caller_
 A,1,10,1,10,10,1,10,10,1,10,1,10,10,1,10,10
 ";
 
-/// Whether `figures` of the bytes ends with this status, output and line of fault.
-fn ends_with(alloc: Global, bytes: &[u8], ends: u8, text: &str, line: &str) -> bool {
-    command_ends_with(
+/// Whether `figures` of the bytes ends with this status, output and line of fault, in so many parts.
+fn ends_in_parts(
+    alloc: Global,
+    parts: u32,
+    bytes: &[u8],
+    ends: u8,
+    text: &str,
+    line: &str,
+) -> bool {
+    let request = Request {
+        parts: Parts::new(parts).unwrap_or_default(),
+        ..request_for(alloc, Command::Figures)
+    };
+    request_ends_with(
         alloc,
-        Command::Figures,
+        &request,
         bytes,
         ends,
         text.as_bytes(),
         line.as_bytes(),
     )
+}
+
+/// The same for 1, 2, 7 and 65,536 parts, and as many as there are by default.
+fn ends_with(alloc: Global, bytes: &[u8], ends: u8, text: &str, line: &str) -> bool {
+    ends_in_parts(alloc, 1, bytes, ends, text, line)
+        && ends_in_parts(alloc, 2, bytes, ends, text, line)
+        && ends_in_parts(alloc, 7, bytes, ends, text, line)
+        && ends_in_parts(alloc, 65536, bytes, ends, text, line)
+        && command_ends_with(
+            alloc,
+            Command::Figures,
+            bytes,
+            ends,
+            text.as_bytes(),
+            line.as_bytes(),
+        )
 }
 
 #[test]

@@ -1,0 +1,105 @@
+//! The figures of a whole trace, by way of its parts.
+ghost use Rattle.std.specs.Prelude.{◌≡◌, ◌<◌, ◌≤◌, ◌^◌, length, IfOk, IfErr, Some};
+ghost use Rattle.spp_maxplus.specs.State.{both};
+ghost use Rattle.spp_piece.specs.Account.{account_of};
+ghost use Rattle.spp_piece.specs.Figures.{AreFigures};
+ghost use Rattle.spp_piece.specs.Faults.{IsFaultOf, figures_fault_text};
+ghost use Rattle.spp_piece.specs.declared.whole.FiguresFault.TheVariants.{Bad as BadFault, Memory as MemoryFault};
+
+use crate::figures::Figures;
+use crate::summary::Summary;
+use spp_cut::{Cut, cut_even};
+use spp_event::Trace;
+use spp_frame::Fault;
+use spp_maxplus::Burdens;
+use std::alloc::{AllocError, Global};
+use std::error::Error;
+use std::fmt;
+
+/// Why a run has no figures.
+#[derive(Clone, Copy, Debug, PartialEq, Eq)]
+pub enum FiguresFault {
+    /// Its trace isn't well-formed; this is the first bad event.
+    Bad(Fault),
+    /// A growth was refused.
+    Memory,
+}
+
+impl fmt::Display for FiguresFault {
+    ghost output = { λ f. Some (figures_fault_text f) };
+
+    fn fmt<W: fmt::Write>(&self, f: &mut fmt::Formatter<W>) -> fmt::Result {
+        match self {
+            FiguresFault::Bad(fault) => write!(f, "bad event {fault}"),
+            FiguresFault::Memory => write!(f, "out of memory"),
+        }
+    }
+}
+
+impl Error for FiguresFault {}
+
+impl From<Fault> for FiguresFault {
+    ghost from_gives = { λ fault e. e ≡ BadFault fault };
+
+    fn from(fault: Fault) -> FiguresFault {
+        FiguresFault::Bad(fault)
+    }
+}
+
+impl From<AllocError> for FiguresFault {
+    ghost from_gives = { λ _ e. e ≡ MemoryFault };
+
+    fn from(_e: AllocError) -> FiguresFault {
+        FiguresFault::Memory
+    }
+}
+
+/// The summary of all events of a trace: those of its parts, each joined to those before it as soon as it is made.
+fn summary_of_all(alloc: Global, cut: &Cut<'_, '_>, burdens: Burdens) -> Result<Summary, AllocError>
+    requires { 0 < length cut.now.parts }
+    ensures { IfOk result (λ s. s ≡ account_of burdens 0 cut.now.trace.records) }
+{
+    let parts = cut.parts();
+    let mut all = Summary::summarise(alloc, &parts[0], burdens)?;
+    for part in &parts[1..] {
+        let next = Summary::summarise(alloc, part, burdens)?;
+        all = match Summary::join(all, next) {
+            Ok(both) => both,
+            Err(_) => return Err(AllocError),
+        };
+    }
+    Ok(all)
+}
+
+/// The work, span and burdened span of a run, where each continuation edge and each return edge bears `burden`
+/// instructions; by way of so many even parts of its trace, 1 to 65,536, which change no answer.
+///
+/// Each part is summarised and joined to those before it, on one thread. The events are read once, in time linear in the
+/// numbers of events and parts. The memory is linear in the number of parts, and in what the summaries take of the
+/// events so far and of one part more: their open frames, and the part's returns that close frames opened before it. The
+/// work is at most 2^92.
+///
+/// # Errors
+///
+/// The first bad event, or `Memory` where a growth was refused.
+pub fn figures_in_parts(
+    alloc: Global,
+    trace: &Trace<'_>,
+    burden: u32,
+    parts: u32,
+) -> Result<Figures, FiguresFault>
+    requires some { 0 < parts }
+    requires few { parts ≤ 65536 }
+    ensures figures { IfOk result (λ f. AreFigures trace.now.records (both burden) f) }
+    ensures small { IfOk result (λ f. f.work ≤ 2 ^ 92) }
+    ensures fault { IfErr result (λ f. IsFaultOf trace.now.records f) }
+{
+    let cut = cut_even(alloc, trace, parts)?;
+    let all = summary_of_all(alloc, &cut, Burdens::both(burden))?;
+    // Its clauses tell that the work is small.
+    let _work = all.work();
+    Ok(all.finish()?)
+}
+
+#[cfg(test)]
+mod tests;
