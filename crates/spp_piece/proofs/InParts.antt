@@ -1,6 +1,6 @@
 -- The parts of a trace joined from the left, and what the summary of all records comes to.
 use Rattle.std.proofs.Common.{◌≡◌, ℕ, suc, ◌+◌, ◌<◌, ◌≤◌, List, [], ◌∷◌, length, get_or, take, drop, Option, Some, None, Result, Ok, Err, IfOk, IfErr, refl, sym, ap, subst, ◌∙◌, arith}
-use Rattle.std.proofs.lemmas.List.{take_all, length-take-le, drop_more}
+use Rattle.std.proofs.lemmas.List.{take_all, at_drop_all, length-take-le, drop_more}
 use Rattle.std.proofs.Math.Seq.{take-add}
 use Rattle.std.specs.Result.{IsErrAnd}
 use Rattle.spp_event.specs.declared.records.EventFault.{EventFault}
@@ -26,6 +26,7 @@ use Rattle.spp_piece.proofs.Stacks.{action_summary}
 use Rattle.spp_piece.proofs.Joins.{both_account}
 use Rattle.spp_piece.proofs.Finish.{root_return, bad_record, unclosed}
 use Rattle.spp_piece.proofs.Come.{run_told}
+use Rattle.spp_piece.proofs.Prefix.{first_of_front}
 
 cover_le : (t : Recording) (number from end : ℕ) (ps : List PartOf) → Cover t number from ps end → from ≤ end
 cover_le t number from end [] h = let e : from ≡ end = h in omega arith
@@ -79,8 +80,12 @@ summed_next t b ps i p a n lt is s e =
     let next : drop i ps ≡ p ∷ drop (i + 1) ps = drop_more ps i p lt ∙ ap (λ q. q ∷ drop (i + 1) ps) (sym is) in
     summed_more t b p (drop (i + 1) ps) a n (subst (λ qs. Summed t b qs a) next s) e
 
-pub summed_all : (t : Recording) (b : Burdens) (a : Account) → Summed t b [] a → a ≡ account_of b 0 t.records
-summed_all t b a s = s.is ∙ ap (account_of b 0) (ap (λ n. take n t.records) s.rest ∙ take_all (length t.records) t.records (omega arith))
+-- where none is left
+pub summed_all : (t : Recording) (b : Burdens) (ps : List PartOf) (i : ℕ) (a : Account) → length ps ≤ i → Summed t b (drop i ps) a
+    → a ≡ account_of b 0 t.records
+summed_all t b ps i a le s =
+    let end = subst (λ qs. Summed t b qs a) (at_drop_all (λ qs. qs) ps i le) s in
+    end.is ∙ ap (account_of b 0) (ap (λ n. take n t.records) end.rest ∙ take_all (length t.records) t.records (omega arith))
 
 -- ---- a summary of all records
 
@@ -99,6 +104,15 @@ told_ok b rs a f is e = subst (λ r. IfOk r (AreFigures rs b)) (sym e) (account_
 pub told_err : (b : Burdens) (rs : List Record) (a : Account) (f : Fault) → a ≡ account_of b 0 rs
     → Err f ≡ figures_of a.events (action a.burden a.sum (Ok at_start)) → IsFirstBad rs f
 told_err b rs a f is e = subst (λ r. IfErr r (IsFirstBad rs)) (sym e) (account_told b rs a is).1
+
+-- a fault before the end of what was summarised is that of the trace
+pub told_early : (t : Recording) (b : Burdens) (ps : List PartOf) (a : Account) (f : Fault) → Summed t b ps a
+    → ((rs : List Record) → a ≡ account_of a.burden 0 rs → IsFirstBad rs f × (f.at < length rs)) → IsFirstBad t.records f
+told_early t b ps a f s h =
+    let rs = take s.count t.records in
+    let same : a.burden ≡ b = ap (λ (x : Account). x.burden) s.is in
+    let bad = h rs (s.is ∙ ap (λ c. account_of c 0 rs) (sym same)) in
+    first_of_front t.records s.count f bad.0 bad.1
 
 -- where that fault is told
 pub told_bad : (rs : List Record) (fault : Fault) (x : Result Figures FiguresFault) → IsErrAnd x (λ e. e ≡ Bad fault) → IsFirstBad rs fault

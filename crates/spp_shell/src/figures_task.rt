@@ -1,4 +1,4 @@
-//! The task `figures`: the work, the span and the burdened span of a run, by way of parts of its trace, or its trace's first
+//! The task `figures`: the work, the span and the burdened span of a run, by way of parts of its trace, or its first
 //! fault.
 ghost use Rattle.std.specs.Prelude.{◌≡◌, IfErr};
 ghost use Rattle.spp_shell.specs.Tasks.{IfLine};

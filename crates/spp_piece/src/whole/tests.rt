@@ -86,6 +86,11 @@ fn parts_change_no_figures(rt: HostRuntime) -> Result<(), Fail> {
 fn parts_change_no_first_bad_event(rt: HostRuntime) -> Result<(), Fail> {
     let bytes = trace_of(rt.alloc(), &[strand(1), Event::Ret, strand(2)])?;
     assert!(rt; comes_to(rt.alloc(), &bytes, fault(1, Why::RootReturn)));
+    // What is wrong behind it changes nothing.
+    let mut bytes = trace_of(rt.alloc(), &[strand(1), Event::Ret, Event::Sync])?;
+    bytes.truncate(bytes.len().saturating_sub(16));
+    bytes.extend_from_slice(&[9; 16])?;
+    assert!(rt; comes_to(rt.alloc(), &bytes, fault(1, Why::RootReturn)));
     let bytes = trace_of(rt.alloc(), &[CALL, strand(1)])?;
     assert!(rt; comes_to(rt.alloc(), &bytes, fault(2, Why::Unclosed { depth: 1 })));
     let mut bytes = trace_of(rt.alloc(), &[strand(1), strand(1), strand(1)])?;

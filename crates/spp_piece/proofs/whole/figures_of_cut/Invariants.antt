@@ -1,6 +1,6 @@
 use Rattle.std.proofs.Common.{drop}
 use Rattle.spp_piece.proofs.InParts.{Summed}
-use Rattle.spp_piece.proofs.whole.summary_of_all.Given as goal
+use Rattle.spp_piece.proofs.whole.figures_of_cut.Given as goal
 
 -- what is joined so far is the account of all parts but those that are left
 abbrev pub invariant-loop-part : goal.invariant-loop-part
