@@ -71,8 +71,8 @@ fn bad_event(so_far: &Summary) -> Option<Fault>
     }
 }
 
-/// The figures of a cut trace. Each part's summary is joined to those before it as soon as it is made, up to the end of the
-/// first part with a bad event.
+/// The figures of a cut trace. Each part's summary is joined to those before it as soon as it is made, up to the end of
+/// the first part with a bad event.
 fn figures_of_cut(
     alloc: Global,
     cut: &Cut<'_, '_>,
@@ -103,10 +103,10 @@ fn figures_of_cut(
 /// The work, span and burdened span of a run, where each continuation edge and each return edge bears `burden`
 /// instructions; by way of so many even parts of its trace, 1 to 65,536, which change no answer.
 ///
-/// Each part is summarised and joined to those before it, on one thread, up to the first part with a bad event. The events
-/// are read once, in time linear in the numbers of events and parts. The memory is linear in the number of parts, and in what the summaries take of the
-/// events so far and of one part more: their open frames, and the part's returns that close frames opened before it. The
-/// work is at most 2^92.
+/// Each part is summarised and joined to those before it, on one thread, up to the first part with a bad event. The
+/// events are read once, in time linear in the numbers of events and parts. The memory is linear in the number of parts,
+/// and in what the summaries take of the events so far and of one part more: their open frames, and the part's returns
+/// that close frames opened before it. The work is at most 2^92.
 ///
 /// # Errors
 ///
