@@ -1,6 +1,5 @@
 pub mod Records
 pub mod Recordings
-pub mod Blocks
 pub mod Header
 pub mod Checks
 pub mod NameSets

@@ -1,4 +1,4 @@
-use crate::{Event, EventFault, EventReader, HeaderFault, open_trace, record_of};
+use crate::{Event, EventFault, HeaderFault, open_trace, record_of};
 use std::alloc::{AllocError, Global};
 use std::test::Fail;
 
@@ -204,19 +204,4 @@ fn a_record_that_is_not_whole_is_truncated(rt: HostRuntime) {
         );
     }
     assert_eq!(rt; record(rt.alloc(), bytes, 7), None);
-}
-
-#[test]
-fn a_reader_gives_what_its_trace_gives(rt: HostRuntime) -> Result<(), Fail> {
-    let Ok(trace) = open_trace(rt.alloc(), SMALL) else {
-        return Err("it opens".into());
-    };
-    for i in 0..trace.count() {
-        let mut events = EventReader::new(&trace);
-        let first = events.event_at(i);
-        let again = events.event_at(trace.count() - 1);
-        assert_eq!(rt; first, trace.event_at(i));
-        assert_eq!(rt; again, Ok(Event::Strand { count: 2 }));
-    }
-    Ok(())
 }

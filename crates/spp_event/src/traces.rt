@@ -4,7 +4,6 @@ ghost use Rattle.std.specs.Prelude.{◌≡◌, ◌<◌, length, slice_index_or, 
 ghost use Rattle.spp_event.specs.declared.records.EventFault.TheVariants.{Truncated};
 ghost use Rattle.spp_event.specs.Records.{IsEventOf};
 ghost use Rattle.spp_event.specs.Header.{HasGoodNames};
-ghost use Rattle.spp_event.specs.Blocks.{HoldsBlock};
 ghost use Rattle.spp_event.specs.Recordings.{InLimits, record_at};
 
 use crate::records::{Event, EventFault, event_of};
@@ -12,9 +11,6 @@ use std::marker::Model;
 
 /// The bytes of one record.
 pub(crate) const RECORD: usize = 16;
-
-/// The bytes of the records that a reader copies at a time.
-pub(crate) const BLOCK: usize = 16384;
 
 /// An opened trace: its names, its root function, and its events. Names and events are borrowed from the bytes that
 /// it was opened from.
@@ -101,6 +97,7 @@ impl<'a> Trace<'a> {
     /// # Errors
     ///
     /// The first fault of the record, in the order of [`EventFault`].
+    #[inline(always)]
     pub fn event_at(&self, i: u32) -> Result<Event, EventFault>
         requires { i < length self.now.records }
         ensures said { result ≡ record_at self.now.records i }
@@ -115,21 +112,5 @@ impl<'a> Trace<'a> {
             return Err(EventFault::Truncated);
         };
         event_of(record, sites, funcs)
-    }
-
-    /// Copies records into the block, from position `first` on, as many as are whole and as it has room for. Gives
-    /// their number.
-    #[inline(never)]
-    pub(crate) fn copy_records(&self, first: u32, block: &mut [u8; BLOCK]) -> u32
-        ensures held { HoldsBlock self.now block.new first result }
-        ensures none { result ≡ 0 → first < length self.now.records → record_at self.now.records first ≡ Err Truncated }
-    {
-        let Some(rest) = self.body.get(first as usize * RECORD..) else {
-            return 0;
-        };
-        let records = rest.len().min(BLOCK) / RECORD;
-        let (front, _) = block.split_at_mut(records * RECORD);
-        front.copy_from_slice(&rest[..records * RECORD]);
-        records as u32
     }
 }

@@ -5,7 +5,7 @@ ghost use Rattle.std.specs.Prelude.{◌≡◌, IfOk, IfErr, Some};
 ghost use Rattle.spp_frame.specs.Texts.{why_text, fault_text};
 ghost use Rattle.spp_frame.specs.Nesting.{IsWellFormed, IsFirstBad, work, FirstBadIsOne, WellFormedHasNone, WellFormedOrBad, WellFormedAreEvents};
 
-use spp_event::{Event, EventFault, EventReader, Trace};
+use spp_event::{Event, EventFault, Trace};
 use std::error::Error;
 use std::fmt;
 
@@ -69,11 +69,10 @@ pub fn check(trace: &Trace<'_>) -> Result<u128, Fault>
     ensures work { IfOk result (λ w. IsWellFormed trace.now.records × (w ≡ work trace.now.records)) }
     ensures fault { IfErr result (λ f. IsFirstBad trace.now.records f) }
 {
-    let mut events = EventReader::new(trace);
     let mut work: u128 = 0;
     let mut depth: u32 = 0;
     for at in 0..trace.count() {
-        let event = match events.event_at(at) {
+        let event = match trace.event_at(at) {
             Ok(event) => event,
             Err(fault) => {
                 return Err(Fault {

@@ -27,7 +27,7 @@ ghost use Rattle.spp_path.specs.Rows.{
 };
 
 use spp_dag::Row;
-use spp_event::{Event, EventReader, Trace};
+use spp_event::{Event, Trace};
 use spp_site::Table;
 use std::alloc::{AllocError, Global};
 
@@ -273,10 +273,9 @@ pub fn path_table(alloc: Global, trace: &Trace<'_>, entered: &[bool]) -> Result<
     ensures { IfOk result (λ t. IsPathTable trace.now t) }
 {
     let count = trace.count();
-    let mut events = EventReader::new(trace);
     let mut rows = PathRows::new(alloc, trace.root(), trace.sites(), trace.funcs())?;
     for at in 0..count {
-        let Ok(event) = events.event_at(at) else {
+        let Ok(event) = trace.event_at(at) else {
             unreachable!();
         };
         match event {

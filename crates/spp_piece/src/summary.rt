@@ -18,7 +18,7 @@ use crate::figures::Figures;
 use crate::pieces::{Frame, Segs, States, Unmatched};
 use crate::pile::Pile;
 use spp_cut::Part;
-use spp_event::{EventFault, EventReader};
+use spp_event::EventFault;
 use spp_frame::{Fault, Why};
 use spp_maxplus::Burdens;
 use std::alloc::{AllocError, Global};
@@ -79,10 +79,9 @@ impl Summary {
         let trace = part.trace();
         // Its clauses tell that positions fit.
         let _all = trace.count();
-        let mut reader = EventReader::new(trace);
         let mut pile = Pile::empty(alloc);
         for k in 0..events {
-            let item = reader.event_at(first + k);
+            let item = trace.event_at(first + k);
             pile.read(burden, first + k, item)?;
         }
         Ok(Summary {

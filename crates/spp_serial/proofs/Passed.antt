@@ -84,10 +84,9 @@ start_passed trace burdens s l e = subst (λ x. Passed trace burdens 0 x) (sym e
 abbrev pub IsRead : Recording → ℕ → Event → Type 0
 IsRead trace i e = (record_at trace.records i ≡ Ok e) × IsEventOf (length trace.sites) (length trace.funcs) e
 
-pub is_read : (trace events : Recording) (i : ℕ) (r : Record) (e : Event) → events ≡ trace → r ≡ record_at events.records i
-    → IfOk r (λ (x : Event). IsEventOf (length events.sites) (length events.funcs) x) → r ≡ Ok e → IsRead trace i e
-is_read trace events i r e same said within is =
-    subst (λ (v : Recording). IsRead v i e) same (sym said ∙ is, subst (λ (x : Record). IfOk x (λ (y : Event). IsEventOf (length events.sites) (length events.funcs) y)) is within)
+pub is_read : (trace : Recording) (i : ℕ) (r : Record) (e : Event) → r ≡ record_at trace.records i
+    → IfOk r (λ (x : Event). IsEventOf (length trace.sites) (length trace.funcs) x) → r ≡ Ok e → IsRead trace i e
+is_read trace i r e said within is = (sym said ∙ is, subst (λ (x : Record). IfOk x (λ (y : Event). IsEventOf (length trace.sites) (length trace.funcs) y)) is within)
 
 event_is : (rs : List Record) (es : List Event) (i : ℕ) (e : Event) → AreEvents rs es → i < length rs → record_at rs i ≡ Ok e → event_at es i ≡ Some e
 event_is rs es i e are l said =

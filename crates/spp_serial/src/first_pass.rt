@@ -13,7 +13,7 @@ ghost use Rattle.spp_serial.specs.Tables.{IsDagTable};
 use crate::ProfileFault;
 use crate::summing::{FirstPass, Summing};
 use spp_dag::FrameKind;
-use spp_event::{Event, EventReader, Trace};
+use spp_event::{Event, Trace};
 use spp_frame::{Fault, Why};
 use spp_maxplus::Burdens;
 use std::alloc::Global;
@@ -48,10 +48,9 @@ pub(crate) fn first_pass(
 {
     let burdens = Burdens::both(burden);
     let count = trace.count();
-    let mut events = EventReader::new(trace);
     let mut summing = Summing::new(alloc, trace.root(), trace.sites(), trace.funcs())?;
     for at in 0..count {
-        let event = match events.event_at(at) {
+        let event = match trace.event_at(at) {
             Ok(event) => event,
             Err(fault) => return Err(bad(at, Why::Event(fault))),
         };

@@ -18,7 +18,7 @@ mod weights;
 use crate::first_pass::first_pass;
 use crate::stack::Stack;
 use spp_dag::FrameKind;
-use spp_event::{Event, EventReader, Trace};
+use spp_event::{Event, Trace};
 use spp_frame::{Fault, Why};
 use spp_maxplus::Burdens;
 use spp_path::{path_table, settle};
@@ -120,11 +120,10 @@ pub fn figures_serial(
     ensures fault { IfErr result (λ f. IsFaultOf trace.now.records f) }
 {
     let burdens = Burdens::both(burden);
-    let mut events = EventReader::new(trace);
     let mut stack = Stack::new(alloc)?;
     let mut work: u128 = 0;
     for at in 0..trace.count() {
-        let event = match events.event_at(at) {
+        let event = match trace.event_at(at) {
             Ok(event) => event,
             Err(fault) => {
                 return Err(ProfileFault::Bad(Fault {

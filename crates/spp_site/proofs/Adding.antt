@@ -19,6 +19,9 @@ module _ (root : Row) (index : List ℕ) (rows : List SiteRow) (h : IsIndexed in
   found_at : found ≡ get_or rows k blank
   found_at = is ∙ get_or_default rows k found blank at.0
 
+  pub found_site : found.site ≡ site
+  found_site = ap (λ r. r.site) found_at ∙ at.1
+
   pub found_row : found.row ≡ row_at (stored root rows) site
   found_row =
       ap (λ r. r.row) found_at

@@ -6,20 +6,23 @@ ghost use Rattle.spp_site.specs.Rows.{Fits};
 
 use spp_dag::Row;
 
-/// The sum of two rows, field by field.
+/// Adds a row, field by field. Sums to which nothing is added aren't written: most frames of a recursion are no top
+/// frames.
 #[inline(always)]
-pub(crate) fn sum(a: &Row, b: &Row) -> Row
-    requires { Fits (plus a.now b.now) }
-    ensures { result ≡ plus a.now b.now }
+pub(crate) fn add_to(row: &mut Row, more: &Row)
+    requires { Fits (plus row.old more.now) }
+    ensures { row.new ≡ plus row.old more.now }
 {
-    Row {
-        count: a.count + b.count,
-        local: a.local + b.local,
-        site_count: a.site_count + b.site_count,
-        site_work: a.site_work + b.site_work,
-        site_span: a.site_span + b.site_span,
-        caller_count: a.caller_count + b.caller_count,
-        caller_work: a.caller_work + b.caller_work,
-        caller_span: a.caller_span + b.caller_span,
+    row.count += more.count;
+    row.local += more.local;
+    if more.site_count != 0 || more.site_work != 0 || more.site_span != 0 {
+        row.site_count += more.site_count;
+        row.site_work += more.site_work;
+        row.site_span += more.site_span;
+    }
+    if more.caller_count != 0 || more.caller_work != 0 || more.caller_span != 0 {
+        row.caller_count += more.caller_count;
+        row.caller_work += more.caller_work;
+        row.caller_span += more.caller_span;
     }
 }

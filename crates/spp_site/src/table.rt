@@ -6,7 +6,7 @@ ghost use Rattle.spp_site.specs.Rows.{Fits};
 ghost use Rattle.spp_site.specs.Slots.{HasNoRow, IsPlaceOf, IsIndexed};
 ghost use Rattle.spp_site.specs.Table.{row_at, empty, HasNoZeroRow, IsAdded, IsSum};
 
-use crate::row_sums::sum;
+use crate::row_sums::add_to;
 use spp_dag::Row;
 use std::alloc::{AllocError, Global};
 use std::marker::Model;
@@ -70,7 +70,7 @@ impl Table {
         requires { Fits (plus self.old.root row.now) }
         ensures { self.new ≡ record self.old { root = plus self.old.root row.now } }
     {
-        self.root = sum(&self.root, row);
+        add_to(&mut self.root, row);
     }
 
     /// The row of a site.
@@ -99,8 +99,7 @@ impl Table {
         ensures no_zero_row { HasNoZeroRow self.new }
     {
         if let Some(place) = place_of(&self.index, &self.rows, site) {
-            let row = sum(&self.rows[place].row, row);
-            self.rows[place] = SiteRow { site, row };
+            add_to(&mut self.rows[place].row, row);
             return Ok(());
         }
         reach(&mut self.index, site)?;

@@ -12,7 +12,7 @@ ghost use Rattle.spp_text.specs.Printed.{PrintsEvents, IsPrintFault};
 ghost use Rattle.spp_text.specs.declared.print.PrintFault.TheVariants.{Memory};
 
 use itoa::Buffer;
-use spp_event::{Event, EventFault, EventReader, Trace};
+use spp_event::{Event, EventFault, Trace};
 use std::alloc::{AllocError, Global};
 
 /// Why a trace has no text.
@@ -118,9 +118,8 @@ fn push_events(text: &mut String, trace: &Trace<'_>) -> Result<(), PrintFault>
     ensures names { HasGoodNames trace.now }
     ensures bad { IfErr result (λ fault. IsPrintFault trace.now.records fault) }
 {
-    let mut events = EventReader::new(trace);
     for at in 0..trace.count() {
-        let event = match events.event_at(at) {
+        let event = match trace.event_at(at) {
             Ok(event) => event,
             Err(why) => return Err(PrintFault::Bad { at, why }),
         };

@@ -12,34 +12,32 @@ loop-at-preserved c =
     let inv = c.loop-at.invariant in
     let far : Far rs i c.loop-at.depth c.loop-at.work = record { good = inv.good; depth = inv.depth; work = inv.work } in
     let lt : i < length rs = omega (arith, c.count-at-end.ensures.count) in
-    let read : record_at c.loop-at.events.records i ≡ Ok c.in-Ok.event = sym c.event_at.ensures.said ∙ c.in-Ok.is in
-    let said : record_at rs i ≡ Ok c.in-Ok.event = subst (λ (v : Recording). record_at v.records i ≡ Ok c.in-Ok.event) inv.same read in
-    let same : c.event_at.new.self ≡ c.args.trace.now = c.event_at.ensures.same ∙ inv.same in
+    let said : record_at rs i ≡ Ok c.in-Ok.event = sym c.event_at.ensures.said ∙ c.in-Ok.is in
     elim c.match-event.branch [
       | in-Strand w ↦
           let is : record_at rs i ≡ Ok (Strand w.in-Strand.count) = said ∙ ap (λ e. Ok e) w.in-Strand.is in
           let n = w.from-work.ensures in
           let f = far_more rs i c.loop-at.depth c.loop-at.work c.match-event.depth c.match-event.work (Ok (Strand w.in-Strand.count)) lt is far refl (omega arith) (omega arith) in
-          record { same = same; good = f.good; depth = f.depth; work = f.work; small = omega arith; shallow = omega arith }
+          record { good = f.good; depth = f.depth; work = f.work; small = omega arith; shallow = omega arith }
       | in-Call w ↦
           elim w.in-Call.is [
             | inl h ↦
                 let is : record_at rs i ≡ Ok (Call h.0 h.1) = said ∙ ap (λ e. Ok e) h.2 in
                 let f = far_more rs i c.loop-at.depth c.loop-at.work c.match-event.depth c.match-event.work (Ok (Call h.0 h.1)) lt is far refl (omega arith) (omega arith) in
-                record { same = same; good = f.good; depth = f.depth; work = f.work; small = omega arith; shallow = omega arith }
+                record { good = f.good; depth = f.depth; work = f.work; small = omega arith; shallow = omega arith }
             | inr h ↦
                 let is : record_at rs i ≡ Ok (Spawn h.0 h.1) = said ∙ ap (λ e. Ok e) h.2 in
                 let f = far_more rs i c.loop-at.depth c.loop-at.work c.match-event.depth c.match-event.work (Ok (Spawn h.0 h.1)) lt is far refl (omega arith) (omega arith) in
-                record { same = same; good = f.good; depth = f.depth; work = f.work; small = omega arith; shallow = omega arith }
+                record { good = f.good; depth = f.depth; work = f.work; small = omega arith; shallow = omega arith }
           ]
       | in-Ret+else-depth-eq0 w ↦
           let is : record_at rs i ≡ Ok Ret = said ∙ ap (λ e. Ok e) w.in-Ret.is in
           let f = far_more rs i c.loop-at.depth c.loop-at.work c.match-event.depth c.match-event.work (Ok Ret) lt is far (returns_right c.loop-at.depth (omega arith)) (omega arith) (omega arith) in
-          record { same = same; good = f.good; depth = f.depth; work = f.work; small = omega arith; shallow = omega arith }
+          record { good = f.good; depth = f.depth; work = f.work; small = omega arith; shallow = omega arith }
       | in-Sync w ↦
           let is : record_at rs i ≡ Ok Sync = said ∙ ap (λ e. Ok e) w.in-Sync.is in
           let f = far_more rs i c.loop-at.depth c.loop-at.work c.match-event.depth c.match-event.work (Ok Sync) lt is far refl (omega arith) (omega arith) in
-          record { same = same; good = f.good; depth = f.depth; work = f.work; small = omega arith; shallow = omega arith }
+          record { good = f.good; depth = f.depth; work = f.work; small = omega arith; shallow = omega arith }
     ]
 
 pub returns-then-depth-gt0-clause-fault : goal.returns-then-depth-gt0-clause-fault

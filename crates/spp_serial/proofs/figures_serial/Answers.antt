@@ -16,7 +16,6 @@ loop-at-init c =
     let b = c.both-burdens.result in
     let root = c.args.trace.now.root in
     record {
-      same = c.new-events.ensures;
       ran = subst (λ (fs : List Frame). Kept rs b root 0 0 fs) (sym c.in_ok-stack.ensures) (kept_none rs b root);
     }
 
@@ -26,8 +25,7 @@ returns-in-Err-clause-fault c =
     let at = c.loop-at.at in
     let inv = c.loop-at.invariant in
     let lt : at < length rs = omega (arith, c.count-at-end.ensures.count) in
-    let read : record_at c.loop-at.events.records at ≡ Err c.in-Err.fault = sym c.event_at.ensures.said ∙ c.in-Err.is in
-    let said : record_at rs at ≡ Err c.in-Err.fault = subst (λ (v : Recording). record_at v.records at ≡ Err c.in-Err.fault) inv.same read in
+    let said : record_at rs at ≡ Err c.in-Err.fault = sym c.event_at.ensures.said ∙ c.in-Err.is in
     kept_bad rs c.both-burdens.result c.args.trace.now.root at c.loop-at.work c.loop-at.stack c.in-Err.fault lt said inv.ran
 
 pub returns-then-not-ret-clause-fault : goal.returns-then-not-ret-clause-fault
@@ -36,8 +34,7 @@ returns-then-not-ret-clause-fault c =
     let at = c.loop-at.at in
     let inv = c.loop-at.invariant in
     let lt : at < length rs = omega (arith, c.count-at-end.ensures.count) in
-    let read : record_at c.loop-at.events.records at ≡ Ok Ret = sym c.event_at.ensures.said ∙ c.in-Ok.is ∙ ap (λ (e : Event). Ok e) c.in-Ret.is in
-    let said : record_at rs at ≡ Ok Ret = subst (λ (v : Recording). record_at v.records at ≡ Ok Ret) inv.same read in
+    let said : record_at rs at ≡ Ok Ret = sym c.event_at.ensures.said ∙ c.in-Ok.is ∙ ap (λ (e : Event). Ok e) c.in-Ret.is in
     kept_return rs c.both-burdens.result c.args.trace.now.root at c.loop-at.work c.loop-at.stack lt said c.if-not-ret.ensures.returned inv.ran
 
 pub loop-at-preserved : goal.loop-at-preserved
@@ -48,14 +45,12 @@ loop-at-preserved c =
     let fs = c.loop-at.stack in
     let inv = c.loop-at.invariant in
     let lt : at < length rs = omega (arith, c.count-at-end.ensures.count) in
-    let read : record_at c.loop-at.events.records at ≡ Ok c.in-Ok.event = sym c.event_at.ensures.said ∙ c.in-Ok.is in
-    let said : record_at rs at ≡ Ok c.in-Ok.event = subst (λ (v : Recording). record_at v.records at ≡ Ok c.in-Ok.event) inv.same read in
+    let said : record_at rs at ≡ Ok c.in-Ok.event = sym c.event_at.ensures.said ∙ c.in-Ok.is in
     let burden = c.ranges.burden.fits in
     let light : b.on_continuation + b.on_return ≤ 8589934592 = subst (λ (x : Burdens). x.on_continuation + x.on_return ≤ 8589934592) (sym c.both-burdens.ensures) (omega arith) in
     let more = λ (e : Event) (gs : List Frame) (is : c.in-Ok.event ≡ e) (short : weight (Ok e) ≤ 18446744073709551616) (goes : advance b e fs ≡ Some gs) (works : c.match-event.work ≡ c.loop-at.work + weight (Ok e)) (stack : c.match-event.stack ≡ gs).
     kept_more rs b c.args.trace.now.root at c.loop-at.work c.match-event.work e fs c.match-event.stack light short lt (said ∙ ap (λ (x : Event). Ok x) is) (goes ∙ ap (λ (x : List Frame). Some x) (sym stack)) works inv.ran in
     record {
-      same = c.event_at.ensures.same ∙ inv.same;
       ran = elim c.match-event.branch [
         | in-Strand w ↦
             let n = w.from-work.ensures in

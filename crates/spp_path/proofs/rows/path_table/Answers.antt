@@ -17,7 +17,6 @@ loop-at-init c =
     let funcs : c.funcs.result ≡ length trace.funcs = c.funcs.ensures in
     let is : told c.in_ok-rows.rows ≡ start_told c.root.result c.sites.result c.funcs.result = c.in_ok-rows.ensures in
     record {
-      same = c.new-events.ensures;
       kept = start_in trace c.in_ok-rows.rows c.count-count.ensures.limits.root
           (is ∙ ap (λ n. start_told n c.sites.result c.funcs.result) root ∙ ap (λ n. start_told trace.root n c.funcs.result) sites ∙ ap (λ n. start_told trace.root (length trace.sites) n) funcs);
     }
@@ -26,21 +25,21 @@ pub unreachable-requires : goal.unreachable-requires
 unreachable-requires c =
     let trace : Recording = c.args.trace.now in
     let lt : c.loop-at.at < length trace.records = omega (arith, c.count-count.ensures.count) in
-    let said : record_at c.loop-at.events.records c.loop-at.at ≡ Err c.in_default.field-0 = sym c.event_at.ensures.said ∙ c.in_default.is in
-    no_fault_in trace c.loop-at.at c.in_default.field-0 c.requires.formed lt (subst (λ (v : Recording). record_at v.records c.loop-at.at ≡ Err c.in_default.field-0) c.loop-at.invariant.same said)
+    let said : record_at trace.records c.loop-at.at ≡ Err c.in_default.field-0 = sym c.event_at.ensures.said ∙ c.in_default.is in
+    no_fault_in trace c.loop-at.at c.in_default.field-0 c.requires.formed lt said
 
 pub strand-requires : goal.strand-requires
 strand-requires c =
     let trace : Recording = c.args.trace.now in
     let lt : c.loop-at.at < length trace.records = omega (arith, c.count-count.ensures.count) in
-    let read = is_read trace c.loop-at.events c.loop-at.at c.event_at.result (Strand c.in-Strand.count) c.loop-at.invariant.same c.event_at.ensures.said c.event_at.ensures.within (c.in-Ok.is ∙ ap (λ (e : Event). Ok e) c.in-Strand.is) in
+    let read = is_read trace c.loop-at.at c.event_at.result (Strand c.in-Strand.count) c.event_at.ensures.said c.event_at.ensures.within (c.in-Ok.is ∙ ap (λ (e : Event). Ok e) c.in-Strand.is) in
     ready_add trace c.requires.formed c.count-count.ensures.limits.events c.loop-at.at c.loop-at.rows c.loop-at.invariant.kept c.in-Strand.count lt read
 
 pub call-requires : goal.call-requires
 call-requires c =
     let trace : Recording = c.args.trace.now in
     let lt : c.loop-at.at < length trace.records = omega (arith, c.count-count.ensures.count) in
-    let read = is_read trace c.loop-at.events c.loop-at.at c.event_at.result (Call c.in-Call.site c.in-Call.func) c.loop-at.invariant.same c.event_at.ensures.said c.event_at.ensures.within (c.in-Ok.is ∙ ap (λ (e : Event). Ok e) c.in-Call.is) in
+    let read = is_read trace c.loop-at.at c.event_at.result (Call c.in-Call.site c.in-Call.func) c.event_at.ensures.said c.event_at.ensures.within (c.in-Ok.is ∙ ap (λ (e : Event). Ok e) c.in-Call.is) in
     ready_call trace c.requires.formed c.count-count.ensures.limits.events c.loop-at.at c.loop-at.rows c.loop-at.invariant.kept c.in-Call.site c.in-Call.func lt read
 
 pub bounds-entered-at : goal.bounds-entered-at
@@ -53,14 +52,14 @@ pub spawn-requires : goal.spawn-requires
 spawn-requires c =
     let trace : Recording = c.args.trace.now in
     let lt : c.loop-at.at < length trace.records = omega (arith, c.count-count.ensures.count) in
-    let read = is_read trace c.loop-at.events c.loop-at.at c.event_at.result (Spawn c.in-Spawn.site c.in-Spawn.func) c.loop-at.invariant.same c.event_at.ensures.said c.event_at.ensures.within (c.in-Ok.is ∙ ap (λ (e : Event). Ok e) c.in-Spawn.is) in
+    let read = is_read trace c.loop-at.at c.event_at.result (Spawn c.in-Spawn.site c.in-Spawn.func) c.event_at.ensures.said c.event_at.ensures.within (c.in-Ok.is ∙ ap (λ (e : Event). Ok e) c.in-Spawn.is) in
     ready_spawn trace c.requires.formed c.count-count.ensures.limits.events c.loop-at.at c.loop-at.rows c.loop-at.invariant.kept c.in-Spawn.site c.in-Spawn.func lt read
 
 pub ret-requires : goal.ret-requires
 ret-requires c =
     let trace : Recording = c.args.trace.now in
     let lt : c.loop-at.at < length trace.records = omega (arith, c.count-count.ensures.count) in
-    let read = is_read trace c.loop-at.events c.loop-at.at c.event_at.result Ret c.loop-at.invariant.same c.event_at.ensures.said c.event_at.ensures.within (c.in-Ok.is ∙ ap (λ (e : Event). Ok e) c.in-Ret.is) in
+    let read = is_read trace c.loop-at.at c.event_at.result Ret c.event_at.ensures.said c.event_at.ensures.within (c.in-Ok.is ∙ ap (λ (e : Event). Ok e) c.in-Ret.is) in
     ready_return trace c.requires.formed c.count-count.ensures.limits.events c.loop-at.at c.loop-at.rows c.loop-at.invariant.kept lt read
 
 pub loop-at-preserved : goal.loop-at-preserved
@@ -72,10 +71,9 @@ loop-at-preserved c =
     let lt : at < length trace.records = omega (arith, c.count-count.ensures.count) in
     let short = c.count-count.ensures.limits.events in
     let read = λ (e : Event) (is : c.in-Ok.event ≡ e).
-    is_read trace c.loop-at.events at c.event_at.result e inv.same c.event_at.ensures.said c.event_at.ensures.within (c.in-Ok.is ∙ ap (λ (e : Event). Ok e) is) in
+    is_read trace at c.event_at.result e c.event_at.ensures.said c.event_at.ensures.within (c.in-Ok.is ∙ ap (λ (e : Event). Ok e) is) in
     let moved = λ (new : PathRows) (is : c.match-event.rows ≡ new) (k : Kept trace (at + 1) new). subst (λ (x : PathRows). Kept trace (at + 1) x) (sym is) k in
     record {
-      same = c.event_at.ensures.same ∙ inv.same;
       kept = elim c.match-event.branch [
         | in-Strand w ↦
             moved w.strand.new.self w.rows-is

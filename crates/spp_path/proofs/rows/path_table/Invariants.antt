@@ -5,6 +5,5 @@ use Rattle.spp_path.proofs.rows.path_table.Given as goal
 -- the rows of the events before `at` are in the table or owed
 abbrev pub invariant-loop-at : goal.invariant-loop-at
 invariant-loop-at l = record {
-  same : l.events ≡ l.trace;
   kept : Kept l.trace l.at l.rows;
 }

@@ -21,7 +21,6 @@ loop-at-init c =
     let funcs : c.funcs.result ≡ length trace.funcs = c.funcs.ensures in
     let is : seen c.in_ok-summing.summing ≡ start_seen c.root.result c.sites.result c.funcs.result = c.in_ok-summing.ensures in
     record {
-      same = c.new-events.ensures;
       passed = start_passed trace c.both-burdens.result (seen c.in_ok-summing.summing) c.count-count.ensures.limits.root
           (is ∙ ap (λ n. start_seen n c.sites.result c.funcs.result) root ∙ ap (λ n. start_seen trace.root n c.funcs.result) sites ∙ ap (λ n. start_seen trace.root (length trace.sites) n) funcs);
     }
@@ -33,8 +32,7 @@ returns-in-Err-clause-fault c =
     let s : Seen = seen c.loop-at.summing in
     let inv = c.loop-at.invariant in
     let lt : at < length trace.records = omega (arith, c.count-count.ensures.count) in
-    let read : record_at c.loop-at.events.records at ≡ Err c.in-Err.fault = sym c.event_at.ensures.said ∙ c.in-Err.is in
-    let said : record_at trace.records at ≡ Err c.in-Err.fault = subst (λ (v : Recording). record_at v.records at ≡ Err c.in-Err.fault) inv.same read in
+    let said : record_at trace.records at ≡ Err c.in-Err.fault = sym c.event_at.ensures.said ∙ c.in-Err.is in
     subst (λ (f : ProfileFault). IsFaultOf trace.records f) (sym c.bad.ensures)
     (kept_bad trace.records c.both-burdens.result trace.root at s.work (leans s.frames) c.in-Err.fault lt said inv.passed.reached)
 
@@ -43,7 +41,7 @@ strand-requires c =
     let trace : Recording = c.args.trace.now in
     let lt : c.loop-at.at < length trace.records = omega (arith, c.count-count.ensures.count) in
     let e : Event = Strand c.in-Strand.count in
-    let read = is_read trace c.loop-at.events c.loop-at.at c.event_at.result e c.loop-at.invariant.same c.event_at.ensures.said c.event_at.ensures.within (c.in-Ok.is ∙ ap (λ (e : Event). Ok e) c.in-Strand.is) in
+    let read = is_read trace c.loop-at.at c.event_at.result e c.event_at.ensures.said c.event_at.ensures.within (c.in-Ok.is ∙ ap (λ (e : Event). Ok e) c.in-Strand.is) in
     let b : Burdens = c.both-burdens.result in
     let light = light_of b c.args.burden c.both-burdens.ensures c.ranges.burden.fits in
     ready_add trace b light c.count-count.ensures.limits.events c.loop-at.at lt c.in-Strand.count read (seen c.loop-at.summing) c.loop-at.invariant.passed
@@ -53,7 +51,7 @@ open-requires c =
     let trace : Recording = c.args.trace.now in
     let lt : c.loop-at.at < length trace.records = omega (arith, c.count-count.ensures.count) in
     let e : Event = Call c.in-Call.site c.in-Call.func in
-    let read = is_read trace c.loop-at.events c.loop-at.at c.event_at.result e c.loop-at.invariant.same c.event_at.ensures.said c.event_at.ensures.within (c.in-Ok.is ∙ ap (λ (e : Event). Ok e) c.in-Call.is) in
+    let read = is_read trace c.loop-at.at c.event_at.result e c.event_at.ensures.said c.event_at.ensures.within (c.in-Ok.is ∙ ap (λ (e : Event). Ok e) c.in-Call.is) in
     let b : Burdens = c.both-burdens.result in
     let light = light_of b c.args.burden c.both-burdens.ensures c.ranges.burden.fits in
     ready_call trace b light c.count-count.ensures.limits.events c.loop-at.at lt c.in-Call.site c.in-Call.func read (seen c.loop-at.summing) c.loop-at.invariant.passed
@@ -63,7 +61,7 @@ open-requires-in-Spawn c =
     let trace : Recording = c.args.trace.now in
     let lt : c.loop-at.at < length trace.records = omega (arith, c.count-count.ensures.count) in
     let e : Event = Spawn c.in-Spawn.site c.in-Spawn.func in
-    let read = is_read trace c.loop-at.events c.loop-at.at c.event_at.result e c.loop-at.invariant.same c.event_at.ensures.said c.event_at.ensures.within (c.in-Ok.is ∙ ap (λ (e : Event). Ok e) c.in-Spawn.is) in
+    let read = is_read trace c.loop-at.at c.event_at.result e c.event_at.ensures.said c.event_at.ensures.within (c.in-Ok.is ∙ ap (λ (e : Event). Ok e) c.in-Spawn.is) in
     let b : Burdens = c.both-burdens.result in
     let light = light_of b c.args.burden c.both-burdens.ensures c.ranges.burden.fits in
     ready_spawn trace b light c.count-count.ensures.limits.events c.loop-at.at lt c.in-Spawn.site c.in-Spawn.func read (seen c.loop-at.summing) c.loop-at.invariant.passed
@@ -85,7 +83,7 @@ returns-then-not-branch-clause-fault c =
     let lt : at < length trace.records = omega (arith, c.count-count.ensures.count) in
     let b : Burdens = c.both-burdens.result in
     let light = light_of b c.args.burden c.both-burdens.ensures c.ranges.burden.fits in
-    let read = is_read trace c.loop-at.events at c.event_at.result Ret inv.same c.event_at.ensures.said c.event_at.ensures.within (c.in-Ok.is ∙ ap (λ (e : Event). Ok e) c.in-Ret.is) in
+    let read = is_read trace at c.event_at.result Ret c.event_at.ensures.said c.event_at.ensures.within (c.in-Ok.is ∙ ap (λ (e : Event). Ok e) c.in-Ret.is) in
     let went : Returns b at s s.frames false (seen c.ret.new.self) = subst (λ (x : Bool). Returns b at s s.frames x (seen c.ret.new.self)) c.if-not-branch.true c.in_ok-ret-in-Ret.ensures in
     let stop = root_stays trace b light c.count-count.ensures.limits.events at lt s (seen c.ret.new.self) went inv.passed in
     subst (λ (f : ProfileFault). IsFaultOf trace.records f) (sym c.bad-then-not-branch.ensures)
@@ -102,12 +100,11 @@ loop-at-preserved c =
     let b : Burdens = c.both-burdens.result in
     let light = light_of b c.args.burden c.both-burdens.ensures c.ranges.burden.fits in
     let read = λ (e : Event) (is : c.in-Ok.event ≡ e).
-    is_read trace c.loop-at.events at c.event_at.result e inv.same c.event_at.ensures.said c.event_at.ensures.within (c.in-Ok.is ∙ ap (λ (e : Event). Ok e) is) in
+    is_read trace at c.event_at.result e c.event_at.ensures.said c.event_at.ensures.within (c.in-Ok.is ∙ ap (λ (e : Event). Ok e) is) in
     let further : suc at ≡ at + 1 = omega arith in
     let moved = λ (new : Seen) (is : seen c.match-event.summing ≡ new) (k : Passed trace b (suc at) new).
     subst (λ n. Passed trace b n (seen c.match-event.summing)) further (subst (λ (x : Seen). Passed trace b (suc at) x) (sym is) k) in
     record {
-      same = c.event_at.ensures.same ∙ inv.same;
       passed = elim c.match-event.branch [
         | in-Strand w ↦
             moved (seen w.strand.new.self) (ap seen w.summing-is)

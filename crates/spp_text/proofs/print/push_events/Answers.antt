@@ -17,12 +17,10 @@ loop-at-preserved c =
     let i = c.loop-at.at in
     let inv = c.loop-at.invariant in
     let lt : i < length rs = omega (arith, c.count-at-end.ensures.count) in
-    let read : record_at c.loop-at.events.records i ≡ Ok c.in-Ok.event = sym c.event_at.ensures.said ∙ c.in-Ok.is in
-    let said : record_at rs i ≡ Ok c.in-Ok.event = subst (λ (v : Recording). record_at v.records i ≡ Ok c.in-Ok.event) inv.same read in
+    let said : record_at rs i ≡ Ok c.in-Ok.event = sym c.event_at.ensures.said ∙ c.in-Ok.is in
     let es = inv.printed.0 in
-    let named : IsEventOf (length c.args.trace.now.sites) (length c.args.trace.now.funcs) c.in-Ok.event = subst (λ (v : Recording). IsEventOf (length v.sites) (length v.funcs) c.in-Ok.event) inv.same c.in-Ok.ensures.within in
+    let named : IsEventOf (length c.args.trace.now.sites) (length c.args.trace.now.funcs) c.in-Ok.event = c.in-Ok.ensures.within in
     record {
-      same = c.event_at.ensures.same ∙ inv.same;
       printed = (es ++ c.in-Ok.event ∷ [], event_more rs i (Err Truncated) es c.in-Ok.event lt said inv.printed.1, c.in_ok-push_event.ensures ∙ ap (λ (t : List ℕ). t ++ event_line c.in-Ok.event) inv.printed.2 ∙ flat_map_more event_line (string_bytes c.args.text.now) es c.in-Ok.event, all_more (IsEventOf (length c.args.trace.now.sites) (length c.args.trace.now.funcs)) es c.in-Ok.event inv.printed.3 named);
       good = λ k less. elim (cases_lt k i) [
         | inl l ↦ inv.good k l

@@ -7,7 +7,6 @@ use Rattle.spp_text.proofs.print.push_events.Given as goal
 
 abbrev pub invariant-loop-at : goal.invariant-loop-at
 invariant-loop-at l = record {
-  same : l.events ≡ l.trace;
   printed : PrintsEvents (length l.trace.sites) (length l.trace.funcs) (string_bytes l.fn.text) (take l.at l.trace.records) (string_bytes l.text);
   good : (i : ℕ) → i < l.at → IsOk (record_at l.trace.records i);
 }

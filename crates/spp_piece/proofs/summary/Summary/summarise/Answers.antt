@@ -23,13 +23,12 @@ loop-k-preserved c =
     let lt : k < p.count = omega (arith, c.count-events.ensures.count) in
     let all = count_in p c.count-events.ensures.within in
     let item : c.event_at-item.result ≡ get_or (records_in p) k (Err Truncated) =
-    c.event_at-item.ensures.said ∙ ap (λ (r : Recording). record_at r.records (c.first-first.result + k)) v.same
+    c.event_at-item.ensures.said ∙ ap (λ (r : Recording). record_at r.records (c.first-first.result + k)) c.trace-trace.ensures
     ∙ ap (λ n. record_at p.trace.records (n + k)) c.first-first.ensures ∙ sym (record_in p k (Err Truncated) lt) in
     let read : t ≡ event o (c.first-first.result + k) (get_or (records_in p) k (Err Truncated)) s = c.in_ok-read.ensures.ok ∙ ap (λ x. event o (c.first-first.result + k) x s) item in
     record {
       value = event_step c.args.burden c.first-first.result k k (records_in p) (Err Truncated) s t (omega arith) refl read ∙ v.value;
       small = small_step c.args.burden _ k _ s t c.in_ok-read.ensures.ok (is_count _ _ c.event_at-item.result c.event_at-item.ensures.within) v.small;
-      same = c.event_at-item.ensures.same ∙ v.same;
     }
 
 pub returns-clause-acts : goal.returns-clause-acts
