@@ -5,7 +5,7 @@ use Rattle.std.specs.Option.{option_map}
 use Rattle.std.specs.List.{slice_get}
 use Rattle.std.specs.FinMap as map
 use Rattle.std.specs.Ordering.{nat_cmp}
-use Rattle.std.proofs.lemmas.Bool.{eq-eqb, cases_Bool, cases_lt}
+use Rattle.std.proofs.lemmas.Bool.{eq-eqb, ne_eqb, both_ways, cases_Bool, cases_lt}
 use Rattle.std.proofs.lemmas.List.{length-map, length-replicate, length-set, take_all}
 use Rattle.std.proofs.lemmas.Option.{slice_get-map, slice_get-get_or, slice_get_past}
 use Rattle.spp_event.specs.declared.records.Event.{Event}
@@ -42,7 +42,7 @@ use Rattle.spp_path.specs.declared.rows.EnteredFrame.{EnteredFrame}
 use Rattle.spp_path.specs.declared.rows.PathRows.{PathRows}
 use Rattle.spp_path.specs.Entered.{AreEntered}
 use Rattle.spp_path.specs.Tables.{key_row, IsPathTable}
-use Rattle.spp_path.specs.Rows.{Told, told, entered_row, start_told, runs, enter_told, wait_told, CanAdd, CanEnter, CanReturn, CanFinish}
+use Rattle.spp_path.specs.Rows.{Told, told, entered_row, start_told, runs, enter_told, wait_told, CanAdd, CanEnter, CanReturn, CanFinish, IsRead, passed_told, CanPass}
 use Rattle.spp_path.proofs.PathSpans.{passed, entered_span}
 use Rattle.spp_path.proofs.RowSums.{full_row, none_owed, closed_owed, Low, low_zero, low_plus, low_closed, low_fits}
 use Rattle.spp_path.proofs.Counts.{site_le, func_le, known, raised_is}
@@ -507,9 +507,6 @@ pub no_fault_in : (trace : Recording) (i : ℕ) (f : EventFault) → nesting.IsW
 no_fault_in trace i f wf l said = let g = given trace wf in no_fault trace.records g.es i f g.are l said
 
 -- what a reader says of a record
-abbrev pub IsRead : Recording → ℕ → Event → Type 0
-IsRead trace i e = (record_at trace.records i ≡ Ok e) × IsEventOf (length trace.sites) (length trace.funcs) e
-
 pub is_read : (trace : Recording) (i : ℕ) (r : Record) (e : Event) → r ≡ record_at trace.records i
     → IfOk r (λ (x : Event). IsEventOf (length trace.sites) (length trace.funcs) x) → r ≡ Ok e → IsRead trace i e
 is_read trace i r e said within is = (sym said ∙ is, subst (λ (x : Record). IfOk x (λ (y : Event). IsEventOf (length trace.sites) (length trace.funcs) y)) is within)
@@ -595,6 +592,28 @@ module _ (trace : Recording) (wf : nesting.IsWellFormed trace.records) (short : 
       next_in new (return_lengths s.top (told s) (told new) d) (next_to new (λ es are wf span spans rest path.
       return_next es wf trace.root span spans rest path i (event_is trace.records es i Ret are l r.0) (omega arith) s.top (told s) (told new) (top_in s) (at.summed es are wf span spans rest path)
       (λ z. let c = can z in (c.deep, c.site_known, c.func_known)) d))
+
+  -- within a frame that the path doesn't enter
+  pub ready_pass : (e : Event) → i < length trace.records → IsRead trace i e → CanPass e (told s)
+  ready_pass (Strand n) l r = (ready_add n l r).work
+  ready_pass (Call site func) l r = (ready_call site func l r).skip_room
+  ready_pass (Spawn site func) l r = (ready_spawn site func l r).skip_room
+  ready_pass Ret l r = tt
+  ready_pass Sync l r = tt
+
+  skips : (b : Bool) → 0 < s.skipped → (nat_eq s.skipped 0 && b) ≡ true → ⊥
+  skips b more h =
+      let none : nat_eq s.skipped 0 ≡ false = ne_eqb s.skipped 0 (λ e. absurd (omega arith)) in
+      both_ways (nat_eq s.skipped 0 && b) (ap (λ a. a && b) none) h
+
+  pub next_pass : (marks : List Bool) → ((es : List Event) → AreEvents trace.records es → AreEntered es marks) → (e : Event) (new : PathRows) → i < length trace.records → IsRead trace i e
+      → 0 < s.skipped → told new ≡ passed_told e (told s) → Kept trace (i + 1) new
+  next_pass marks are (Strand n) new l r more h = next_strand n new l r (λ runs. absurd (skips s.top.running more runs), λ _. h)
+  next_pass marks are (Call site func) new l r more h = next_call site func new l r (λ runs. absurd (skips s.top.running more runs), λ _. h)
+  next_pass marks are (Spawn site func) new l r more h =
+      next_spawn marks are site func new l r (λ enters. absurd (skips (slice_index_or marks i false) more enters), λ _. h)
+  next_pass marks are Ret new l r more h = next_return new l r (λ none. absurd (omega arith), λ _. h)
+  next_pass marks are Sync new l r more h = next_sync new l r (λ none. absurd (omega arith), λ _. h)
 
   pub ready_finish : i ≡ length trace.records → CanFinish s.top (told s)
   ready_finish last =

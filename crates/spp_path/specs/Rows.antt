@@ -1,5 +1,9 @@
 -- What the pass that sums up the rows of the path has between two events, and what each event does to it.
-use Rattle.std.specs.Prelude.{◌≡◌, ℕ, ◌+◌, ◌-◌, ◌<◌, ◌≤◌, ◌^◌, Bool, true, false, ◌&&◌, cond, nat_eq, List, [], ◌∷◌, length, replicate, reverse, slice_index, slice_set}
+use Rattle.std.specs.Prelude.{◌≡◌, ℕ, ◌+◌, ◌-◌, ◌<◌, ◌≤◌, ◌^◌, Bool, true, false, ◌&&◌, cond, nat_eq, List, [], ◌∷◌, length, replicate, reverse, slice_index, slice_set, Ok}
+use Rattle.spp_event.specs.declared.records.Event.{Event}
+use Rattle.spp_event.specs.declared.records.Event.TheVariants.{Strand, Call, Spawn, Ret, Sync}
+use Rattle.spp_event.specs.Records.{IsEventOf}
+use Rattle.spp_event.specs.Recordings.{Recording, record_at}
 use Rattle.spp_dag.specs.declared.row.Row.{Row}
 use Rattle.spp_dag.specs.Shares.{plus}
 use Rattle.spp_site.specs.Rows.{Fits}
@@ -202,3 +206,27 @@ pub record CanFinish (f : EnteredFrame) (t : Told) : Type 0 where
   pub work_before : f.work_before ≤ t.work
   pub weight_before : f.weight_before ≤ t.weight
   pub row : Fits (plus t.table.root (entered_row f t.work t.weight))
+
+-- ---- what is read
+
+-- the trace has that event there, which is of its sites and functions
+abbrev pub IsRead : Recording → ℕ → Event → Type 0
+IsRead trace i e = (record_at trace.records i ≡ Ok e) × IsEventOf (length trace.sites) (length trace.funcs) e
+
+-- ---- within a frame that the path doesn't enter
+
+-- there a strand is work alone, and a frame more or less is open
+abbrev pub passed_told : Event → Told → Told
+passed_told (Strand count) t = beside_told count t
+passed_told (Call site func) t = skip_told t
+passed_told (Spawn site func) t = skip_told t
+passed_told Ret t = leave_told t
+passed_told Sync t = t
+
+-- such an event fits
+abbrev pub CanPass : Event → Told → Type 0
+CanPass (Strand count) t = t.work + count < 2 ^ 128
+CanPass (Call site func) t = t.skipped + 1 < 2 ^ 32
+CanPass (Spawn site func) t = t.skipped + 1 < 2 ^ 32
+CanPass Ret t = Unit {0}
+CanPass Sync t = Unit {0}

@@ -1,7 +1,7 @@
 //! The rows of a run on its first greatest path: a pass over the events of a trace that is known to be well-formed,
 //! where it is known which spawned children the path enters.
 
-ghost use Rattle.std.specs.Prelude.{◌≡◌, ◌<◌, ◌≤◌, ◌&&◌, nat_eq, true, false, List, OnOk, IfOk};
+ghost use Rattle.std.specs.Prelude.{◌≡◌, ◌<◌, ◌≤◌, ◌&&◌, nat_eq, true, false, List, length, OnOk, IfOk};
 ghost use Rattle.spp_event.specs.declared.records.Event.{Event};
 ghost use Rattle.spp_frame.specs.Nesting.{AreEvents, IsWellFormed};
 ghost use Rattle.spp_dag.specs.Shares.{plus};
@@ -19,6 +19,9 @@ ghost use Rattle.spp_path.specs.Rows.{
   wait_told,
   sync_told,
   leave_told,
+  passed_told,
+  IsRead,
+  CanPass,
   CanAdd,
   CanEnter,
   CanReturn,
@@ -149,6 +152,21 @@ impl PathRows {
         }
     }
 
+    /// Any event while a frame is open that the path doesn't enter: strands are work alone.
+    #[inline(always)]
+    fn pass_by(&mut self, event: Event)
+        requires skipped { 0 < self.old.skipped }
+        requires fits { CanPass event (told self.old) }
+        ensures { told self.new ≡ passed_told event (told self.old) }
+    {
+        match event {
+            Event::Strand { count } => self.work += u128::from(count),
+            Event::Call { .. } | Event::Spawn { .. } => self.skipped += 1,
+            Event::Ret => self.skipped -= 1,
+            Event::Sync => {}
+        }
+    }
+
     /// Opens a frame that the path enters, from the innermost one.
     #[inline(always)]
     fn enter(&mut self, site: u32, func: u32) -> Result<(), AllocError>
@@ -257,6 +275,19 @@ impl PathRows {
     }
 }
 
+/// The event at a position of a trace that is known to be well-formed.
+#[inline(always)]
+fn known_event(trace: &Trace<'_>, at: u32) -> Event
+    requires formed { IsWellFormed trace.now.records }
+    requires within { at < length trace.now.records }
+    ensures { IsRead trace.now at result }
+{
+    match trace.event_at(at) {
+        Ok(event) => event,
+        Err(_) => unreachable!(),
+    }
+}
+
 /// The rows of a run on its first greatest path. Its trace is known to be well-formed, and `entered` has a mark for
 /// each event, true at the spawns of the children that the path enters.
 ///
@@ -275,10 +306,11 @@ pub fn path_table(alloc: Global, trace: &Trace<'_>, entered: &[bool]) -> Result<
     let count = trace.count();
     let mut rows = PathRows::new(alloc, trace.root(), trace.sites(), trace.funcs())?;
     for at in 0..count {
-        let Ok(event) = trace.event_at(at) else {
-            unreachable!();
-        };
-        match event {
+        if rows.skipped > 0 {
+            rows.pass_by(known_event(trace, at));
+            continue;
+        }
+        match known_event(trace, at) {
             Event::Strand { count } => rows.strand(count),
             Event::Call { site, func } => rows.call(site, func)?,
             Event::Spawn { site, func } => rows.spawn(entered[at as usize], site, func)?,
