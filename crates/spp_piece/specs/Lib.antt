@@ -6,6 +6,7 @@ pub mod Summary
 pub mod Action
 pub mod Bound
 pub mod Pile
+pub mod Reading
 pub mod Account
 pub mod Ends
 pub mod Model

@@ -1,9 +1,11 @@
 //! What is told of a run as a whole, its figures, and summaries of its pieces, which join to that.
 #![tactic(auto)]
 
+mod changes;
 mod figures;
 mod pieces;
 mod pile;
+mod reading;
 mod summary;
 mod whole;
 

@@ -1,43 +1,29 @@
-//! A summary as it is kept: what each event and each step of a join does to it.
+//! A summary as it is kept: what each step of a join does to it.
 ghost use Rattle.std.specs.Prelude.{◌≡◌, ◌+◌, ◌*◌, ◌<◌, ◌≤◌, ◌^◌, ◌-◌, ℕ, List, [], ◌∷◌, ◌++◌, length, reverse, IfOk, OnErr, OnOk, IsOk, Some, None, vec_len, vec_capacity};
 ghost use Rattle.spp_maxplus.specs.declared.state.Burdens.{Burdens as BurdensValue};
 ghost use Rattle.spp_piece.specs.Bound.{worst, cost, height, load, load_returns, most_before};
 ghost use Rattle.spp_piece.specs.Pile.{seen, open_load};
-ghost use Rattle.spp_piece.specs.Summary.{along_by, ret_by, pushed, summary_ops, play_returns, play_frames, joined, empty as no_events};
-ghost use Rattle.spp_piece.specs.Machine.{event, entered as entered_at};
+ghost use Rattle.spp_piece.specs.Summary.{along_by, ret_by, pushed, summary_ops, play_returns, play_frames, joined};
 
-use crate::pieces::{Frame, Kind, Segs, States, Unmatched};
-use spp_event::{Event, EventFault};
+use crate::pieces::{Frame, Segs, Unmatched};
+use spp_event::EventFault;
 use spp_maxplus::Burdens;
-use std::alloc::{AllocError, Global};
+use std::alloc::AllocError;
 
 /// The parts of a summary.
 #[derive(Drop)]
-pub struct Pile {
-    pub returns: Vec<Unmatched>,
-    pub middle: Segs,
+pub(crate) struct Pile {
+    pub(crate) returns: Vec<Unmatched>,
+    pub(crate) middle: Segs,
     /// The outermost first.
-    pub frames: Vec<Frame>,
-    pub work: u128,
-    pub fault: Option<(u32, EventFault)>,
+    pub(crate) frames: Vec<Frame>,
+    pub(crate) work: u128,
+    pub(crate) fault: Option<(u32, EventFault)>,
 }
 
 impl Pile {
-    /// No events.
-    pub fn empty(alloc: Global) -> Self
-        ensures { seen result ≡ no_events }
-    {
-        Pile {
-            returns: Vec::new(alloc),
-            middle: Segs::idle(),
-            frames: Vec::new(alloc),
-            work: 0,
-            fault: None,
-        }
-    }
-
     /// The innermost frame's states change.
-    pub fn along(&mut self, segs: &Segs)
+    pub(crate) fn along(&mut self, segs: &Segs)
         requires { open_load (seen self.old) + cost segs.now < 2 ^ 127 }
         ensures value { seen self.new ≡ along_by (reverse self.old.frames.items) segs.now (seen self.old) }
         ensures returns { self.new.returns ≡ self.old.returns }
@@ -57,7 +43,7 @@ impl Pile {
     }
 
     /// The innermost frame returns.
-    pub fn ret(&mut self, burden: Burdens, at: u32) -> Result<(), AllocError>
+    pub(crate) fn ret(&mut self, burden: Burdens, at: u32) -> Result<(), AllocError>
         requires { open_load (seen self.old) + worst burden < 2 ^ 127 }
         ensures ok { OnOk result (seen self.new ≡ ret_by (reverse self.old.frames.items) burden at (seen self.old)) }
         ensures err { OnErr result (seen self.new ≡ seen self.old) }
@@ -83,7 +69,7 @@ impl Pile {
     }
 
     /// A frame is opened.
-    pub fn enter(&mut self, frame: Frame) -> Result<(), AllocError>
+    pub(crate) fn enter(&mut self, frame: Frame) -> Result<(), AllocError>
         requires { self.old.work + frame.before < 2 ^ 128 }
         ensures ok { OnOk result (seen self.new ≡ pushed frame (seen self.old)) }
         ensures err { OnErr result (seen self.new ≡ seen self.old) }
@@ -100,7 +86,7 @@ impl Pile {
     }
 
     /// Returns of a later piece, for all of which there is room.
-    pub fn return_all(&mut self, burden: Burdens, returns: &[Unmatched])
+    pub(crate) fn return_all(&mut self, burden: Burdens, returns: &[Unmatched])
         requires sound { self.old.fault ≡ None }
         requires room { vec_len self.old.returns + length returns.now ≤ vec_capacity self.old.returns }
         requires load { load burden (seen self.old) + load_returns burden returns.now < 2 ^ 127 }
@@ -121,7 +107,7 @@ impl Pile {
 
     /// The frames of a later piece, for all of which there is room.
     #[tactic(auto, using(crate::proofs::Lists::before_at))]
-    pub fn enter_all(&mut self, frames: &[Frame])
+    pub(crate) fn enter_all(&mut self, frames: &[Frame])
         requires sound { self.old.fault ≡ None }
         requires room { vec_len self.old.frames + length frames.now ≤ vec_capacity self.old.frames }
         requires work { self.old.work + most_before frames.now < 2 ^ 128 }
@@ -138,7 +124,7 @@ impl Pile {
     }
 
     /// Takes room for all that a later piece can add.
-    pub fn make_room(&mut self, right: &Pile) -> Result<(), AllocError>
+    pub(crate) fn make_room(&mut self, right: &Pile) -> Result<(), AllocError>
         ensures same { seen self.new ≡ seen self.old }
         ensures returns { OnOk result (vec_len self.new.returns + length right.now.returns.items ≤ vec_capacity self.new.returns) }
         ensures frames { OnOk result (vec_len self.new.frames + length right.now.frames.items ≤ vec_capacity self.new.frames) }
@@ -148,7 +134,7 @@ impl Pile {
     }
 
     /// Joins a later piece, for which there is room.
-    pub fn absorb(&mut self, burden: Burdens, right: &Pile)
+    pub(crate) fn absorb(&mut self, burden: Burdens, right: &Pile)
         requires returns { vec_len self.old.returns + length right.now.returns.items ≤ vec_capacity self.old.returns }
         requires frames { vec_len self.old.frames + length right.now.frames.items ≤ vec_capacity self.old.frames }
         requires load { load burden (seen self.old) + load burden (seen right.now) < 2 ^ 127 }
@@ -164,52 +150,5 @@ impl Pile {
         self.enter_all(&right.frames);
         self.work += right.work;
         self.fault = right.fault;
-    }
-
-    /// Reads one event, or a record that is bad.
-    pub fn read(
-        &mut self,
-        burden: Burdens,
-        at: u32,
-        item: Result<Event, EventFault>,
-    ) -> Result<(), AllocError>
-        requires load { open_load (seen self.old) + 2 ^ 66 < 2 ^ 127 }
-        requires work { self.old.work + 2 ^ 64 < 2 ^ 128 }
-        ensures ok { OnOk result (seen self.new ≡ event (summary_ops burden) at item (seen self.old)) }
-        ensures err { OnErr result (seen self.new ≡ seen self.old) }
-    {
-        if let Some(_) = self.fault {
-            return Ok(());
-        }
-        match item {
-            Ok(Event::Strand { count }) => {
-                self.along(&Segs::strand(count));
-                self.work += u128::from(count);
-            }
-            Ok(Event::Call { site, func }) => {
-                self.enter(entered(Kind::Called, at, site, func))?;
-            }
-            Ok(Event::Spawn { site, func }) => {
-                self.enter(entered(Kind::Spawned, at, site, func))?;
-            }
-            Ok(Event::Ret) => self.ret(burden, at)?,
-            Ok(Event::Sync) => self.along(&Segs::sync()),
-            Err(why) => self.fault = Some((at, why)),
-        }
-        Ok(())
-    }
-}
-
-/// A frame that is opened at a position.
-fn entered(kind: Kind, at: u32, site: u32, func: u32) -> Frame
-    ensures { result ≡ entered_at kind at site func }
-{
-    Frame {
-        kind,
-        at,
-        site,
-        func,
-        before: 0,
-        states: States::start(),
     }
 }

@@ -17,8 +17,9 @@ ghost use Rattle.spp_piece.specs.Bound.{cost, worst, AreCounted};
 use crate::figures::Figures;
 use crate::pieces::{Frame, Segs, States, Unmatched};
 use crate::pile::Pile;
+use crate::reading::Reading;
 use spp_cut::Part;
-use spp_event::EventFault;
+use spp_event::{EventFault, EventReader};
 use spp_frame::{Fault, Why};
 use spp_maxplus::Burdens;
 use std::alloc::{AllocError, Global};
@@ -79,16 +80,17 @@ impl Summary {
         let trace = part.trace();
         // Its clauses tell that positions fit.
         let _all = trace.count();
-        let mut pile = Pile::empty(alloc);
+        let mut reader = EventReader::new(trace);
+        let mut reading = Reading::new(alloc);
         for k in 0..events {
-            let item = trace.event_at(first + k);
-            pile.read(burden, first + k, item)?;
+            let item = reader.event_at(first + k);
+            reading.read(burden, first + k, item)?;
         }
         Ok(Summary {
             burden,
             first,
             events,
-            pile,
+            pile: reading.finish(alloc)?,
         })
     }
 
