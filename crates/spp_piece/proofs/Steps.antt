@@ -1,6 +1,7 @@
 -- One more return, and one more frame, of a later piece.
-use Rattle.std.proofs.Common.{◌≡◌, ℕ, ◌+◌, ◌≤◌, ◌<◌, List, ◌∷◌, length, get_or, drop, None, Result, Ok, Err, IfOk, sym, ◌∙◌, ap, subst, add_assoc, arith}
+use Rattle.std.proofs.Common.{◌≡◌, ℕ, ◌+◌, ◌*◌, ◌≤◌, ◌<◌, List, [], ◌∷◌, length, get_or, drop, Some, None, Result, Ok, Err, IfOk, refl, sym, ◌∙◌, ap, subst, add_assoc, arith}
 use Rattle.std.proofs.lemmas.List.{drop_more, get_or-take, get_or-drop, length-drop, length-take-le}
+use Rattle.std.proofs.Math.Nat.{mul-le-mul_left}
 use Rattle.spp_event.specs.declared.records.Event.TheVariants.{Strand, Call, Spawn, Ret, Sync}
 use Rattle.spp_event.specs.Records.{IsEventOf}
 use Rattle.spp_event.specs.Recordings.{Record}
@@ -13,7 +14,7 @@ use Rattle.spp_event.specs.declared.records.Event.{Event}
 use Rattle.spp_piece.specs.Machine.{event, events}
 use Rattle.spp_piece.specs.Summary.{Sum, along_by, ret_by, summary_ops, play_returns}
 use Rattle.spp_piece.specs.Bound.{worst, cost, load, load_returns, IsSmall, IsCount}
-use Rattle.spp_piece.proofs.Piles.{unless_none}
+use Rattle.spp_piece.proofs.Piles.{unless_none, event_after}
 use Rattle.spp_piece.proofs.Bounds.{load-along_by, load-ret_by}
 use Rattle.spp_piece.proofs.Small.{along_sound, small_event}
 
@@ -79,3 +80,15 @@ is_count sites funcs (Ok (Spawn s u)) h = tt
 is_count sites funcs (Ok Ret) h = tt
 is_count sites funcs (Ok Sync) h = tt
 is_count sites funcs (Err q) h = tt
+
+-- nothing is read after a bad record
+pub stopped : (burden : Burdens) (at : ℕ) (es : List (Result Event EventFault)) (p : ℕ × EventFault) (s : Sum) → s.fault ≡ Some p → events (summary_ops burden) at es s ≡ s
+stopped burden at [] p s e = refl
+stopped burden at (x ∷ xs) p s e =
+    ap (events (summary_ops burden) (at + 1) xs) (event_after burden at x p s e) ∙ stopped burden (at + 1) xs p s e
+
+-- more events make a summary no smaller
+pub small_until : (burden : Burdens) (m n : ℕ) (s : Sum) → m ≤ n → IsSmall burden m s → IsSmall burden n s
+small_until burden m n s le h =
+    let l : worst burden * m ≤ worst burden * n = mul-le-mul_left (worst burden) le in
+    record { work = omega (arith, h.work); load = omega (arith, h.load, l); depth = omega (arith, h.depth); before = h.before }

@@ -1,18 +1,20 @@
 //! A summary while its events are read: what each of them does to it.
-ghost use Rattle.std.specs.Prelude.{◌≡◌, ◌+◌, ◌-◌, ◌<◌, ◌≤◌, ◌^◌, ℕ, true, false, [], ◌∷◌, reverse, OnOk, IfOk};
+ghost use Rattle.std.specs.Prelude.{◌≡◌, ◌+◌, ◌-◌, ◌<◌, ◌≤◌, ◌^◌, ℕ, true, false, [], ◌∷◌, reverse, None, Ok, OnOk, IfOk};
+ghost use Rattle.spp_cut.specs.Parts.{records_in};
 ghost use Rattle.spp_maxplus.specs.declared.state.Burdens.{Burdens as BurdensValue};
 ghost use Rattle.spp_piece.specs.declared.pieces.Kind.TheVariants.{Called as AsCalled};
-ghost use Rattle.spp_piece.specs.Bound.{worst, height};
+ghost use Rattle.spp_piece.specs.Bound.{worst, height, IsSmall};
 ghost use Rattle.spp_piece.specs.Pair.{after_strand, strand as both_strand, sync as both_sync};
 ghost use Rattle.spp_piece.specs.Pile.{seen, open_load};
 ghost use Rattle.spp_piece.specs.Reading.{so_far, so_far_with, with_kept, kept_of, past, HasKept, AreLaid, IsLaid, weights_of};
-ghost use Rattle.spp_piece.specs.Summary.{along_by, ret_by, pushed, working, summary_ops, empty as no_events};
+ghost use Rattle.spp_piece.specs.Summary.{along_by, ret_by, pushed, working, summary_ops, summary_of, empty as no_events};
 ghost use Rattle.spp_piece.specs.Machine.{event, entered as entered_at};
 
 use crate::changes::Weights;
 use crate::pieces::{Frame, Kind, Segs, States, Unmatched};
 use crate::pile::Pile;
-use spp_event::{Event, EventFault};
+use spp_cut::Part;
+use spp_event::{Event, EventFault, EventReader};
 use spp_maxplus::Burdens;
 use std::alloc::{AllocError, Global};
 
@@ -148,6 +150,7 @@ impl Reading {
         requires work { self.old.work + count < 2 ^ 128 }
         ensures value { so_far self.new ≡ working count (along_by (so_far self.old).frames (both_strand count) (so_far self.old)) }
         ensures laid { IsLaid self.new }
+        ensures fault { self.new.fault ≡ self.old.fault }
     {
         self.work += u128::from(count);
     }
@@ -164,6 +167,7 @@ impl Reading {
         requires laid { IsLaid self.old }
         ensures value { OnOk result (so_far self.new ≡ pushed (entered_at kind at site func) (so_far self.old)) }
         ensures laid { OnOk result (IsLaid self.new) }
+        ensures fault { self.new.fault ≡ self.old.fault }
     {
         self.opens.push(Open {
             before: self.work,
@@ -184,6 +188,7 @@ impl Reading {
         requires load { open_load (so_far self.old) + worst burden < 2 ^ 127 }
         ensures value { OnOk result (so_far self.new ≡ ret_by (so_far self.old).frames burden at (so_far self.old)) }
         ensures laid { OnOk result (IsLaid self.new) }
+        ensures fault { self.new.fault ≡ self.old.fault }
     {
         let Some(child) = self.opens.pop() else {
             return self.unmatched(at);
@@ -203,6 +208,7 @@ impl Reading {
         requires load { open_load (so_far self.old) < 2 ^ 127 }
         ensures value { (burden : BurdensValue) → OnOk result (so_far self.new ≡ ret_by [] burden at (so_far self.old)) }
         ensures laid { OnOk result (IsLaid self.new) }
+        ensures fault { self.new.fault ≡ self.old.fault }
     {
         self.middle.run(self.work - self.since);
         self.returns.push(Unmatched {
@@ -224,6 +230,7 @@ impl Reading {
         requires load { open_load (so_far_with child.now self.old) < 2 ^ 127 }
         ensures value { (burden : BurdensValue) (at : ℕ) → so_far self.new ≡ ret_by (so_far_with child.now self.old).frames burden at (so_far_with child.now self.old) }
         ensures laid { IsLaid self.new }
+        ensures fault { self.new.fault ≡ self.old.fault }
     {
         let saved = child.mark - child.before;
         match self.opens.last_mut() {
@@ -239,6 +246,7 @@ impl Reading {
         requires load { open_load (so_far_with child.now self.old) + worst burden < 2 ^ 127 }
         ensures value { (at : ℕ) → OnOk result (so_far self.new ≡ ret_by (so_far_with child.now self.old).frames burden at (so_far_with child.now self.old)) }
         ensures laid { OnOk result (IsLaid self.new) }
+        ensures fault { self.new.fault ≡ self.old.fault }
     {
         let weights = leave(&mut self.states, child, self.work);
         let Some(top) = self.opens.last_mut() else {
@@ -264,6 +272,7 @@ impl Reading {
         requires load { open_load (so_far self.old) < 2 ^ 127 }
         ensures value { so_far self.new ≡ along_by (so_far self.old).frames both_sync (so_far self.old) }
         ensures laid { IsLaid self.new }
+        ensures fault { self.new.fault ≡ self.old.fault }
     {
         match self.opens.last_mut() {
             None => {
@@ -283,32 +292,58 @@ impl Reading {
         }
     }
 
-    /// Reads one event, or a record that is bad.
+    /// Reads one event.
     #[inline(always)]
-    pub(crate) fn read(
-        &mut self,
-        burden: Burdens,
-        at: u32,
-        item: Result<Event, EventFault>,
-    ) -> Result<(), AllocError>
+    fn read(&mut self, burden: Burdens, at: u32, item: Event) -> Result<(), AllocError>
+        requires sound { self.old.fault ≡ None }
         requires laid { IsLaid self.old }
         requires work { self.old.work + 2 ^ 64 < 2 ^ 128 }
         requires load { open_load (so_far self.old) + worst burden < 2 ^ 127 }
-        ensures value { OnOk result (so_far self.new ≡ event (summary_ops burden) at item (so_far self.old)) }
+        ensures value { OnOk result (so_far self.new ≡ event (summary_ops burden) at (Ok item) (so_far self.old)) }
+        ensures sound { OnOk result (self.new.fault ≡ None) }
         ensures laid { OnOk result (IsLaid self.new) }
     {
-        if let Some(_) = self.fault {
-            return Ok(());
-        }
         match item {
-            Ok(Event::Strand { count }) => self.strand(count),
-            Ok(Event::Call { site, func }) => self.open(Kind::Called, at, site, func)?,
-            Ok(Event::Spawn { site, func }) => self.open(Kind::Spawned, at, site, func)?,
-            Ok(Event::Ret) => self.ret(burden, at)?,
-            Ok(Event::Sync) => self.sync(),
-            Err(why) => self.fault = Some((at, why)),
+            Event::Strand { count } => self.strand(count),
+            Event::Call { site, func } => self.open(Kind::Called, at, site, func)?,
+            Event::Spawn { site, func } => self.open(Kind::Spawned, at, site, func)?,
+            Event::Ret => self.ret(burden, at)?,
+            Event::Sync => self.sync(),
         }
         Ok(())
+    }
+
+    /// Reads the events of a part, up to the first bad record.
+    ///
+    /// # Errors
+    ///
+    /// Where a growth was refused.
+    pub(crate) fn of_part(
+        alloc: Global,
+        part: &Part<'_, '_>,
+        burden: Burdens,
+    ) -> Result<Reading, AllocError>
+        ensures value { IfOk result (λ r. so_far r ≡ summary_of burden part.now.first (records_in part.now)) }
+        ensures laid { IfOk result (λ r. IsLaid r) }
+        ensures small { IfOk result (λ r. IsSmall burden part.now.count (so_far r)) }
+    {
+        let first = part.first();
+        let events = part.count();
+        let trace = part.trace();
+        // Its clauses tell that positions fit.
+        let _all = trace.count();
+        let mut reader = EventReader::new(trace);
+        let mut reading = Reading::new(alloc);
+        for k in 0..events {
+            match reader.event_at(first + k) {
+                Ok(event) => reading.read(burden, first + k, event)?,
+                Err(why) => {
+                    reading.fault = Some((first + k, why));
+                    return Ok(reading);
+                }
+            }
+        }
+        Ok(reading)
     }
 
     /// What was read. It takes time and memory linear in the number of open frames.

@@ -19,7 +19,7 @@ use crate::pieces::{Frame, Segs, States, Unmatched};
 use crate::pile::Pile;
 use crate::reading::Reading;
 use spp_cut::Part;
-use spp_event::{EventFault, EventReader};
+use spp_event::EventFault;
 use spp_frame::{Fault, Why};
 use spp_maxplus::Burdens;
 use std::alloc::{AllocError, Global};
@@ -77,15 +77,9 @@ impl Summary {
     {
         let first = part.first();
         let events = part.count();
-        let trace = part.trace();
         // Its clauses tell that positions fit.
-        let _all = trace.count();
-        let mut reader = EventReader::new(trace);
-        let mut reading = Reading::new(alloc);
-        for k in 0..events {
-            let item = reader.event_at(first + k);
-            reading.read(burden, first + k, item)?;
-        }
+        let _all = part.trace().count();
+        let reading = Reading::of_part(alloc, part, burden)?;
         Ok(Summary {
             burden,
             first,

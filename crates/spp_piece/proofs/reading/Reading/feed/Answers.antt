@@ -65,4 +65,4 @@ returns c =
     c.receive-2.ensures ∙ ap (λ (g : Weights). after_return_by k.kind c.args.burden k.at g.plain g.burdened (after_strand (k.before - c.keep.new.top.mark) s)) c.leave-weights.ensures.weights
     ∙ ap (λ (o : Open). after_return c.args.burden (frame_of p.work k (kept_of k.kept ss)) (after_strand (k.before - o.mark) s)) c.in_ok-keep.ensures.top in
     let now = λ (at : ℕ). feed_ends p.returns.items p.middle p.since p.work p.fault xs _ ts _ top s x ss c.args.burden at k y os ey us et ex c.requires.laid in
-    record { value = λ at. (now at).value; laid = (now 0).laid }
+    record { value = λ at. (now at).value; laid = (now 0).laid; fault = refl }

@@ -18,4 +18,4 @@ returns-in-Some c =
     let last = vec_len p.opens - 1 in
     let os = ends_at xs last last top y (omega arith) (omega arith) (omega arith) c.in-Some.ensures.value in
     let now = λ (burden : Burdens) (at : ℕ). skip_ends p.returns.items p.middle p.since p.work p.fault xs _ ts ts top start start burden at k c.requires.called c.requires.plain refl os c.requires.laid in
-    record { value = λ burden at. (now burden at).value; laid = (now free 0).laid }
+    record { value = λ burden at. (now burden at).value; laid = (now free 0).laid; fault = refl }

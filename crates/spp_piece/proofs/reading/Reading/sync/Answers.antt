@@ -21,4 +21,4 @@ returns-then-top c =
     let i = c.len-last.ensures in
     let ss = ends_at ts _ _ c.index_mut-states.result.now c.sync.new.self lt (omega arith) (omega arith) c.index_mut-states.ensures.value in
     let now = sync_ends p.returns.items p.middle p.since p.work p.fault xs _ ts _ top _ _ os ss c.if-top.true (c.sync.ensures ∙ ap after_sync c.run-then-top.ensures) c.requires.laid in
-    record { value = now.value; laid = now.laid }
+    record { value = now.value; laid = now.laid; fault = refl }
