@@ -14,7 +14,7 @@ use crate::changes::Weights;
 use crate::pieces::{Frame, Kind, Segs, States, Unmatched};
 use crate::pile::Pile;
 use spp_cut::Part;
-use spp_event::{Event, EventFault, EventReader};
+use spp_event::{Event, EventFault};
 use spp_maxplus::Burdens;
 use std::alloc::{AllocError, Global};
 
@@ -332,10 +332,9 @@ impl Reading {
         let trace = part.trace();
         // Its clauses tell that positions fit.
         let _all = trace.count();
-        let mut reader = EventReader::new(trace);
         let mut reading = Reading::new(alloc);
         for k in 0..events {
-            match reader.event_at(first + k) {
+            match trace.event_at(first + k) {
                 Ok(event) => reading.read(burden, first + k, event)?,
                 Err(why) => {
                     reading.fault = Some((first + k, why));

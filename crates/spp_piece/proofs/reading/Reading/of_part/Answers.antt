@@ -23,15 +23,14 @@ loop-k-preserved c =
     let lt : k < p.count = omega (arith, c.count-events.ensures.count) in
     let all = count_in p c.count-events.ensures.within in
     let item : c.event_at.result ≡ get_or xs k (Err Truncated) =
-    c.event_at.ensures.said ∙ ap (λ (r : Recording). record_at r.records at) v.same
+    c.event_at.ensures.said ∙ ap (λ (r : Recording). record_at r.records at) c.trace-trace.ensures
     ∙ ap (λ n. record_at p.trace.records (n + k)) c.first-first.ensures ∙ sym (record_in p k (Err Truncated) lt) in
     let read : t ≡ event o at (get_or xs k (Err Truncated)) s = c.in_ok-read-in-Ok.ensures.value ∙ ap (λ x. event o at x s) (sym c.in-Ok.is ∙ item) in
     record {
       value = event_step c.args.burden c.first-first.result k k xs (Err Truncated) s t (omega arith) refl read ∙ v.value;
-      small = small_step c.args.burden at k (Ok c.in-Ok.event) s t c.in_ok-read-in-Ok.ensures.value (is_count (length c.loop-k.reader.sites) (length c.loop-k.reader.funcs) (Ok c.in-Ok.event) c.in-Ok.ensures.within) v.small;
+      small = small_step c.args.burden at k (Ok c.in-Ok.event) s t c.in_ok-read-in-Ok.ensures.value (is_count _ _ (Ok c.in-Ok.event) c.in-Ok.ensures.within) v.small;
       sound = c.in_ok-read-in-Ok.ensures.sound;
       laid = c.in_ok-read-in-Ok.ensures.laid;
-      same = c.event_at.ensures.same ∙ v.same;
     }
 
 pub returns-in-Err : goal.returns-in-Err
@@ -49,7 +48,7 @@ returns-in-Err c =
     let lt : k < p.count = omega (arith, c.count-events.ensures.count) in
     let all = count_in p c.count-events.ensures.within in
     let item : c.event_at.result ≡ get_or xs k (Err Truncated) =
-    c.event_at.ensures.said ∙ ap (λ (r : Recording). record_at r.records at) v.same
+    c.event_at.ensures.said ∙ ap (λ (r : Recording). record_at r.records at) c.trace-trace.ensures
     ∙ ap (λ n. record_at p.trace.records (n + k)) c.first-first.ensures ∙ sym (record_in p k (Err Truncated) lt) in
     let failed : t ≡ event o at (Err why) s = sym (event_fail b at why s v.sound) in
     let read : t ≡ event o at (get_or xs k (Err Truncated)) s = failed ∙ ap (λ x. event o at x s) (sym c.in-Err.is ∙ item) in
