@@ -30,7 +30,7 @@ cost_by Spawned burden at g h = omega arith
 pub cost-fed : (burden : Burdens) (f : Frame) → cost (fed burden f) ≤ height f.states + worst burden
 cost-fed burden f = cost_by f.kind burden f.at _ _
 
-load_push : (burden : Burdens) (rs : List Unmatched) (r : Unmatched) → load_returns burden (rs ++ r ∷ []) ≡ load_returns burden rs + cost r.segs + worst burden
+pub load_push : (burden : Burdens) (rs : List Unmatched) (r : Unmatched) → load_returns burden (rs ++ r ∷ []) ≡ load_returns burden rs + cost r.segs + worst burden
 load_push burden [] r = omega arith
 load_push burden (s ∷ rs) r = omega (arith, load_push burden rs r)
 

@@ -1,5 +1,5 @@
 -- The last element of a list is the first of its reverse.
-use Rattle.std.proofs.Common.{◌≡◌, ℕ, zero, suc, max, ◌+◌, ◌<◌, ◌≤◌, List, [], ◌∷◌, ◌++◌, length, reverse, get_or, set, take, refl, sym, ◌∙◌, ap, arith}
+use Rattle.std.proofs.Common.{◌≡◌, ℕ, zero, suc, max, ◌+◌, ◌-◌, ◌<◌, ◌≤◌, List, [], ◌∷◌, ◌++◌, length, reverse, get_or, set, take, refl, sym, ◌∙◌, ap, arith}
 use Rattle.spp_piece.specs.declared.pieces.Frame.{Frame}
 use Rattle.spp_piece.specs.Bound.{most_before}
 use Rattle.std.proofs.lemmas.List.{reverse-append, take_more, take_all, take-set, length-set, get_or-set_same}
@@ -31,3 +31,9 @@ before-append (x ∷ xs) ys = omega (arith, before-append xs ys)
 pub before-reverse : (xs : List Frame) → most_before (reverse xs) ≡ most_before xs
 before-reverse [] = refl
 before-reverse (x ∷ xs) = ap most_before (reverse-append (x ∷ []) xs) ∙ omega (arith, before-append (reverse xs) (x ∷ []), before-reverse xs)
+
+pub reverse_take : {X : Type 0} (xs : List X) (n : ℕ) (d : X) → 0 < n → n ≤ length xs → reverse (take n xs) ≡ get_or xs (n - 1) d ∷ reverse (take (n - 1) xs)
+reverse_take xs n d lt le =
+    let m = n - 1 in
+    let e : n ≡ m + 1 = omega arith in
+    ap (λ n. reverse (take n xs)) e ∙ ap reverse (take_more xs m d (omega arith)) ∙ reverse-append (take m xs) (get_or xs m d ∷ [])

@@ -6,8 +6,11 @@ pub mod Summary
 pub mod Action
 pub mod Bound
 pub mod Pile
+pub mod Joining
+pub mod Told
 pub mod Reading
 pub mod Account
+pub mod Stored
 pub mod Ends
 pub mod Model
 pub mod Faults

@@ -4,7 +4,7 @@ ghost use Rattle.std.specs.Prelude.{◌≡◌, ◌+◌, ◌<◌, ◌^◌, Some};
 ghost use Rattle.spp_maxplus.specs.Candidate.{better, greatest as greatest_of};
 ghost use Rattle.spp_maxplus.specs.Seg.{synced, then as then_seg};
 ghost use Rattle.spp_piece.specs.Pair.{after_strand, after_sync, after_return_by, strand as both_strand, sync as both_sync, then as both_then, fed_by};
-ghost use Rattle.spp_piece.specs.Reading.{weights_of};
+ghost use Rattle.spp_piece.specs.Told.{weights_of};
 
 use crate::pieces::{Kind, Segs, States};
 use spp_maxplus::{Burdens, Seg};

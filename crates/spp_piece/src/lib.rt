@@ -3,6 +3,8 @@
 
 mod changes;
 mod figures;
+mod frames;
+mod opens;
 mod pieces;
 mod pile;
 mod reading;
@@ -10,6 +12,7 @@ mod summary;
 mod whole;
 
 pub use figures::Figures;
+pub use frames::FrameReader;
 pub use pieces::{Frame, Kind, Segs, States, Unmatched};
 pub use summary::{JoinRefused, Summary, piece_laws};
 pub use whole::{FiguresFault, figures_in_parts};

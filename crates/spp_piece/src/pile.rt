@@ -1,154 +1,371 @@
 //! A summary as it is kept: what each step of a join does to it.
-ghost use Rattle.std.specs.Prelude.{◌≡◌, ◌+◌, ◌*◌, ◌<◌, ◌≤◌, ◌^◌, ◌-◌, ℕ, List, [], ◌∷◌, ◌++◌, length, reverse, IfOk, OnErr, OnOk, IsOk, Some, None, vec_len, vec_capacity};
-ghost use Rattle.spp_maxplus.specs.declared.state.Burdens.{Burdens as BurdensValue};
-ghost use Rattle.spp_piece.specs.Bound.{worst, cost, height, load, load_returns, most_before};
-ghost use Rattle.spp_piece.specs.Pile.{seen, open_load};
-ghost use Rattle.spp_piece.specs.Summary.{along_by, ret_by, pushed, summary_ops, play_returns, play_frames, joined};
+ghost use Rattle.std.specs.Prelude.{◌≡◌, ◌+◌, ◌*◌, ◌<◌, ◌≤◌, ◌^◌, ◌-◌, ℕ, Bool, true, false, List, [], ◌∷◌, ◌++◌, length, reverse, IfOk, OnErr, OnOk, IsOk, Some, None, vec_len, vec_capacity};
+ghost use Rattle.std.specs.VecDeque.{deque_len, deque_capacity};
+ghost use Rattle.spp_piece.specs.Bound.{worst, cost, height, load, load_returns};
+ghost use Rattle.spp_piece.specs.Pair.{act, idle, then as both_then, after_strand, fed as fed_to};
+ghost use Rattle.spp_piece.specs.Pile.{seen, open_load, with_work, IsLaid};
+ghost use Rattle.spp_piece.specs.Joining.{raised, run_on, before_on, went, left_of, SamePile, HasRoom};
+ghost use Rattle.spp_piece.specs.Told.{kept_of, past, with_kept, HasKept, outside as outside_of};
+ghost use Rattle.spp_piece.specs.Summary.{along_by, summary_ops, play_returns, joined};
 
-use crate::pieces::{Frame, Segs, Unmatched};
+use crate::opens::Open;
+use crate::pieces::{Segs, States, Unmatched};
 use spp_event::EventFault;
 use spp_maxplus::Burdens;
-use std::alloc::AllocError;
+use std::alloc::{AllocError, Global};
+use std::collections::VecDeque;
 
-/// The parts of a summary.
+/// The parts of a summary. What has run since a frame was last changed is told by counts.
 #[derive(Drop)]
 pub(crate) struct Pile {
+    /// The unmatched returns, in order.
     pub(crate) returns: Vec<Unmatched>,
+    /// The open frames, the outermost first.
+    pub(crate) opens: VecDeque<Open>,
+    /// The states of those frames that have kept ones, in the same order.
+    pub(crate) states: VecDeque<States>,
+    /// What the events after the last unmatched return and up to the work `since` do to the frame that is then the
+    /// innermost.
     pub(crate) middle: Segs,
-    /// The outermost first.
-    pub(crate) frames: Vec<Frame>,
-    pub(crate) work: u128,
+    /// The work where `middle` ends. What has run since then, up to where the outermost open frame was opened or to the
+    /// end, follows as one strand.
+    pub(crate) since: u128,
+    /// The work since the innermost open frame was opened, or from the beginning.
+    pub(crate) run: u128,
+    /// The work before that.
+    pub(crate) before: u128,
+    /// The first bad record.
     pub(crate) fault: Option<(u32, EventFault)>,
 }
 
+/// The list of the one and then that of the other, where the one of the two that takes the other's elements has room for
+/// them.
+fn chained<T: Drop>(left: VecDeque<T>, right: VecDeque<T>, into_left: bool) -> VecDeque<T>
+    requires left { into_left ≡ true → deque_len left + deque_len right ≤ deque_capacity left }
+    requires right { into_left ≡ false → deque_len left + deque_len right ≤ deque_capacity right }
+    ensures { result.items ≡ left.items ++ right.items }
+{
+    let mut left = left;
+    let mut right = right;
+    if into_left {
+        while let Some(first) = right.pop_front() {
+            left.push_back_reserved(first);
+        }
+        left
+    } else {
+        while let Some(last) = left.pop_back() {
+            right.push_front_reserved(last);
+        }
+        right
+    }
+}
+
+/// The same list once more.
+fn copied<T: Copy>(alloc: Global, list: &VecDeque<T>) -> Result<VecDeque<T>, AllocError>
+    ensures { IfOk result (λ l. l.items ≡ list.now.items) }
+{
+    let (front, back) = list.as_slices();
+    let mut all = Vec::with_capacity(alloc, list.len())?;
+    all.extend_from_slice(front)?;
+    all.extend_from_slice(back)?;
+    Ok(VecDeque::from_vec(all))
+}
+
+/// The states of a frame, which are kept no longer.
+fn take_kept(states: &mut VecDeque<States>, kept: bool) -> States
+    ensures value { result ≡ kept_of kept (reverse states.old.items) }
+    ensures states { reverse states.new.items ≡ past kept (reverse states.old.items) }
+    ensures capacity { deque_capacity states.new ≡ deque_capacity states.old }
+    ensures len { deque_len states.new ≤ deque_len states.old }
+{
+    if !kept {
+        return States::start();
+    }
+    match states.pop_back() {
+        None => States::start(),
+        Some(last) => last,
+    }
+}
+
+/// What the return of a frame does to the one below, where that work has run since it was opened, and then these events.
+fn fed(states: &mut VecDeque<States>, child: &Open, run: u128, burden: Burdens, segs: &Segs) -> Segs
+    requires counted { child.now.counted ≤ run }
+    requires load { height (after_strand (run - child.now.counted) (kept_of child.now.kept (reverse states.old.items))) + cost segs.now + worst burden < 2 ^ 127 }
+    ensures value { (before : ℕ) → result ≡ fed_to burden (with_kept before child.now (act segs.now (after_strand (run - child.now.counted) (kept_of child.now.kept (reverse states.old.items))))) }
+    ensures states { reverse states.new.items ≡ past child.now.kept (reverse states.old.items) }
+    ensures capacity { deque_capacity states.new ≡ deque_capacity states.old }
+    ensures len { deque_len states.new ≤ deque_len states.old }
+{
+    let mut now = take_kept(states, child.kept);
+    now.run(run - child.counted);
+    let now = segs.apply(now);
+    Segs::fed(burden, &child.frame(0, now))
+}
+
+/// From now on the states of the innermost frame are kept.
+fn keep(states: &mut VecDeque<States>, top: &mut Open)
+    requires has { HasKept top.old.kept (reverse states.old.items) }
+    requires room { deque_len states.old < deque_capacity states.old }
+    ensures states { reverse states.new.items ≡ kept_of top.old.kept (reverse states.old.items) ∷ past top.old.kept (reverse states.old.items) }
+    ensures top { top.new ≡ record top.old { kept = true } }
+    ensures capacity { deque_capacity states.new ≡ deque_capacity states.old }
+    ensures len { deque_len states.new ≤ deque_len states.old + 1 }
+{
+    if !top.kept {
+        states.push_back_reserved(States::start());
+        top.kept = true;
+    }
+}
+
 impl Pile {
-    /// The innermost frame's states change.
-    pub(crate) fn along(&mut self, segs: &Segs)
-        requires { open_load (seen self.old) + cost segs.now < 2 ^ 127 }
-        ensures value { seen self.new ≡ along_by (reverse self.old.frames.items) segs.now (seen self.old) }
-        ensures returns { self.new.returns ≡ self.old.returns }
-        ensures fault { self.new.fault ≡ self.old.fault }
-        ensures work { self.new.work ≡ self.old.work }
-        ensures capacity { vec_capacity self.new.frames ≡ vec_capacity self.old.frames }
-        ensures len { vec_len self.new.frames ≡ vec_len self.old.frames }
-    {
-        let count = self.frames.len();
-        if count == 0 {
-            self.middle = self.middle.then(*segs);
-        } else {
-            let mut frame = self.frames[count - 1];
-            frame.states = segs.apply(frame.states);
-            self.frames[count - 1] = frame;
-        }
-    }
-
-    /// The innermost frame returns.
-    pub(crate) fn ret(&mut self, burden: Burdens, at: u32) -> Result<(), AllocError>
-        requires { open_load (seen self.old) + worst burden < 2 ^ 127 }
-        ensures ok { OnOk result (seen self.new ≡ ret_by (reverse self.old.frames.items) burden at (seen self.old)) }
-        ensures err { OnErr result (seen self.new ≡ seen self.old) }
-        ensures succeeds { vec_len self.old.returns < vec_capacity self.old.returns → IsOk result }
-        ensures fault { self.new.fault ≡ self.old.fault }
-        ensures work { self.new.work ≡ self.old.work }
-        ensures capacity { vec_capacity self.old.returns ≤ vec_capacity self.new.returns }
-        ensures len { vec_len self.new.returns ≤ vec_len self.old.returns + 1 }
-        ensures frames_capacity { vec_capacity self.new.frames ≡ vec_capacity self.old.frames }
-        ensures frames_len { vec_len self.new.frames ≤ vec_len self.old.frames }
-    {
-        match self.frames.pop() {
-            None => {
-                self.returns.push(Unmatched {
-                    segs: self.middle,
-                    at,
-                })?;
-                self.middle = Segs::idle();
-            }
-            Some(frame) => self.along(&Segs::fed(burden, &frame)),
-        }
-        Ok(())
-    }
-
-    /// A frame is opened.
-    pub(crate) fn enter(&mut self, frame: Frame) -> Result<(), AllocError>
-        requires { self.old.work + frame.before < 2 ^ 128 }
-        ensures ok { OnOk result (seen self.new ≡ pushed frame (seen self.old)) }
-        ensures err { OnErr result (seen self.new ≡ seen self.old) }
-        ensures succeeds { vec_len self.old.frames < vec_capacity self.old.frames → IsOk result }
-        ensures fault { self.new.fault ≡ self.old.fault }
-        ensures work { self.new.work ≡ self.old.work }
-        ensures capacity { vec_capacity self.old.frames ≤ vec_capacity self.new.frames }
-        ensures len { vec_len self.new.frames ≤ vec_len self.old.frames + 1 }
-    {
-        let mut frame = frame;
-        frame.before += self.work;
-        self.frames.push(frame)?;
-        Ok(())
-    }
-
-    /// Returns of a later piece, for all of which there is room.
-    pub(crate) fn return_all(&mut self, burden: Burdens, returns: &[Unmatched])
+    /// Returns of a later piece, for all of which there is room. Gives what is still to be done to the frame that is then
+    /// the innermost; the work is that where it was opened last.
+    fn return_all(&mut self, burden: Burdens, returns: &[Unmatched]) -> Segs
         requires sound { self.old.fault ≡ None }
-        requires room { vec_len self.old.returns + length returns.now ≤ vec_capacity self.old.returns }
+        requires laid { IsLaid self.old }
+        requires work { self.old.before + self.old.run < 2 ^ 127 }
+        requires room { vec_len self.old.returns + (length returns.now - deque_len self.old.opens) ≤ vec_capacity self.old.returns }
         requires load { load burden (seen self.old) + load_returns burden returns.now < 2 ^ 127 }
-        ensures value { seen self.new ≡ play_returns (summary_ops burden) returns.now (seen self.old) }
+        ensures value { (summary_ops burden).along result (with_work (self.old.before + self.old.run) (seen self.new)) ≡ play_returns (summary_ops burden) returns.now (seen self.old) }
+        ensures load { load burden (seen self.new) + cost result ≤ load burden (seen self.old) + load_returns burden returns.now }
+        ensures laid { IsLaid self.new }
         ensures fault { self.new.fault ≡ None }
-        ensures work { self.new.work ≡ self.old.work }
-        ensures capacity { vec_capacity self.new.frames ≡ vec_capacity self.old.frames }
-        ensures len { vec_len self.new.frames ≤ vec_len self.old.frames }
+        ensures before { self.new.before + self.new.run ≤ self.old.before + self.old.run }
+        ensures opens_capacity { deque_capacity self.new.opens ≡ deque_capacity self.old.opens }
+        ensures opens_len { deque_len self.new.opens ≡ deque_len self.old.opens - length returns.now }
+        ensures states_capacity { deque_capacity self.new.states ≡ deque_capacity self.old.states }
+        ensures states_len { deque_len self.new.states ≤ deque_len self.old.states }
     {
+        let mut pending = Segs::idle();
         for unmatched in returns {
-            self.along(&unmatched.segs);
-            match self.ret(burden, unmatched.at) {
-                Ok(()) => {}
-                Err(_) => unreachable!(),
-            }
+            pending = self.take_return(burden, pending, unmatched);
         }
+        pending
     }
 
-    /// The frames of a later piece, for all of which there is room.
-    #[tactic(auto, using(crate::proofs::Lists::before_at))]
-    pub(crate) fn enter_all(&mut self, frames: &[Frame])
+    /// One of them, where that is still to be done to the innermost frame.
+    fn take_return(&mut self, burden: Burdens, pending: Segs, unmatched: &Unmatched) -> Segs
         requires sound { self.old.fault ≡ None }
-        requires room { vec_len self.old.frames + length frames.now ≤ vec_capacity self.old.frames }
-        requires work { self.old.work + most_before frames.now < 2 ^ 128 }
-        ensures value { (burden : BurdensValue) → seen self.new ≡ play_frames (summary_ops burden) (reverse frames.now) (seen self.old) }
+        requires laid { IsLaid self.old }
+        requires work { self.old.before + self.old.run < 2 ^ 127 }
+        requires room { deque_len self.old.opens ≡ 0 → vec_len self.old.returns < vec_capacity self.old.returns }
+        requires load { load burden (seen self.old) + cost pending + (cost unmatched.now.segs + worst burden) < 2 ^ 127 }
+        ensures value { (work : ℕ) → (summary_ops burden).along result (with_work work (seen self.new)) ≡ (summary_ops burden).ret unmatched.now.at ((summary_ops burden).along unmatched.now.segs ((summary_ops burden).along pending (with_work work (seen self.old)))) }
+        ensures load { load burden (seen self.new) + cost result ≤ load burden (seen self.old) + cost pending + (cost unmatched.now.segs + worst burden) }
+        ensures laid { IsLaid self.new }
         ensures fault { self.new.fault ≡ None }
-        ensures work { self.new.work ≡ self.old.work }
+        ensures work { self.new.before + self.new.run ≤ self.old.before + self.old.run }
+        ensures returns_capacity { vec_capacity self.new.returns ≡ vec_capacity self.old.returns }
+        ensures returns_len { vec_len self.new.returns ≡ vec_len self.old.returns + (1 - deque_len self.old.opens) }
+        ensures opens_capacity { deque_capacity self.new.opens ≡ deque_capacity self.old.opens }
+        ensures opens_len { deque_len self.new.opens ≡ deque_len self.old.opens - 1 }
+        ensures states_capacity { deque_capacity self.new.states ≡ deque_capacity self.old.states }
+        ensures states_len { deque_len self.new.states ≤ deque_len self.old.states }
     {
-        for frame in frames {
-            match self.enter(*frame) {
-                Ok(()) => {}
-                Err(_) => unreachable!(),
+        let segs = pending.then(unmatched.segs);
+        let Some(child) = self.opens.pop_back() else {
+            self.unmatched(&segs, unmatched.at);
+            return Segs::idle();
+        };
+        let next = fed(&mut self.states, &child, self.run, burden, &segs);
+        self.run = child.gap;
+        self.before -= child.gap;
+        next
+    }
+
+    /// A return with no frame open, after these events, for which there is room.
+    fn unmatched(&mut self, segs: &Segs, at: u32)
+        requires none { self.old.opens.items ≡ [] }
+        requires laid { IsLaid self.old }
+        requires room { vec_len self.old.returns < vec_capacity self.old.returns }
+        requires load { cost (seen self.old).middle + cost segs.now < 2 ^ 127 }
+        ensures returns { self.new.returns.items ≡ self.old.returns.items ++ record { segs = both_then (seen self.old).middle segs.now; at = at } ∷ [] }
+        ensures value { seen self.new ≡ record (seen self.old) { returns = self.new.returns.items; middle = idle } }
+        ensures laid { IsLaid self.new }
+        ensures fault { self.new.fault ≡ self.old.fault }
+        ensures run { self.new.run ≡ self.old.run }
+        ensures before { self.new.before ≡ self.old.before }
+        ensures opens { self.new.opens ≡ self.old.opens }
+        ensures states { self.new.states ≡ self.old.states }
+        ensures returns_len { vec_len self.new.returns ≡ vec_len self.old.returns + 1 }
+        ensures returns_capacity { vec_capacity self.new.returns ≡ vec_capacity self.old.returns }
+    {
+        self.middle.run(self.run - self.since);
+        self.returns.push_reserved(Unmatched {
+            segs: self.middle.then(*segs),
+            at,
+        });
+        self.middle = Segs::idle();
+        self.since = self.run;
+    }
+
+    /// Events of the innermost frame, after which the next one is opened, or the range ends, where that work has run since
+    /// it was opened.
+    fn settle(&mut self, segs: &Segs, next: u128)
+        requires laid { IsLaid self.old }
+        requires room { deque_len self.old.states < deque_capacity self.old.states }
+        requires load { open_load (seen self.old) + cost segs.now < 2 ^ 127 }
+        ensures value { seen self.new ≡ with_work (self.old.before + next) (along_by (seen self.old).frames segs.now (seen self.old)) }
+        ensures laid { IsLaid self.new }
+        ensures run { self.new.run ≡ next }
+        ensures before { self.new.before ≡ self.old.before }
+        ensures fault { self.new.fault ≡ self.old.fault }
+        ensures opens_capacity { deque_capacity self.new.opens ≡ deque_capacity self.old.opens }
+        ensures opens_len { deque_len self.new.opens ≡ deque_len self.old.opens }
+        ensures states_capacity { deque_capacity self.new.states ≡ deque_capacity self.old.states }
+        ensures states_len { deque_len self.new.states ≤ deque_len self.old.states + 1 }
+    {
+        let Some(top) = self.opens.back_mut() else {
+            self.middle.run(self.run - self.since);
+            self.middle = self.middle.then(*segs);
+            self.since = next;
+            self.run = next;
+            return;
+        };
+        keep(&mut self.states, top);
+        let last = self.states.len() - 1;
+        let states = &mut self.states[last];
+        states.run(self.run - top.counted);
+        *states = segs.apply(*states);
+        top.counted = next;
+        self.run = next;
+    }
+
+    /// The work before the outermost frame was opened, or that in all.
+    fn outside(&self) -> u128
+        ensures { result ≡ outside_of self.now.run (reverse self.now.opens.items) }
+    {
+        match self.opens.front() {
+            None => self.run,
+            Some(first) => first.gap,
+        }
+    }
+
+    /// Counts from a piece before this one: of that work, of which that is before its innermost frame, which then runs up to
+    /// `next`.
+    fn place(&mut self, work: u128, before: u128, next: u128)
+        requires { self.old.before + work < 2 ^ 128 }
+        ensures opens { reverse self.new.opens.items ≡ raised next (reverse self.old.opens.items) }
+        ensures run { self.new.run ≡ run_on next self.old.run (reverse self.old.opens.items) }
+        ensures before { self.new.before ≡ before_on work before self.old.before (reverse self.old.opens.items) }
+        ensures states { self.new.states ≡ self.old.states }
+        ensures fault { self.new.fault ≡ self.old.fault }
+        ensures capacity { deque_capacity self.new.opens ≡ deque_capacity self.old.opens }
+        ensures len { deque_len self.new.opens ≡ deque_len self.old.opens }
+    {
+        match self.opens.front_mut() {
+            None => {
+                self.run = next;
+                self.before = before;
+            }
+            Some(first) => {
+                first.gap = next;
+                self.before += work;
             }
         }
     }
 
-    /// Takes room for all that a later piece can add.
-    pub(crate) fn make_room(&mut self, right: &Pile) -> Result<(), AllocError>
-        ensures same { seen self.new ≡ seen self.old }
-        ensures returns { OnOk result (vec_len self.new.returns + length right.now.returns.items ≤ vec_capacity self.new.returns) }
-        ensures frames { OnOk result (vec_len self.new.frames + length right.now.frames.items ≤ vec_capacity self.new.frames) }
+    /// Takes room for all that the join with a later piece adds to the lists of either.
+    pub(crate) fn make_room(&mut self, right: &mut Pile) -> Result<(), AllocError>
+        ensures left { SamePile self.old self.new }
+        ensures right { SamePile right.old right.new }
+        ensures room { OnOk result (HasRoom self.new right.new) }
     {
-        self.returns.reserve(right.returns.len())?;
-        self.frames.reserve(right.frames.len())
+        let rest = self.opens.len().saturating_sub(right.returns.len());
+        let unmatched = right.returns.len().saturating_sub(self.opens.len());
+        self.returns.reserve(unmatched)?;
+        self.states.reserve(1)?;
+        if right.opens.len() <= rest {
+            let all = rest + right.opens.len();
+            self.opens.reserve(all.saturating_sub(self.opens.len()))?;
+            self.states.reserve(right.states.len() + 1)
+        } else {
+            right.opens.reserve(rest)?;
+            right.states.reserve((self.states.len() + 1).min(rest))
+        }
     }
 
-    /// Joins a later piece, for which there is room.
-    pub(crate) fn absorb(&mut self, burden: Burdens, right: &Pile)
-        requires returns { vec_len self.old.returns + length right.now.returns.items ≤ vec_capacity self.old.returns }
-        requires frames { vec_len self.old.frames + length right.now.frames.items ≤ vec_capacity self.old.frames }
+    /// What a later piece does to the frames that are open, for which there is room: its returns, and its events up to where
+    /// it opens its own frames, or to its end. The innermost frame that is left then runs up to there.
+    fn go_on(&mut self, burden: Burdens, right: &Pile)
+        requires sound { self.old.fault ≡ None }
+        requires left { IsLaid self.old }
+        requires right { IsLaid right.now }
+        requires room { HasRoom self.old right.now }
         requires load { load burden (seen self.old) + load burden (seen right.now) < 2 ^ 127 }
-        requires work { self.old.work + right.now.work < 2 ^ 128 }
-        requires before { most_before (reverse right.now.frames.items) ≤ right.now.work }
-        ensures { seen self.new ≡ joined burden (seen self.old) (seen right.now) }
+        requires work { self.old.before + self.old.run + (right.now.before + right.now.run) < 2 ^ 127 }
+        ensures value { with_work (self.old.before + self.old.run) (seen self.new) ≡ went burden (seen self.old) (seen right.now) }
+        ensures laid { IsLaid self.new }
+        ensures run { self.new.before + self.new.run ≡ self.old.before + self.old.run + outside_of right.now.run (reverse right.now.opens.items) }
+        ensures before { self.new.before ≤ self.old.before + self.old.run }
+        ensures few { deque_len self.new.states ≤ deque_len self.new.opens }
+        ensures fault { self.new.fault ≡ None }
+        ensures opens_capacity { deque_capacity self.new.opens ≡ deque_capacity self.old.opens }
+        ensures opens_len { deque_len self.new.opens ≡ left_of self.old right.now }
+        ensures states_capacity { deque_capacity self.new.states ≡ deque_capacity self.old.states }
+        ensures states_len { deque_len self.new.states ≤ deque_len self.old.states + 1 }
     {
-        if let Some(_) = self.fault {
-            return;
+        let end = self.before + self.run + right.outside();
+        let pending = self.return_all(burden, right.returns.as_slice());
+        let next = end - self.before;
+        self.settle(&pending.then(right.middle()), next);
+    }
+
+    /// This piece and a later one, for the join with which there is room.
+    pub(crate) fn absorb(self, burden: Burdens, right: Pile) -> Pile
+        requires left { IsLaid self }
+        requires right { IsLaid right }
+        requires room { HasRoom self right }
+        requires load { load burden (seen self) + load burden (seen right) < 2 ^ 127 }
+        requires work { self.before + self.run + (right.before + right.run) < 2 ^ 127 }
+        ensures value { seen result ≡ joined burden (seen self) (seen right) }
+        ensures laid { IsLaid result }
+    {
+        let mut left = self;
+        let mut right = right;
+        if let Some(_) = left.fault {
+            return left;
         }
-        self.return_all(burden, &right.returns);
-        self.along(&right.middle);
-        self.enter_all(&right.frames);
-        self.work += right.work;
-        self.fault = right.fault;
+        let work = left.before + left.run;
+        left.go_on(burden, &right);
+        let into_left = right.opens.len() <= left.opens.len();
+        right.place(work, left.before, left.run);
+        Pile {
+            returns: left.returns,
+            opens: chained(left.opens, right.opens, into_left),
+            states: chained(left.states, right.states, into_left),
+            middle: left.middle,
+            since: left.since,
+            run: right.run,
+            before: right.before,
+            fault: right.fault,
+        }
+    }
+
+    /// What the events after the last unmatched return do to the frame that is then the innermost.
+    pub(crate) fn middle(&self) -> Segs
+        requires laid { IsLaid self.now }
+        requires load { cost (seen self.now).middle < 2 ^ 127 }
+        ensures { result ≡ (seen self.now).middle }
+    {
+        let mut middle = self.middle;
+        middle.run(self.outside() - self.since);
+        middle
+    }
+
+    /// The same once more.
+    pub(crate) fn copy(&self, alloc: Global) -> Result<Pile, AllocError>
+        ensures { IfOk result (λ p. SamePile self.now p) }
+    {
+        Ok(Pile {
+            returns: self.returns.to_vec(alloc)?,
+            opens: copied(alloc, &self.opens)?,
+            states: copied(alloc, &self.states)?,
+            middle: self.middle,
+            since: self.since,
+            run: self.run,
+            before: self.before,
+            fault: self.fault,
+        })
     }
 }

@@ -15,7 +15,8 @@ ghost use Rattle.spp_piece.specs.Figures.{AreFigures};
 ghost use Rattle.spp_piece.specs.Bound.{cost, worst, AreCounted};
 
 use crate::figures::Figures;
-use crate::pieces::{Frame, Segs, States, Unmatched};
+use crate::frames::FrameReader;
+use crate::pieces::{Segs, States, Unmatched};
 use crate::pile::Pile;
 use crate::reading::Reading;
 use spp_cut::Part;
@@ -39,14 +40,15 @@ pub struct Summary {
 }
 
 impl Model for Summary {
-    ghost use Rattle.spp_piece.specs.Account.{Account, IsSound};
+    ghost use Rattle.spp_piece.specs.Account.{Account};
+    ghost use Rattle.spp_piece.specs.Stored.{IsStored};
     ghost use Rattle.spp_piece.specs.Pile.{seen};
 
     ghost Value = { Account };
 
     ghost view = { λ a. record { burden = a.burden; first = a.first; events = a.events; sum = seen a.pile } };
 
-    ghost invariant = { λ a. IsSound (record { burden = a.burden; first = a.first; events = a.events; sum = seen a.pile }) };
+    ghost invariant = { λ a. IsStored (record { burden = a.burden; first = a.first; events = a.events; sum = seen a.pile }) a.pile };
 }
 
 /// Two values that weren't joined for want of memory, as they were.
@@ -62,7 +64,7 @@ impl Summary {
     /// The summary of a part. On every stack it acts as the part's events do one by one.
     ///
     /// It takes time linear in the number of events, and memory linear in the numbers of frames that the part opens and
-    /// doesn't close, and of those that it closes and doesn't open.
+    /// doesn't close, and of those that it closes and doesn't open. A strand changes one number.
     ///
     /// # Errors
     ///
@@ -84,14 +86,15 @@ impl Summary {
             burden,
             first,
             events,
-            pile: reading.finish(alloc)?,
+            pile: reading.finish(),
         })
     }
 
     /// The summary of two neighbouring ranges together, with the same burdens: it acts as the one and then the other, and is
     /// the summary of both lists of events.
     ///
-    /// It takes time linear in the unmatched returns and frames of the right one, and doesn't go over those of the left.
+    /// It takes time linear in the unmatched returns of the right one, and in the frames of that one of the two which has
+    /// fewer, where those of the left that the right closes don't count: they're moved into the list of the other.
     ///
     /// # Errors
     ///
@@ -103,13 +106,17 @@ impl Summary {
         ensures err { IfErr result (λ r. (r.left ≡ left) × (r.right ≡ right)) }
     {
         let mut left = left;
-        match left.pile.make_room(&right.pile) {
+        let mut right = right;
+        match left.pile.make_room(&mut right.pile) {
             Ok(()) => {}
             Err(_) => return Err(JoinRefused { left, right }),
         }
-        left.pile.absorb(left.burden, &right.pile);
-        left.events += right.events;
-        Ok(left)
+        Ok(Summary {
+            burden: left.burden,
+            first: left.first,
+            events: left.events + right.events,
+            pile: left.pile.absorb(left.burden, right.pile),
+        })
     }
 
     /// What continuation edges and return edges bear.
@@ -139,7 +146,7 @@ impl Summary {
         ensures value { result ≡ self.now.sum.work }
         ensures bound { result < 2 ^ 92 }
     {
-        self.pile.work
+        self.pile.before + self.pile.run
     }
 
     /// The returns whose frames were opened before the range, in order.
@@ -154,14 +161,21 @@ impl Summary {
         ensures value { result ≡ self.now.sum.middle }
         ensures bound { cost result < 2 ^ 94 }
     {
-        self.pile.middle
+        self.pile.middle()
     }
 
-    /// The frames that are open at the end, the outermost first.
-    pub fn frames(&self) -> &[Frame]
-        ensures { reverse result.now ≡ self.now.sum.frames }
+    /// The number of frames that are open at the end.
+    pub fn frame_count(&self) -> usize
+        ensures { result ≡ length self.now.sum.frames }
     {
-        self.pile.frames.as_slice()
+        self.pile.opens.len()
+    }
+
+    /// The frames that are open at the end, the innermost first.
+    pub fn frames(&self) -> FrameReader<'_>
+        ensures { result ≡ self.now.sum.frames }
+    {
+        FrameReader::new(&self.pile)
     }
 
     /// The position of the first bad record, and its fault.
@@ -179,18 +193,11 @@ impl Summary {
     pub fn copy(alloc: Global, summary: &Summary) -> Result<Summary, AllocError>
         ensures { IfOk result (λ s. s ≡ summary.now) }
     {
-        let pile = Pile {
-            returns: summary.pile.returns.to_vec(alloc)?,
-            middle: summary.pile.middle,
-            frames: summary.pile.frames.to_vec(alloc)?,
-            work: summary.pile.work,
-            fault: summary.pile.fault,
-        };
         Ok(Summary {
             burden: summary.burden,
             first: summary.first,
             events: summary.events,
-            pile,
+            pile: summary.pile.copy(alloc)?,
         })
     }
 
@@ -227,7 +234,7 @@ impl Summary {
                 why: Why::Event(why),
             });
         }
-        let depth = self.pile.frames.len();
+        let depth = self.pile.opens.len();
         if depth > 0 {
             return Err(Fault {
                 at: self.events,
@@ -236,9 +243,9 @@ impl Summary {
                 },
             });
         }
-        let states = self.pile.middle.apply(States::start());
+        let states = self.pile.middle().apply(States::start());
         Ok(Figures {
-            work: self.pile.work,
+            work: self.work(),
             span: states.plain.close(),
             burdened: states.burdened.close(),
         })

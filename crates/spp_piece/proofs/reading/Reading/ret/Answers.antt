@@ -1,6 +1,7 @@
 use Rattle.std.proofs.Common.{◌≡◌, ◌++◌, [], ◌∷◌, reverse, OnOk, sym, ap, subst, ◌∙◌, arith}
 use Rattle.spp_piece.specs.Summary.{ret_by}
-use Rattle.spp_piece.specs.Reading.{so_far, told, frames_of}
+use Rattle.spp_piece.specs.Reading.{so_far}
+use Rattle.spp_piece.specs.Told.{told, frames_of}
 use Rattle.spp_piece.proofs.Lists.{reverse_push}
 use Rattle.spp_piece.proofs.Laid.{none_of}
 use Rattle.spp_piece.proofs.reading.Reading.ret.Goals as goal
@@ -12,8 +13,8 @@ returns-in_default-clause-value c =
     let k = p.opens.ok.0 in
     let none : p.opens.items ≡ [] = none_of p.opens.items (omega (arith, c.in_default.ensures.cases.0)) in
     let rest : c.pop.new.self.items ≡ [] = none_of c.pop.new.self.items (omega (arith, c.in_default.ensures.cases.1, c.pop.new.self.ok.0)) in
-    subst (λ xs. OnOk c.unmatched.result (so_far c.unmatched.new.self ≡ ret_by (frames_of p.work (reverse xs) ss) c.args.burden c.args.at (told p.returns.items p.middle p.since (reverse xs) ss p.work p.fault))) (sym none)
-    (subst (λ xs. OnOk c.unmatched.result (so_far c.unmatched.new.self ≡ ret_by [] c.args.burden c.args.at (told p.returns.items p.middle p.since (reverse xs) ss p.work p.fault))) rest (c.unmatched.ensures.value c.args.burden))
+    subst (λ xs. OnOk c.unmatched.result (so_far c.unmatched.new.self ≡ ret_by (frames_of p.run p.before (reverse xs) ss) c.args.burden c.args.at (told p.returns.items p.middle p.since (reverse xs) ss p.run p.before p.fault))) (sym none)
+    (subst (λ xs. OnOk c.unmatched.result (so_far c.unmatched.new.self ≡ ret_by [] c.args.burden c.args.at (told p.returns.items p.middle p.since (reverse xs) ss p.run p.before p.fault))) rest (c.unmatched.ensures.value c.args.burden))
 
 pub returns-then-child-clause-value : goal.returns-then-child-clause-value
 returns-then-child-clause-value c =
@@ -22,7 +23,7 @@ returns-then-child-clause-value c =
     let os = c.pop.new.self.items in
     let k = c.in-Some.child in
     let e : reverse p.opens.items ≡ k ∷ reverse os = ap reverse c.in-Some.ensures.items ∙ reverse_push os k in
-    subst (λ os. OnOk c.feed.result (so_far c.feed.new.self ≡ ret_by (frames_of p.work os ss) c.args.burden c.args.at (told p.returns.items p.middle p.since os ss p.work p.fault))) (sym e) (c.feed.ensures.value c.args.at)
+    subst (λ os. OnOk c.feed.result (so_far c.feed.new.self ≡ ret_by (frames_of p.run p.before os ss) c.args.burden c.args.at (told p.returns.items p.middle p.since os ss p.run p.before p.fault))) (sym e) (c.feed.ensures.value c.args.at)
 
 pub returns-clause-value : goal.returns-clause-value
 returns-clause-value c =
@@ -32,4 +33,4 @@ returns-clause-value c =
     let k = c.in-Some.child in
     let e : reverse p.opens.items ≡ k ∷ reverse os = ap reverse c.in-Some.ensures.items ∙ reverse_push os k in
     c.skip.ensures.value c.args.burden c.args.at
-    ∙ sym (ap (λ os. ret_by (frames_of p.work os ss) c.args.burden c.args.at (told p.returns.items p.middle p.since os ss p.work p.fault)) e)
+    ∙ sym (ap (λ os. ret_by (frames_of p.run p.before os ss) c.args.burden c.args.at (told p.returns.items p.middle p.since os ss p.run p.before p.fault)) e)

@@ -9,4 +9,4 @@ pub returns-clause-acts : goal.returns-clause-acts
 returns-clause-acts c stack =
     let b = c.args.burden in
     let p = c.args.part.now in
-    ap (λ t. action b t (Ok stack)) (c.in_ok-finish.ensures ∙ c.in_ok-reading.ensures.value) ∙ action_summary b p.first (records_in p) (Ok stack)
+    ap (λ t. action b t (Ok stack)) (c.finish.ensures.value ∙ c.in_ok-reading.ensures.value) ∙ action_summary b p.first (records_in p) (Ok stack)

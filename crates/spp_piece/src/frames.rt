@@ -1,0 +1,89 @@
+//! The open frames of a summary, one after the other.
+ghost use Rattle.std.specs.Prelude.{◌≡◌, ◌<◌, ◌≤◌, ◌^◌, [], ◌∷◌, length, take, reverse, None, IfSome};
+ghost use Rattle.spp_piece.specs.Bound.{load_frames};
+ghost use Rattle.spp_piece.specs.Pile.{seen, IsLaid};
+ghost use Rattle.spp_piece.specs.Told.{kept_of, past};
+
+use crate::opens::Open;
+use crate::pieces::{Frame, States};
+use crate::pile::Pile;
+use std::collections::VecDeque;
+use std::marker::Model;
+
+/// Reads the open frames of a summary, the innermost first. Contracts see the frames that are left. It takes a constant time
+/// for each.
+#[derive(Drop)]
+pub struct FrameReader<'a> {
+    opens: &'a VecDeque<Open>,
+    states: &'a VecDeque<States>,
+    /// How many of the frames are left, the outermost ones.
+    left: usize,
+    /// How many of the kept states.
+    kept: usize,
+    /// What has run since the innermost of those that are left was opened, and the work before.
+    run: u128,
+    before: u128,
+}
+
+impl<'a> Model for FrameReader<'a> {
+    ghost use Rattle.std.specs.Prelude.{List, take, reverse};
+    ghost use Rattle.spp_piece.specs.declared.pieces.Frame.{Frame};
+    ghost use Rattle.spp_piece.specs.Told.{frames_of};
+    ghost use Rattle.spp_piece.specs.Joining.{AreRead};
+
+    ghost Value = { List Frame };
+
+    ghost view = { λ r. frames_of r.run r.before (reverse (take r.left r.opens.now.items)) (reverse (take r.kept r.states.now.items)) };
+
+    ghost invariant = { λ r. AreRead r.run r.before r.left r.opens.now.items r.kept r.states.now.items };
+}
+
+impl<'a> FrameReader<'a> {
+    pub(crate) fn new(pile: &'a Pile) -> Self
+        requires laid { IsLaid pile.now }
+        requires load { load_frames (seen pile.now).frames < 2 ^ 127 }
+        ensures { result ≡ (seen pile.now).frames }
+    {
+        FrameReader {
+            opens: &pile.opens,
+            states: &pile.states,
+            left: pile.opens.len(),
+            kept: pile.states.len(),
+            run: pile.run,
+            before: pile.before,
+        }
+    }
+
+    /// The next frame; none where each was read.
+    pub fn next(&mut self) -> Option<Frame>
+        ensures some { IfSome result (λ f. self.old ≡ f ∷ self.new) }
+        ensures none { result ≡ None → self.old ≡ [] }
+        ensures last { result ≡ None → self.new ≡ [] }
+    {
+        if self.left == 0 {
+            return None;
+        }
+        let open = self.opens[self.left - 1];
+        let (mut states, kept) = last_kept(self.states, self.kept, open.kept);
+        states.run(self.run - open.counted);
+        let frame = open.frame(self.before, states);
+        self.left -= 1;
+        self.kept = kept;
+        self.run = open.gap;
+        self.before -= open.gap;
+        Some(frame)
+    }
+}
+
+/// The states of a frame, which are the last of so many where they are kept, and how many are left before them.
+fn last_kept(states: &VecDeque<States>, left: usize, kept: bool) -> (States, usize)
+    requires { left ≤ length states.now.items }
+    ensures value { result.0 ≡ kept_of kept (reverse (take left states.now.items)) }
+    ensures rest { reverse (take result.1 states.now.items) ≡ past kept (reverse (take left states.now.items)) }
+    ensures fits { result.1 ≤ left }
+{
+    if !kept || left == 0 {
+        return (States::start(), left);
+    }
+    (states[left - 1], left - 1)
+}
