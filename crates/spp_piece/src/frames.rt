@@ -10,8 +10,8 @@ use crate::pile::Pile;
 use std::collections::VecDeque;
 use std::marker::Model;
 
-/// Reads the open frames of a summary, the innermost first. Contracts see the frames that are left. It takes a constant time
-/// for each.
+/// Reads the open frames of a summary, the innermost first. Contracts see the frames that are left. It takes a constant
+/// time for each.
 #[derive(Drop)]
 pub struct FrameReader<'a> {
     opens: &'a VecDeque<Open>,

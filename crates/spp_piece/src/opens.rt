@@ -8,15 +8,15 @@ use crate::changes::Weights;
 use crate::pieces::{Frame, Kind, States};
 use std::alloc::AllocError;
 
-/// An open frame, as it is kept: by how far it's from the one around it. Its states are told by those that are kept, and by
-/// what has run since then, up to where the next frame was opened or to the end, as one strand.
+/// An open frame, as it is kept: by how far it's from the one around it. Its states are told by those that are kept,
+/// and by what has run since then, up to where the next frame was opened or to the end, as one strand.
 #[derive(Clone, Copy)]
 pub(crate) struct Open {
     /// The work from where the frame around it was opened, or from the beginning of the range, to its own opening, in
     /// instructions.
     pub(crate) gap: u128,
-    /// The part of the work since its opening that isn't in that strand: its kept states tell of it, or its span leaves it
-    /// out.
+    /// The part of the work since its opening that isn't in that strand: its kept states tell of it, or its span leaves
+    /// it out.
     pub(crate) counted: u128,
     /// The position of the event that opened it.
     pub(crate) at: u32,

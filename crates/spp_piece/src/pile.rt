@@ -38,8 +38,8 @@ pub(crate) struct Pile {
     pub(crate) fault: Option<(u32, EventFault)>,
 }
 
-/// The list of the one and then that of the other, where the one of the two that takes the other's elements has room for
-/// them.
+/// The list of the one and then that of the other, where the one of the two that takes the other's elements has room
+/// for them.
 fn chained<T: Drop>(left: VecDeque<T>, right: VecDeque<T>, into_left: bool) -> VecDeque<T>
     requires left { into_left ≡ true → deque_len left + deque_len right ≤ deque_capacity left }
     requires right { into_left ≡ false → deque_len left + deque_len right ≤ deque_capacity right }
@@ -87,7 +87,8 @@ fn take_kept(states: &mut VecDeque<States>, kept: bool) -> States
     }
 }
 
-/// What the return of a frame does to the one below, where that work has run since it was opened, and then these events.
+/// What the return of a frame does to the one below, where that work has run since it was opened, and then these
+/// events.
 fn fed(states: &mut VecDeque<States>, child: &Open, run: u128, burden: Burdens, segs: &Segs) -> Segs
     requires counted { child.now.counted ≤ run }
     requires load { height (after_strand (run - child.now.counted) (kept_of child.now.kept (reverse states.old.items))) + cost segs.now + worst burden < 2 ^ 127 }
@@ -118,8 +119,8 @@ fn keep(states: &mut VecDeque<States>, top: &mut Open)
 }
 
 impl Pile {
-    /// Returns of a later piece, for all of which there is room. Gives what is still to be done to the frame that is then
-    /// the innermost; the work is that where it was opened last.
+    /// Returns of a later piece, for all of which there is room. Gives what is still to be done to the frame that is
+    /// then the innermost; the work is that where it was opened last.
     fn return_all(&mut self, burden: Burdens, returns: &[Unmatched]) -> Segs
         requires sound { self.old.fault ≡ None }
         requires laid { IsLaid self.old }
@@ -199,8 +200,8 @@ impl Pile {
         self.since = self.run;
     }
 
-    /// Events of the innermost frame, after which the next one is opened, or the range ends, where that work has run since
-    /// it was opened.
+    /// Events of the innermost frame, after which the next one is opened, or the range ends, where that work has run
+    /// since it was opened.
     fn settle(&mut self, segs: &Segs, next: u128)
         requires laid { IsLaid self.old }
         requires room { deque_len self.old.states < deque_capacity self.old.states }
@@ -241,8 +242,8 @@ impl Pile {
         }
     }
 
-    /// Counts from a piece before this one: of that work, of which that is before its innermost frame, which then runs up to
-    /// `next`.
+    /// Counts from a piece before this one: of that work, of which that is before its innermost frame, which then runs
+    /// up to `next`.
     fn place(&mut self, work: u128, before: u128, next: u128)
         requires { self.old.before + work < 2 ^ 128 }
         ensures opens { reverse self.new.opens.items ≡ raised next (reverse self.old.opens.items) }
@@ -285,8 +286,8 @@ impl Pile {
         }
     }
 
-    /// What a later piece does to the frames that are open, for which there is room: its returns, and its events up to where
-    /// it opens its own frames, or to its end. The innermost frame that is left then runs up to there.
+    /// What a later piece does to the frames that are open, for which there is room: its returns, and its events up to
+    /// where it opens its own frames, or to its end. The innermost frame that is left then runs up to there.
     fn go_on(&mut self, burden: Burdens, right: &Pile)
         requires sound { self.old.fault ≡ None }
         requires left { IsLaid self.old }

@@ -20,7 +20,8 @@ use spp_maxplus::Burdens;
 use std::alloc::{AllocError, Global};
 use std::collections::VecDeque;
 
-/// The parts of a summary. A strand changes the work alone: what has run since a frame was last changed is told by marks.
+/// The parts of a summary. A strand changes the work alone: what has run since a frame was last changed is told by
+/// marks.
 #[derive(Drop)]
 pub(crate) struct Reading {
     /// The unmatched returns, in order.
@@ -142,8 +143,8 @@ impl Reading {
         Ok(())
     }
 
-    /// A called frame that is open no longer, and has no kept states, returns to the one below, whose strand goes on but
-    /// for the part of the work that the frame's span leaves out.
+    /// A called frame that is open no longer, and has no kept states, returns to the one below, whose strand goes on
+    /// but for the part of the work that the frame's span leaves out.
     #[inline(always)]
     fn skip(&mut self, child: &Open)
         requires called { child.now.kind ≡ AsCalled }

@@ -26,9 +26,9 @@ use spp_maxplus::Burdens;
 use std::alloc::{AllocError, Global};
 use std::marker::Model;
 
-/// What a range of events, however unbalanced, does to the open frames that it meets: the returns that close frames opened
-/// before it; what it does to the frame that is then the innermost; and the frames that it opens and leaves open. Reading
-/// stops at a bad record.
+/// What a range of events, however unbalanced, does to the open frames that it meets: the returns that close frames
+/// opened before it; what it does to the frame that is then the innermost; and the frames that it opens and leaves
+/// open. Reading stops at a bad record.
 ///
 /// Contracts see the burdens, the range, and these. It takes memory for its unmatched returns and frames alone.
 #[derive(Drop)]
@@ -90,11 +90,11 @@ impl Summary {
         })
     }
 
-    /// The summary of two neighbouring ranges together, with the same burdens: it acts as the one and then the other, and is
-    /// the summary of both lists of events.
+    /// The summary of two neighbouring ranges together, with the same burdens: it acts as the one and then the other,
+    /// and is the summary of both lists of events.
     ///
-    /// It takes time linear in the unmatched returns of the right one, and in the frames of that one of the two which has
-    /// fewer, where those of the left that the right closes don't count: they're moved into the list of the other.
+    /// It takes time linear in the unmatched returns of the right one, and in the frames of that one of the two which
+    /// has fewer, where those of the left that the right closes don't count: they're moved into the list of the other.
     ///
     /// # Errors
     ///
@@ -252,8 +252,8 @@ impl Summary {
     }
 }
 
-/// The laws of joins: what is joined is the summary of both lists together; it acts as the one and then the other; and it's
-/// one which two of three are joined first. Its contract is what it is for.
+/// The laws of joins: what is joined is the summary of both lists together; it acts as the one and then the other; and
+/// it's one which two of three are joined first. Its contract is what it is for.
 pub fn piece_laws()
     ensures account { (burden : BurdensValue) (first : ℕ) (xs ys : List (Result EventValue FaultValue)) → both (account_of burden first xs) (account_of burden (first + length xs) ys) ≡ account_of burden first (xs ++ ys) }
     ensures joined { (burden : BurdensValue) (first : ℕ) (xs ys : List (Result EventValue FaultValue)) → joined burden (summary_of burden first xs) (summary_of burden (first + length xs) ys) ≡ summary_of burden first (xs ++ ys) }
