@@ -8,6 +8,15 @@ use std::test::Fail;
 
 const SPAWN: Event = Event::Spawn { site: 0, func: 1 };
 
+const CALL: Event = Event::Call { site: 0, func: 1 };
+
+const RET: Event = Event::Ret;
+
+const SYNC: Event = Event::Sync;
+
+/// Where a run of up to ten events is cut into parts of one.
+const CUTS: [u32; 9] = [1, 2, 3, 4, 5, 6, 7, 8, 9];
+
 /// A spawn within a spawn, and what follows both: the outer child is waited for at the end.
 const NESTED: [Event; 7] = [
     SPAWN,
@@ -187,52 +196,91 @@ fn parts_are_told_apart_and_together(rt: HostRuntime) -> Result<(), Fail> {
     Ok(())
 }
 
+/// A strand.
+fn s(count: u64) -> Event {
+    Event::Strand { count }
+}
+
+/// Whether a run of these events, in parts of one event, comes to this.
+fn run_comes_to(
+    alloc: Global,
+    events: &[Event],
+    end: Result<Figures, Fault>,
+) -> Result<bool, AllocError> {
+    let Some(cuts) = CUTS.get(..events.len().saturating_sub(1)) else {
+        return Ok(false);
+    };
+    let bytes = trace_of(alloc, events)?;
+    comes_to(alloc, &bytes, cuts, end)
+}
+
 #[test]
 fn parts_of_one_event_come_to_the_figures(rt: HostRuntime) -> Result<(), Fail> {
-    let ret = Event::Ret;
-    let sync = Event::Sync;
-    let small = [
-        Event::Strand { count: 1 },
-        SPAWN,
-        Event::Strand { count: 10 },
-        ret,
-        Event::Strand { count: 4 },
-        sync,
-        Event::Strand { count: 2 },
-    ];
-    let cuts = [1, 2, 3, 4, 5, 6];
-    let bytes = trace_of(rt.alloc(), &small)?;
-    assert!(rt; comes_to(rt.alloc(), &bytes, &cuts, figures(17, 13, 16))?);
-    let bytes = trace_of(rt.alloc(), &NESTED)?;
-    assert!(rt; comes_to(rt.alloc(), &bytes, &cuts, figures(6, 3, 9))?);
-    let bytes = trace_of(rt.alloc(), &[])?;
-    assert!(rt; comes_to(rt.alloc(), &bytes, &[], figures(0, 0, 0))?);
+    let most = u64::MAX;
+    let twice = 2 * u128::from(most);
+    for (events, end) in [
+        ([].as_slice(), figures(0, 0, 0)),
+        ([s(most), s(most)].as_slice(), figures(twice, twice, twice)),
+        (
+            [s(1), SPAWN, s(10), RET, s(4), SYNC, s(2)].as_slice(),
+            figures(17, 13, 16),
+        ),
+        ([SPAWN, s(4), RET, s(4), SYNC].as_slice(), figures(8, 4, 7)),
+        ([SPAWN, RET, SYNC].as_slice(), figures(0, 0, 3)),
+        (
+            [SPAWN, s(5), RET, SPAWN, s(5), RET, SYNC].as_slice(),
+            figures(10, 5, 11),
+        ),
+        ([SPAWN, s(7), RET, s(2)].as_slice(), figures(9, 7, 10)),
+        (
+            [CALL, s(1), CALL, s(1), CALL, s(1), RET, RET, RET].as_slice(),
+            figures(3, 3, 3),
+        ),
+        (
+            [SPAWN, SPAWN, s(3), RET, s(1), RET, s(2), SYNC, s(1)].as_slice(),
+            figures(7, 4, 10),
+        ),
+        (
+            [SPAWN, s(4), RET, s(1), SYNC, SPAWN, s(2), RET, s(5), SYNC].as_slice(),
+            figures(12, 9, 15),
+        ),
+        (NESTED.as_slice(), figures(6, 3, 9)),
+    ] {
+        assert!(rt; run_comes_to(rt.alloc(), events, end)?);
+    }
     Ok(())
 }
 
 #[test]
 fn parts_of_one_event_come_to_the_first_bad_event(rt: HostRuntime) -> Result<(), Fail> {
-    let ret = Event::Ret;
-    let bytes = trace_of(rt.alloc(), &[SPAWN, ret, ret, ret])?;
-    assert!(rt; comes_to(rt.alloc(), &bytes, &[1, 2, 3], fault(2, Why::RootReturn))?);
-    let bytes = trace_of(rt.alloc(), &[SPAWN, SPAWN, ret])?;
-    assert!(rt;
-        comes_to(
-            rt.alloc(),
-            &bytes,
-            &[1, 2],
-            fault(3, Why::Unclosed { depth: 1 })
-        )?
-    );
-    let mut bytes = trace_of(rt.alloc(), &[SPAWN, ret, ret])?;
+    for (events, end) in [
+        ([s(1), RET, s(2)].as_slice(), fault(1, Why::RootReturn)),
+        (
+            [CALL, s(1)].as_slice(),
+            fault(2, Why::Unclosed { depth: 1 }),
+        ),
+        ([SPAWN, RET, RET, RET].as_slice(), fault(2, Why::RootReturn)),
+        (
+            [SPAWN, SPAWN, RET].as_slice(),
+            fault(3, Why::Unclosed { depth: 1 }),
+        ),
+    ] {
+        assert!(rt; run_comes_to(rt.alloc(), events, end)?);
+    }
+    Ok(())
+}
+
+#[test]
+fn of_a_bad_record_and_a_return_of_the_root_the_first_is_told(rt: HostRuntime) -> Result<(), Fail> {
+    let mut bytes = trace_of(rt.alloc(), &[s(1), RET, s(5)])?;
+    let last = bytes.len().saturating_sub(16);
+    if let Some(tag) = bytes.get_mut(last) {
+        *tag = 9;
+    }
+    assert!(rt; comes_to(rt.alloc(), &bytes, &[1, 2], fault(1, Why::RootReturn))?);
+    let mut bytes = trace_of(rt.alloc(), &[SPAWN, RET, RET])?;
     bytes.truncate(bytes.len().saturating_sub(20));
-    assert!(rt;
-        comes_to(
-            rt.alloc(),
-            &bytes,
-            &[1, 2],
-            fault(1, Why::Event(EventFault::Truncated))
-        )?
-    );
+    let cut_off = fault(1, Why::Event(EventFault::Truncated));
+    assert!(rt; comes_to(rt.alloc(), &bytes, &[1, 2], cut_off)?);
     Ok(())
 }
