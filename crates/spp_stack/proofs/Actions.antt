@@ -1,0 +1,111 @@
+-- A summary acts on an entry as its events do one by one.
+use Rattle.std.proofs.Common.{◌≡◌, ℕ, ◌+◌, List, [], ◌∷◌, Some, Ok, refl, sym, ap, ◌∙◌, arith}
+use Rattle.spp_maxplus.specs.declared.state.Burdens.{Burdens}
+use Rattle.spp_maxplus.specs.declared.state.State.{State}
+use Rattle.spp_maxplus.specs.declared.seg.Seg.{Seg}
+use Rattle.spp_maxplus.specs.Seg as seg
+use Rattle.spp_maxplus.specs.State.{unburdened, close}
+use Rattle.spp_maxplus.proofs.SegLaws as one
+use Rattle.spp_event.specs.declared.records.Event.{Event}
+use Rattle.spp_event.specs.declared.records.Event.TheVariants.{Strand, Call, Spawn, Ret, Sync}
+use Rattle.spp_dag.specs.declared.stack.EntryFrame.{EntryFrame}
+use Rattle.spp_dag.specs.declared.stack.FrameKind.TheVariants as kind
+use Rattle.spp_dag.specs.Trace.{weight_of}
+use Rattle.spp_dag.specs.Stack.{after_child}
+use Rattle.spp_dag.specs.Steps.{opened, entry_after}
+use Rattle.spp_piece.specs.declared.pieces.Frame.{Frame}
+use Rattle.spp_piece.specs.declared.pieces.Kind.{Kind}
+use Rattle.spp_piece.specs.declared.pieces.Kind.TheVariants.{Called, Spawned}
+use Rattle.spp_piece.specs.declared.pieces.Segs.{Segs}
+use Rattle.spp_piece.specs.Pair.{act, fed, fed_by}
+use Rattle.spp_piece.specs.Stack.{with_states}
+use Rattle.spp_piece.specs.Model.{kind_of}
+use Rattle.spp_piece.specs.Machine.{event}
+use Rattle.spp_piece.specs.Summary.{later}
+use Rattle.spp_piece.proofs.Play.{Laws}
+use Rattle.spp_stack.specs.Machine.{now, along_by, ret_by, push_by, worked_by, entered, entry_ops, IsOpen}
+
+idle_by : (fs : List EntryFrame) (w : ℕ) → along_by fs seg.idle w ≡ now fs w
+idle_by [] w = refl
+idle_by (f ∷ fs) w = ap (λ (s : State). now (record f { state = s } ∷ fs) w) (one.act_idle f.state)
+
+then_by : (a b : Seg) (fs : List EntryFrame) (w : ℕ) → along_by fs (seg.then a b) w ≡ along_by (along_by fs a w).frames b (along_by fs a w).work
+then_by a b [] w = refl
+then_by a b (f ∷ fs) w = ap (λ (s : State). now (record f { state = s } ∷ fs) w) (one.act-then a b f.state)
+
+along_push : (g : Segs) (f : Frame) (fs : List EntryFrame) (w : ℕ)
+    → along_by (push_by fs f w).frames g.plain (push_by fs f w).work ≡ push_by fs (with_states (act g f.states) f) w
+along_push g f [] w = refl
+along_push g f (e ∷ es) w = refl
+
+fed_plain : (k : Kind) (burden : Burdens) (at g h : ℕ) (s : State) → after_child unburdened (kind_of k) at g s ≡ seg.act (fed_by k burden at g h).plain s
+fed_plain Called burden at g h s = sym (one.act-call g s)
+fed_plain Spawned burden at g h s = sym (one.act-spawn at g unburdened s)
+
+ret_push : (burden : Burdens) (f : Frame) (fs : List EntryFrame) (w : ℕ) → ret_by (push_by fs f w).frames (push_by fs f w).work ≡ along_by fs (fed burden f).plain w
+ret_push burden f [] w = refl
+ret_push burden f (e ∷ es) w =
+    ap (λ (s : State). now (record e { state = s } ∷ es) w) (fed_plain f.kind burden f.at (close f.states.plain) (close f.states.burdened) e.state)
+
+no_work : (fs : List EntryFrame) (w : ℕ) → worked_by fs 0 w ≡ now fs w
+no_work [] w = refl
+no_work (f ∷ fs) w = ap (λ n. now (f ∷ fs) n) (let z : w + 0 ≡ w = omega arith in z)
+
+worked_worked : (m n : ℕ) (fs : List EntryFrame) (w : ℕ) → worked_by (worked_by fs m w).frames n (worked_by fs m w).work ≡ worked_by fs (m + n) w
+worked_worked m n [] w = refl
+worked_worked m n (f ∷ fs) w = ap (λ k. now (f ∷ fs) k) (let z : w + m + n ≡ w + (m + n) = omega arith in z)
+
+along_worked : (g : Segs) (n : ℕ) (fs : List EntryFrame) (w : ℕ)
+    → along_by (worked_by fs n w).frames g.plain (worked_by fs n w).work ≡ worked_by (along_by fs g.plain w).frames n (along_by fs g.plain w).work
+along_worked g n [] w = refl
+along_worked g n (f ∷ fs) w = refl
+
+ret_worked : (n : ℕ) (fs : List EntryFrame) (w : ℕ) → ret_by (worked_by fs n w).frames (worked_by fs n w).work ≡ worked_by (ret_by fs w).frames n (ret_by fs w).work
+ret_worked n [] w = refl
+ret_worked n (f ∷ []) w = refl
+ret_worked n (f ∷ g ∷ fs) w = refl
+
+push_worked : (f : Frame) (n : ℕ) (fs : List EntryFrame) (w : ℕ)
+    → push_by (worked_by fs n w).frames f (worked_by fs n w).work ≡ worked_by (push_by fs (later n f) w).frames n (push_by fs (later n f) w).work
+push_worked f n [] w = refl
+push_worked f n (e ∷ es) w =
+    ap (λ k. now (record (entered f (e ∷ es) e es w) { before = k } ∷ e ∷ es) (w + n)) (let z : w + n + f.before ≡ w + (n + f.before) = omega arith in z)
+
+pub entry_laws : (burden : Burdens) → Laws burden entry_ops
+entry_laws burden = record {
+  idle = λ x. idle_by x.frames x.work;
+  then = λ a b x. then_by a.plain b.plain x.frames x.work;
+  along-push = λ g f x. along_push g f x.frames x.work;
+  ret-push = λ at f x. ret_push burden f x.frames x.work;
+  no_work = λ x. no_work x.frames x.work;
+  worked-worked = λ m n x. worked_worked m n x.frames x.work;
+  along-worked = λ g n x. along_worked g n x.frames x.work;
+  ret-worked = λ at n x. ret_worked n x.frames x.work;
+  push-worked = λ f n x. push_worked f n x.frames x.work;
+  along-fail = λ g q x. refl;
+  ret-fail = λ at q x. refl;
+  push-fail = λ f q x. refl;
+  worked-fail = λ n q x. refl;
+  fail-fail = λ p q x. refl;
+}
+
+-- ---- an event
+
+plus_zero : (w : ℕ) → w + 0 ≡ w
+plus_zero w = omega arith
+
+pub step_is : (at : ℕ) (e : Event) (fs : List EntryFrame) (w : ℕ) → IsOpen (entry_after at e w fs)
+    → event entry_ops at (Ok e) (now fs w) ≡ now (entry_after at e w fs) (w + weight_of (Some e))
+step_is at e [] w h = absurd h
+step_is at (Strand n) (f ∷ fs) w h = ap (λ (s : State). now (record f { state = s } ∷ fs) (w + n)) (one.act-strand n f.state)
+step_is at (Call site func) (f ∷ fs) w h =
+    ap (λ b. now (record (opened kind.Called at site func w f fs) { before = b } ∷ f ∷ fs) w) (plus_zero w)
+    ∙ ap (λ k. now (opened kind.Called at site func w f fs ∷ f ∷ fs) k) (sym (plus_zero w))
+step_is at (Spawn site func) (f ∷ fs) w h =
+    ap (λ b. now (record (opened kind.Spawned at site func w f fs) { before = b } ∷ f ∷ fs) w) (plus_zero w)
+    ∙ ap (λ k. now (opened kind.Spawned at site func w f fs ∷ f ∷ fs) k) (sym (plus_zero w))
+step_is at Sync (f ∷ fs) w h =
+    ap (λ (s : State). now (record f { state = s } ∷ fs) w) (one.act-sync f.state)
+    ∙ ap (λ k. now (entry_after at Sync w (f ∷ fs)) k) (sym (plus_zero w))
+step_is at Ret (f ∷ []) w h = absurd h
+step_is at Ret (f ∷ g ∷ fs) w h = ap (λ k. now (entry_after at Ret w (f ∷ g ∷ fs)) k) (sym (plus_zero w))

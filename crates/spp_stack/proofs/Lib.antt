@@ -1,0 +1,7 @@
+pub mod Chains
+pub mod Marked
+pub mod Standing
+pub mod Passing
+pub mod Actions
+pub mod Following
+pub mod Gone

@@ -1,0 +1,249 @@
+-- What the steps of the walk do to the stack that stands.
+use Rattle.std.proofs.Common.{◌≡◌, ℕ, ◌+◌, ◌-◌, ◌<◌, ◌≤◌, Bool, true, not, ◌||◌, nat_eq, List, [], ◌∷◌, ◌++◌, length, get_or, Some, refl, sym, ap, subst, ◌∙◌, arith}
+use Rattle.std.specs.Prelude.{slice_get}
+use Rattle.std.proofs.lemmas.Option.{slice_get_read}
+use Rattle.spp_maxplus.specs.declared.seg.Seg.{Seg}
+use Rattle.spp_maxplus.specs.Seg.{act, peak}
+use Rattle.spp_maxplus.specs.State.{unburdened, close}
+use Rattle.spp_dag.specs.declared.stack.EntryFrame.{EntryFrame}
+use Rattle.spp_dag.specs.declared.stack.FrameKind.{FrameKind}
+use Rattle.spp_dag.specs.declared.stack.FrameKind.TheVariants as kind
+use Rattle.spp_dag.specs.Stack.{after_child}
+use Rattle.spp_dag.specs.Steps.{has_site, has_func, same_key, site_by}
+use Rattle.spp_piece.specs.declared.pieces.Frame.{Frame}
+use Rattle.spp_piece.specs.declared.pieces.Kind.{Kind}
+use Rattle.spp_piece.specs.declared.pieces.Kind.TheVariants.{Called, Spawned}
+use Rattle.spp_piece.specs.Model.{kind_of}
+use Rattle.spp_stack.specs.declared.node.Node.{Node}
+use Rattle.spp_stack.specs.declared.walk.Walk.{Walk}
+use Rattle.spp_stack.specs.declared.marks.Marks.{Marks}
+use Rattle.spp_stack.specs.Marks.{is_marked}
+use Rattle.spp_stack.specs.Chain.{IsNodeOf, IsUnder, IsChain, IsTree, IsMarked}
+use Rattle.spp_stack.specs.Machine.{Now, entered, along_by, push_by, ret_by, worked_by, IsOpen, peaks}
+use Rattle.spp_stack.specs.Walk.{HoldsAll, Stands, IsKept, IsCleared, Unmarked, moved}
+use Rattle.spp_stack.proofs.Chains.{chain_more, tree_more, under_more, chain_depth, link}
+use Rattle.spp_stack.proofs.Marked.{marks_added, marks_removed}
+
+-- ---- the innermost frame's state changes
+
+pub moved_stands : (w : Walk) (g : Seg) (x : Now) → Stands w x → Stands (moved g w) (along_by x.frames g x.work)
+moved_stands w g x s = by x.frames s.frames
+  where
+    by : (fs : List EntryFrame) → HoldsAll w fs → Stands (moved g w) (along_by fs g x.work)
+    by [] h = absurd h
+    by (f ∷ fs) h = record {
+      frames = record {
+        top = record {
+          frame = ap (λ (z : EntryFrame). record z { state = act g z.state }) h.top.frame;
+          depth = h.top.depth;
+          top_func = h.top.top_func;
+          top_site = h.top.top_site;
+        };
+        under = h.under;
+        rest = h.rest;
+        sites = h.sites;
+        funcs = h.funcs;
+      };
+      tree = s.tree;
+      work = s.work;
+    }
+
+pub top_peak : (w : Walk) (x : Now) → Stands w x → peak w.top.frame.state ≤ peaks x.frames
+top_peak w x s = by x.frames s.frames
+  where
+    by : (fs : List EntryFrame) → HoldsAll w fs → peak w.top.frame.state ≤ peaks fs
+    by [] h = absurd h
+    by (f ∷ fs) h = let e : peak w.top.frame.state ≡ peak f.state = ap (λ (z : EntryFrame). peak z.state) h.top.frame in omega arith
+
+-- ---- a node is added
+
+pub kept_stands : (w v : Walk) → v.nodes.items ≡ w.nodes.items ++ w.top ∷ [] → v.top ≡ w.top → v.sites ≡ w.sites → v.funcs ≡ w.funcs → v.work ≡ w.work
+    → length v.nodes.items ≡ length w.nodes.items + 1 → (x : Now) → Stands w x → Stands v x
+kept_stands w v nodes top sites funcs work long x s = record {
+  frames = by x.frames s.frames;
+  tree = subst (λ l. IsTree l) (sym nodes) (tree_more w.nodes.items w.top s.tree (under x.frames s.frames));
+  work = work ∙ s.work;
+}
+  where
+    under : (fs : List EntryFrame) → HoldsAll w fs → IsUnder (length w.nodes.items) w.top.below
+    under [] h = absurd h
+    under (f ∷ fs) h = h.under
+
+    by : (fs : List EntryFrame) → HoldsAll w fs → HoldsAll v fs
+    by [] h = absurd h
+    by (f ∷ fs) h = record {
+      top = subst (λ (t : Node). IsNodeOf t f fs) (sym top) h.top;
+      under = subst (λ (t : Node). IsUnder (length v.nodes.items) t.below) (sym top) (under_more (length w.nodes.items) (length v.nodes.items) w.top.below (omega arith) h.under);
+      rest = subst (λ (t : Node). IsChain v.nodes.items t.below fs) (sym top) (subst (λ l. IsChain l w.top.below fs) (sym nodes) (chain_more w.nodes.items w.top w.top.below fs h.rest));
+      sites = λ y. ap (λ (m : Marks). is_marked m.bits.items y) sites ∙ h.sites y;
+      funcs = λ y. ap (λ (m : Marks). is_marked m.bits.items y) funcs ∙ h.funcs y;
+    }
+
+pub depth_fits : (w : Walk) (x : Now) → IsKept w → Stands w x → w.top.depth + 1 ≤ length w.nodes.items
+depth_fits w x kept s = by x.frames s.frames
+  where
+    by : (fs : List EntryFrame) → HoldsAll w fs → w.top.depth + 1 ≤ length w.nodes.items
+    by [] h = absurd h
+    by (f ∷ fs) h =
+        let n = length w.nodes.items - 1 in
+        let short = chain_depth w.nodes.items w.top.below n fs (s.tree n w.top kept.1) h.rest in
+        let some = kept.0 in
+        let depth = h.top.depth in
+        omega arith
+
+-- ---- a frame is opened
+
+marked_kind : (k : Kind) (site : ℕ) (fs : List EntryFrame) → IsMarked (kind_of k) (not (has_site fs site)) site fs
+marked_kind Called site fs = refl
+marked_kind Spawned site fs = refl
+
+key_kind : (k : Kind) (site y : ℕ) → same_key (site_by (kind_of k) site) (Some y) ≡ nat_eq site y
+key_kind Called site y = refl
+key_kind Spawned site y = refl
+
+-- the frame as the walk makes it
+abbrev pub made : Walk → Frame → EntryFrame
+made w x = record {
+  kind = kind_of x.kind;
+  at = x.at;
+  site = x.site;
+  func = x.func;
+  before = w.work + x.before;
+  state = x.states.plain;
+  top_site = not (is_marked w.sites.bits.items x.site);
+  top_caller = w.top.top_func;
+}
+
+pub record Entered (w v : Walk) (x : Frame) : Type 0 where
+  pub nodes : v.nodes ≡ w.nodes
+  pub work : v.work ≡ w.work
+  pub frame : v.top.frame ≡ made w x
+  pub below : ℕ
+  pub last : below + 1 ≡ length w.nodes.items
+  pub is_below : v.top.below ≡ Some below
+  pub depth : v.top.depth ≡ w.top.depth + 1
+  pub top_func : v.top.top_func ≡ not (is_marked w.funcs.bits.items x.func)
+  pub site : is_marked v.sites.bits.items x.site ≡ true
+  pub sites : (y : ℕ) → (y ≡ x.site → ⊥) → is_marked v.sites.bits.items y ≡ is_marked w.sites.bits.items y
+  pub func : is_marked v.funcs.bits.items x.func ≡ true
+  pub funcs : (y : ℕ) → (y ≡ x.func → ⊥) → is_marked v.funcs.bits.items y ≡ is_marked w.funcs.bits.items y
+
+pub entered_stands : (w v : Walk) (x : Frame) → IsKept w → Entered w v x → (n : Now) → Stands w n → Stands v (push_by n.frames x n.work)
+entered_stands w v x kept e n s = by n.frames s.frames
+  where
+    by : (fs : List EntryFrame) → HoldsAll w fs → Stands v (push_by fs x n.work)
+    by [] h = absurd h
+    by (f ∷ fs) h =
+        let all = f ∷ fs in
+        let new = entered x (f ∷ fs) f fs n.work in
+        let site : not (is_marked w.sites.bits.items x.site) ≡ not (has_site (f ∷ fs) x.site) = ap not (h.sites x.site) in
+        let caller : w.top.top_func ≡ not (has_func fs f.func) = h.top.top_func in
+        let work : w.work + x.before ≡ n.work + x.before = ap (λ k. k + x.before) s.work in
+        let frame : v.top.frame ≡ new = e.frame ∙ cc in
+        let at : length w.nodes.items - 1 ≡ e.below = omega (arith, e.last) in
+        let get : slice_get w.nodes.items e.below ≡ Some w.top = subst (λ k. slice_get w.nodes.items k ≡ Some w.top) at kept.1 in
+        let down : e.below < length w.nodes.items = omega (arith, e.last) in
+        let chain : IsChain w.nodes.items (Some e.below) (f ∷ fs) = (w.top, get, h.top, s.tree e.below w.top get, h.rest) in
+        record {
+          frames = record {
+            top = record {
+              frame = frame;
+              depth = let d = e.depth in let z = h.top.depth in omega arith;
+              top_func = e.top_func ∙ ap not (h.funcs x.func);
+              top_site = subst (λ b. IsMarked (kind_of x.kind) b x.site (f ∷ fs)) refl (marked_kind x.kind x.site (f ∷ fs));
+            };
+            under = subst (λ o. IsUnder (length v.nodes.items) o) (sym e.is_below) (subst (λ (u : _). e.below < length u) (ap (λ z. z.items) (sym e.nodes)) down);
+            rest = subst (λ o. IsChain v.nodes.items o (f ∷ fs)) (sym e.is_below) (subst (λ u. IsChain u (Some e.below) (f ∷ fs)) (ap (λ z. z.items) (sym e.nodes)) chain);
+            sites = λ y. marks_added x.site (is_marked w.sites.bits.items) (is_marked v.sites.bits.items) (has_site (f ∷ fs)) e.site e.sites h.sites y
+                ∙ ap (λ b. b || has_site (f ∷ fs) y) (sym (key_kind x.kind x.site y));
+            funcs = λ y. marks_added x.func (is_marked w.funcs.bits.items) (is_marked v.funcs.bits.items) (has_func (f ∷ fs)) e.func e.funcs h.funcs y;
+          };
+          tree = subst (λ u. IsTree u) (ap (λ z. z.items) (sym e.nodes)) s.tree;
+          work = e.work ∙ s.work;
+        }
+
+-- ---- a frame returns
+
+-- nothing stands below the root
+key_marked : (k : FrameKind) (top : Bool) (site : ℕ) (g : EntryFrame) (fs : List EntryFrame) → IsMarked k top site (g ∷ fs)
+    → (top ≡ not (has_site (g ∷ fs) site)) × ((y : ℕ) → same_key (site_by k site) (Some y) ≡ nat_eq site y)
+key_marked kind.Root top site g fs h = absurd (cc)
+key_marked kind.Called top site g fs h = (h, λ y. refl)
+key_marked kind.Spawned top site g fs h = (h, λ y. refl)
+
+pub record Closed (w u v : Walk) : Type 0 where
+  pub cleared : Unmarked w u
+  pub nodes : v.nodes ≡ w.nodes
+  pub work : v.work ≡ w.work
+  pub sites : v.sites ≡ u.sites
+  pub funcs : v.funcs ≡ u.funcs
+  pub below : ℕ
+  pub is_below : w.top.below ≡ Some below
+  pub node : Node
+  pub got : node ≡ get_or w.nodes.items below node
+  pub under : v.top.below ≡ node.below
+  pub depth : v.top.depth ≡ node.depth
+  pub top_func : v.top.top_func ≡ node.top_func
+  pub frame : v.top.frame ≡ record node.frame { state = after_child unburdened w.top.frame.kind w.top.frame.at (close w.top.frame.state) node.frame.state }
+
+pub closed_stands : (w u v : Walk) → Closed w u v → (x : Now) → Stands w x → IsOpen (ret_by x.frames x.work).frames → Stands v (ret_by x.frames x.work)
+closed_stands w u v e x s = by x.frames s.frames
+  where
+    by : (fs : List EntryFrame) → HoldsAll w fs → IsOpen (ret_by fs x.work).frames → Stands v (ret_by fs x.work)
+    by [] h goes = absurd h
+    by (f ∷ []) h goes = absurd goes
+    by (f ∷ g ∷ fs) h goes =
+        let down : e.below < length w.nodes.items = subst (λ o. IsUnder (length w.nodes.items) o) e.is_below h.under in
+        let l = link w.nodes.items w.top.below e.below g fs e.node e.is_below (slice_get_read w.nodes.items _ e.below e.node refl down e.got) h.rest in
+        let is : w.top.frame ≡ f = h.top.frame in
+        let parent : e.node.frame ≡ g = l.is.frame in
+        let items : w.nodes.items ≡ v.nodes.items = ap (λ z. z.items) (sym e.nodes) in
+        let marked = key_marked f.kind f.top_site f.site g fs h.top.top_site in
+        record {
+          frames = record {
+            top = record {
+              frame = e.frame ∙ subst (λ (z : EntryFrame). record e.node.frame { state = after_child unburdened w.top.frame.kind w.top.frame.at (close w.top.frame.state) e.node.frame.state }
+                  ≡ record g { state = after_child unburdened z.kind z.at (close z.state) g.state }) is
+                  (subst (λ (z : EntryFrame). record e.node.frame { state = after_child unburdened w.top.frame.kind w.top.frame.at (close w.top.frame.state) e.node.frame.state }
+                  ≡ record z { state = after_child unburdened w.top.frame.kind w.top.frame.at (close w.top.frame.state) z.state }) parent refl);
+              depth = e.depth ∙ l.is.depth;
+              top_func = e.top_func ∙ l.is.top_func;
+              top_site = l.is.top_site;
+            };
+            under = subst (λ o. IsUnder (length v.nodes.items) o) (sym e.under) (subst (λ u. IsUnder (length u) e.node.below) items (under_more e.below (length w.nodes.items) e.node.below (omega arith) l.under));
+            rest = subst (λ o. IsChain v.nodes.items o fs) (sym e.under) (subst (λ u. IsChain u e.node.below fs) items l.rest);
+            sites = λ y. ap (λ (m : Marks). is_marked m.bits.items y) e.sites
+                ∙ marks_removed f.top_site f.site w.sites.bits.items u.sites.bits.items (has_site (g ∷ fs)) marked.0
+                (subst (λ (z : EntryFrame). IsCleared z.top_site z.site w.sites.bits.items u.sites.bits.items) is e.cleared.sites)
+                (λ z. h.sites z ∙ ap (λ b. b || has_site (g ∷ fs) z) (marked.1 z)) y;
+            funcs = λ y. ap (λ (m : Marks). is_marked m.bits.items y) e.funcs
+                ∙ marks_removed w.top.top_func f.func w.funcs.bits.items u.funcs.bits.items (has_func (g ∷ fs)) h.top.top_func
+                (subst (λ (z : EntryFrame). IsCleared w.top.top_func z.func w.funcs.bits.items u.funcs.bits.items) is e.cleared.funcs)
+                h.funcs y;
+          };
+          tree = subst (λ u. IsTree u) items s.tree;
+          work = e.work ∙ s.work;
+        }
+
+-- ---- the work of a part is added
+
+pub worked_stands : (w v : Walk) (n : ℕ) → v.nodes ≡ w.nodes → v.top ≡ w.top → v.sites ≡ w.sites → v.funcs ≡ w.funcs → v.work ≡ w.work + n
+    → (x : Now) → Stands w x → Stands v (worked_by x.frames n x.work)
+worked_stands w v n nodes top sites funcs work x s = by x.frames s.frames
+  where
+    same : w.nodes.items ≡ v.nodes.items
+    same = ap (λ z. z.items) (sym nodes)
+
+    by : (fs : List EntryFrame) → HoldsAll w fs → Stands v (worked_by fs n x.work)
+    by [] h = absurd h
+    by (f ∷ fs) h = record {
+      frames = record {
+        top = subst (λ (t : Node). IsNodeOf t f fs) (sym top) h.top;
+        under = subst (λ (t : Node). IsUnder (length v.nodes.items) t.below) (sym top) (subst (λ l. IsUnder (length l) w.top.below) same h.under);
+        rest = subst (λ (t : Node). IsChain v.nodes.items t.below fs) (sym top) (subst (λ l. IsChain l w.top.below fs) same h.rest);
+        sites = λ y. ap (λ (m : Marks). is_marked m.bits.items y) sites ∙ h.sites y;
+        funcs = λ y. ap (λ (m : Marks). is_marked m.bits.items y) funcs ∙ h.funcs y;
+      };
+      tree = subst (λ l. IsTree l) same s.tree;
+      work = work ∙ ap (λ k. k + n) s.work;
+    }

@@ -1,0 +1,27 @@
+use Rattle.std.proofs.Common.{not, refl, ap, arith}
+use Rattle.spp_stack.proofs.Standing.{depth_fits, entered_stands}
+use Rattle.spp_stack.proofs.walk.Walk.enter.Goals as goal
+
+pub overflow_add-node-2 : goal.overflow_add-node-2
+overflow_add-node-2 c =
+    let h = c.requires.stands in
+    omega (arith, depth_fits c.args.self.now h.0 c.requires.kept h.1, c.requires.few)
+
+pub returns-clause-stands : goal.returns-clause-stands
+returns-clause-stands c =
+    let kind = c.kind_of.ensures in
+    let top = c.has.ensures in
+    entered_stands c.args.self.now _ c.args.frame.now c.requires.kept (record {
+      nodes = refl;
+      work = refl;
+      frame = cc;
+      below = c.last.result;
+      last = c.last.ensures;
+      is_below = refl;
+      depth = refl;
+      top_func = ap not c.has-2.ensures;
+      site = c.in_ok-add.ensures.there;
+      sites = c.in_ok-add.ensures.others;
+      func = c.in_ok-add-2.ensures.there;
+      funcs = c.in_ok-add-2.ensures.others;
+    })

@@ -1,0 +1,5 @@
+pub mod Marks
+pub mod Chain
+pub mod Parts
+pub mod Machine
+pub mod Walk

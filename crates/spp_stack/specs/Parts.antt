@@ -1,0 +1,39 @@
+-- Summaries of the parts of a trace.
+use Rattle.std.specs.Prelude.{◌≡◌, ℕ, ◌+◌, List, [], ◌∷◌, length, take, drop}
+use Rattle.std.specs.List.{sum_by}
+use Rattle.spp_event.specs.declared.records.Event.{Event}
+use Rattle.spp_event.specs.Recordings.{Record}
+use Rattle.spp_dag.specs.declared.stack.EntryFrame.{EntryFrame}
+use Rattle.spp_dag.specs.Trace.{records, IsWellFormed}
+use Rattle.spp_dag.specs.Limits.{IsSmall}
+use Rattle.spp_dag.specs.Choices.{IsEntry}
+use Rattle.spp_piece.specs.Account.{Account, account_of}
+use Rattle.spp_stack.specs.Chain.{Stacks, IsStart}
+
+-- The accounts are those of parts into which the records, of which the first has that position, are cut: the first account
+-- of as many records as it counts, the second of as many after these, and so on up to the last record.
+abbrev pub AreAccounts : ℕ → List Record → List Account → Type 0
+AreAccounts first rs [] = rs ≡ []
+AreAccounts first rs (a ∷ others) =
+    (a ≡ account_of a.burden first (take a.events rs)) × AreAccounts (first + a.events) (drop a.events rs) others
+
+-- the accounts are those of the parts of a cut of the events, which are a well-formed trace within the limits
+pub record AreOfParts (es : List Event) (accounts : List Account) : Type 0 where
+  pub well_formed : IsWellFormed es
+  pub small : IsSmall es
+  pub are : AreAccounts 0 (records es) accounts
+
+-- the position where part k begins; behind the last part the end
+abbrev pub begin_of : List Account → ℕ → ℕ
+begin_of accounts k = sum_by (λ a. a.events) (take k accounts)
+
+-- how many frames the parts leave open, all together
+abbrev pub open_count : List Account → ℕ
+open_count accounts = sum_by (λ a. length a.sum.frames) accounts
+
+-- start k is the entry of the position where part k begins
+pub record IsEntryOf (es : List Event) (root : ℕ) (accounts : List Account) (s : Stacks) (k : ℕ) : Type 0 where
+  pub frames : List EntryFrame
+  pub work : ℕ
+  pub is : IsEntry es root (begin_of accounts k) frames work
+  pub start : IsStart s k frames work

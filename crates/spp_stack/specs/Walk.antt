@@ -1,0 +1,53 @@
+-- The stack while the parts are gone through.
+use Rattle.std.specs.Prelude.{◌≡◌, ℕ, ◌-◌, ◌<◌, Bool, true, false, List, [], ◌∷◌, length, slice_get, Option, Some}
+use Rattle.spp_dag.specs.declared.stack.EntryFrame.{EntryFrame}
+use Rattle.spp_dag.specs.Steps.{has_site, has_func}
+use Rattle.spp_stack.specs.declared.node.Node.{Node}
+use Rattle.spp_stack.specs.declared.walk.Walk.{Walk}
+use Rattle.spp_stack.specs.Marks.{is_marked}
+use Rattle.spp_stack.specs.Chain.{IsNodeOf, IsUnder, IsChain, IsTree}
+use Rattle.spp_stack.specs.Machine.{Now}
+use Rattle.spp_maxplus.specs.declared.seg.Seg.{Seg}
+use Rattle.spp_maxplus.specs.Seg.{act}
+
+-- the innermost frame is f, and fs are below it
+pub record Holds (w : Walk) (f : EntryFrame) (fs : List EntryFrame) : Type 0 where
+  pub top : IsNodeOf w.top f fs
+  pub under : IsUnder (length w.nodes.items) w.top.below
+  pub rest : IsChain w.nodes.items w.top.below fs
+  pub sites : (x : ℕ) → is_marked w.sites.bits.items x ≡ has_site (f ∷ fs) x
+  pub funcs : (x : ℕ) → is_marked w.funcs.bits.items x ≡ has_func (f ∷ fs) x
+
+abbrev pub HoldsAll : Walk → List EntryFrame → Type 0
+HoldsAll w [] = ⊥
+HoldsAll w (f ∷ fs) = Holds w f fs
+
+pub record Stands (w : Walk) (x : Now) : Type 0 where
+  pub frames : HoldsAll w x.frames
+  pub tree : IsTree w.nodes.items
+  pub work : w.work ≡ x.work
+
+-- the last node is the innermost frame's
+abbrev pub IsKept : Walk → Type 0
+IsKept w = (0 < length w.nodes.items) × (slice_get w.nodes.items (length w.nodes.items - 1) ≡ Some w.top)
+
+-- the same with another state of the innermost frame
+abbrev pub moved : Seg → Walk → Walk
+moved g w = record w { top = record w.top { frame = record w.top.frame { state = act g w.top.frame.state } } }
+
+-- all stacks of the one list of nodes are in the other
+abbrev pub AreKept : List Node → List Node → Type 0
+AreKept nodes more = (o : Option ℕ) (fs : List EntryFrame) → IsChain nodes o fs → IsChain more o fs
+
+-- the site and the function of the innermost frame are no longer marked, where its own marks are set; the rest is the same
+abbrev pub IsCleared : Bool → ℕ → List Bool → List Bool → Type 0
+IsCleared false x bits after = bits ≡ after
+IsCleared true x bits after =
+    (is_marked after x ≡ false) × ((y : ℕ) → (y ≡ x → ⊥) → is_marked after y ≡ is_marked bits y)
+
+pub record Unmarked (w v : Walk) : Type 0 where
+  pub nodes : v.nodes ≡ w.nodes
+  pub top : v.top ≡ w.top
+  pub work : v.work ≡ w.work
+  pub sites : IsCleared w.top.frame.top_site w.top.frame.site w.sites.bits.items v.sites.bits.items
+  pub funcs : IsCleared w.top.top_func w.top.frame.func w.funcs.bits.items v.funcs.bits.items

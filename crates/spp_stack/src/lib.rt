@@ -1,0 +1,16 @@
+//! The frames that are open where each part of a trace begins, found from the summaries of the parts alone.
+//!
+//! The stacks share their frames: each open frame is a node that names the node of the frame below it, so that the stacks
+//! of all parts together take memory linear in the numbers of parts and of frames that some part leaves open.
+#![tactic(auto)]
+
+mod marks;
+mod node;
+mod parts;
+mod reading;
+mod stacks;
+mod walk;
+
+pub use node::Node;
+pub use parts::entries;
+pub use stacks::{Entries, Entry};

@@ -1,0 +1,45 @@
+//! The stacks of a trace, found part by part.
+
+ghost use Rattle.std.specs.Prelude.{◌≡◌, ℕ, ◌+◌, ◌≤◌, List, length, IfOk};
+ghost use Rattle.spp_event.specs.declared.records.Event.{Event as EventValue};
+ghost use Rattle.spp_stack.specs.Parts.{AreOfParts, IsEntryOf, open_count};
+
+use crate::reading::burdens_fit;
+use crate::stacks::{Entries, Start};
+use crate::walk::Walk;
+use spp_piece::Summary;
+use std::alloc::{AllocError, Global};
+
+/// The open frames where each part of a trace begins, and where it ends, from the summaries of its parts in order. The
+/// root frame runs the function `root`. The burdens of the summaries have no part in it.
+///
+/// It takes time and memory linear in the numbers of parts, of the frames that they leave open and of those that they
+/// close and don't open, and in the greatest numbers of their sites and functions. There are no more nodes than one,
+/// the parts, and the frames that parts leave open.
+///
+/// # Errors
+///
+/// Where a growth was refused.
+pub fn entries(alloc: Global, root: u32, summaries: &[Summary]) -> Result<Entries, AllocError>
+    requires parts { (es : List EventValue) × AreOfParts es summaries.now }
+    requires few { length summaries.now ≤ 65536 }
+    ensures starts { IfOk result (λ r. length r.starts ≡ length summaries.now + 1) }
+    ensures nodes { IfOk result (λ r. length r.nodes ≤ 1 + length summaries.now + open_count summaries.now) }
+    ensures entries { IfOk result (λ r. (es : List EventValue) → AreOfParts es summaries.now → (k : ℕ) → k ≤ length summaries.now → IsEntryOf es root summaries.now r k) }
+{
+    let mut walk = Walk::start(alloc, root)?;
+    let mut starts = Vec::with_capacity(alloc, summaries.len() + 1)?;
+    starts.push(Start { top: 0, work: 0 })?;
+    for summary in summaries {
+        burdens_fit(summary.burden());
+        walk.pass(alloc, summary)?;
+        starts.push(Start {
+            top: walk.last(),
+            work: walk.work,
+        })?;
+    }
+    Ok(Entries {
+        nodes: walk.nodes,
+        starts,
+    })
+}

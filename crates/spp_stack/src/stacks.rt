@@ -1,0 +1,136 @@
+//! The stacks where the parts of a trace begin.
+
+ghost use Rattle.std.specs.Prelude.{◌≡◌, ℕ, ◌+◌, ◌<◌, [], ◌∷◌, List, length, slice_get, IfSome, Some, None};
+ghost use Rattle.spp_dag.specs.declared.stack.EntryFrame.{EntryFrame as FrameValue};
+ghost use Rattle.spp_stack.specs.Chain.{IsStart, IsNodeOf, HasFrames};
+
+use crate::node::Node;
+use std::marker::Model;
+
+/// Where a part begins, or where the trace ends.
+#[derive(Clone, Copy, Debug, PartialEq, Eq)]
+pub(crate) struct Start {
+    /// The number of the innermost open frame's node.
+    pub(crate) top: u32,
+    /// The work of the trace before, in instructions.
+    pub(crate) work: u128,
+}
+
+/// The open frames where each part of a trace begins, and where the trace ends. Stacks share the nodes of the frames that
+/// they have in common.
+///
+/// Contracts see its nodes, and for each part and the end the number of a node and a work.
+#[derive(Drop)]
+pub struct Entries {
+    pub(crate) nodes: Vec<Node>,
+    pub(crate) starts: Vec<Start>,
+}
+
+impl Model for Entries {
+    ghost use Rattle.spp_stack.specs.Chain.{Stacks, AreSound};
+
+    ghost Value = { Stacks };
+
+    ghost view = { λ e. record { nodes = e.nodes.items; starts = e.starts.items } };
+
+    ghost invariant = { λ e. AreSound (record { nodes = e.nodes.items; starts = e.starts.items }) };
+}
+
+/// The frames that are open at one place of a trace, the root among them.
+///
+/// Contracts see the nodes, the number of its innermost frame's, and the work of the trace before it.
+#[derive(Drop)]
+pub struct Entry<'e> {
+    nodes: &'e [Node],
+    top: u32,
+    work: u128,
+}
+
+impl<'e> Model for Entry<'e> {
+    ghost use Rattle.spp_stack.specs.Chain.{StackOf, IsSoundStack};
+
+    ghost Value = { StackOf };
+
+    ghost view = { λ e. record { nodes = e.nodes.now; top = e.top; work = e.work } };
+
+    ghost invariant = { λ e. IsSoundStack (record { nodes = e.nodes.now; top = e.top; work = e.work }) };
+}
+
+impl<'e> Entry<'e> {
+    /// The work of the trace before it, in instructions.
+    pub fn work(&self) -> u128
+        ensures { result ≡ self.now.work }
+    {
+        self.work
+    }
+
+    /// The number of frames that are open, without the root.
+    pub fn depth(&self) -> u32
+        ensures { (f : FrameValue) (fs : List FrameValue) → HasFrames self.now (f ∷ fs) → result ≡ length fs }
+    {
+        self.innermost().depth
+    }
+
+    /// The innermost frame's node.
+    pub fn innermost(&self) -> &'e Node
+        ensures node { slice_get self.now.nodes self.now.top ≡ Some result.now }
+        ensures frame { (f : FrameValue) (fs : List FrameValue) → HasFrames self.now (f ∷ fs) → IsNodeOf result.now f fs }
+    {
+        &self.nodes[self.top as usize]
+    }
+
+    /// The frames without the innermost one; none where that is the root. It takes a constant time and no memory.
+    pub fn below(&self) -> Option<Entry<'e>>
+        ensures some { (f : FrameValue) (fs : List FrameValue) → HasFrames self.now (f ∷ fs) → IfSome result (λ e. HasFrames e fs) }
+        ensures none { (f : FrameValue) (fs : List FrameValue) → HasFrames self.now (f ∷ fs) → result ≡ None → fs ≡ [] }
+        ensures less { IfSome result (λ e. (e.top < self.now.top) × (e.work ≡ self.now.work)) }
+    {
+        match self.innermost().below {
+            None => None,
+            Some(top) => Some(Entry {
+                nodes: self.nodes,
+                top,
+                work: self.work,
+            }),
+        }
+    }
+}
+
+impl Entries {
+    /// The number of parts.
+    pub fn parts(&self) -> usize
+        ensures { result + 1 ≡ length self.now.starts }
+    {
+        self.starts.len() - 1
+    }
+
+    /// The nodes of all open frames. A node names one with a lesser number as below it.
+    pub fn nodes(&self) -> &[Node]
+        ensures { result.now ≡ self.now.nodes }
+    {
+        self.nodes.as_slice()
+    }
+
+    /// The number of the innermost frame's node where part `k` begins, or where the trace ends if `k` is the number of
+    /// parts.
+    pub fn top(&self, k: usize) -> u32
+        requires { k < length self.now.starts }
+        ensures top { (fs : List FrameValue) (work : ℕ) → IsStart self.now k fs work → HasFrames (record { nodes = self.now.nodes; top = result; work = work }) fs }
+        ensures within { result < length self.now.nodes }
+    {
+        self.starts[k].top
+    }
+
+    /// The open frames where part `k` begins, or where the trace ends if `k` is the number of parts.
+    pub fn entry(&self, k: usize) -> Entry<'_>
+        requires { k < length self.now.starts }
+        ensures { (fs : List FrameValue) (work : ℕ) → IsStart self.now k fs work → HasFrames result fs × (result.work ≡ work) }
+    {
+        let start = self.starts[k];
+        Entry {
+            nodes: self.nodes.as_slice(),
+            top: start.top,
+            work: start.work,
+        }
+    }
+}
