@@ -1,10 +1,10 @@
--- What the table's part of a pass keeps whatever the events are: its counts are those of the open frames, and its sums
+-- What the table's part of a pass keeps whatever the events are: its marks are those of the open frames, and its sums
 -- are within bounds.
-use Rattle.std.proofs.Common.{◌≡◌, ℕ, zero, suc, ◌+◌, ◌*◌, ◌<◌, ◌≤◌, ◌^◌, true, cond, nat_eq, List, [], ◌∷◌, length, map, get_or, set, replicate, slice_index, Option, Some, None, unwrap_or, refl, sym, ap, ap₂, subst, ◌∙◌, arith, inl, inr}
+use Rattle.std.proofs.Common.{◌≡◌, ℕ, zero, suc, ◌+◌, ◌*◌, ◌<◌, ◌≤◌, ◌^◌, Bool, true, false, cond, not, ◌||◌, nat_eq, List, [], ◌∷◌, length, map, Option, Some, None, unwrap_or, refl, sym, ap, ap₂, subst, ◌∙◌, arith, inl, inr}
 use Rattle.std.specs.FinMap as map
 use Rattle.std.specs.Ordering.{nat_cmp}
 use Rattle.std.proofs.lemmas.Bool.{eq-eqb, ne_eqb, cases_eq}
-use Rattle.std.proofs.lemmas.List.{length-map, length-replicate}
+use Rattle.std.proofs.lemmas.List.{length-map}
 use Rattle.spp_maxplus.specs.declared.state.State.{State}
 use Rattle.spp_maxplus.specs.State.{unburdened, close, after_strand, after_sync}
 use Rattle.spp_dag.specs.declared.row.Row.{Row}
@@ -13,16 +13,16 @@ use Rattle.spp_dag.specs.declared.stack.FrameKind.{FrameKind}
 use Rattle.spp_dag.specs.declared.stack.FrameKind.TheVariants.{Root}
 use Rattle.spp_dag.specs.Stack.{after_child}
 use Rattle.spp_dag.specs.Shares.{plus, zero_row}
-use Rattle.spp_dag.specs.Steps.{site_by, key_of, same_key, strand_row, closed_row}
+use Rattle.spp_dag.specs.Steps.{site_by, key_of, same_key, has_site, has_func, strand_row, closed_row}
 use Rattle.spp_site.specs.Rows.{Fits}
 use Rattle.spp_site.specs.Table.{Sums, row_at, empty, IsAdded}
 use Rattle.spp_site.proofs.Rows.{plus-zero, zero-plus}
 use Rattle.spp_path.specs.Tables.{key_row}
-use Rattle.spp_serial.specs.Passes.{lowered}
+use Rattle.spp_site.specs.Marks.{with_mark, without}
+use Rattle.spp_site.proofs.Marked.{marked_more, marked_less}
 use Rattle.spp_serial.proofs.Told.{Counted, Told, state_sum, full_row, start_told, strand_told, sync_told, opened_frame, open_told, return_frames, IsReturned}
 use Rattle.spp_piece.proofs.MachineSteps.{greatest_more, child_adds}
 use Rattle.spp_path.proofs.RowSums.{strand_owed, none_owed, closed_owed, Low, low_zero, low_plus, low_strand, low_closed, low_fits}
-use Rattle.spp_path.proofs.Counts.{count_site, count_func, site_le, func_le, known, raised_is, lowered_is}
 
 abbrev pub entries : List Counted → List EntryFrame
 entries fs = map (λ f. f.entry) fs
@@ -38,47 +38,47 @@ AreOpen w [] = ⊥
 AreOpen w (f ∷ []) = (f.kind ≡ Root) × (f.before ≡ 0) × (f.top_site ≡ true) × (f.top_caller ≡ true)
 AreOpen w (f ∷ g ∷ fs) = (key_of f ≡ Some f.site) × (f.before ≤ w) × AreOpen w (g ∷ fs)
 
+-- each frame is a top frame by site, and by function, where none that encloses it has the same
+abbrev pub AreMarked : List Counted → Type 0
+AreMarked [] = Unit {0}
+AreMarked (f ∷ fs) = (f.entry.top_site ≡ not (has_site (entries fs) f.entry.site)) × (f.top_func ≡ not (has_func (entries fs) f.entry.func)) × AreMarked fs
+
 -- after i events the pass has t
 pub record Bounded (i : ℕ) (t : Told) : Type 0 where
   pub low : (key : Option ℕ) → Low i t.work (plus (key_row t.table key) (owed t.frames key))
-  pub sites : (s : ℕ) → slice_index t.open_sites s ≡ count_site s (entries t.frames)
-  pub funcs : (s : ℕ) → slice_index t.open_funcs s ≡ count_func s (entries t.frames)
+  pub sites : (s : ℕ) → t.open_sites s ≡ has_site (entries t.frames) s
+  pub funcs : (s : ℕ) → t.open_funcs s ≡ has_func (entries t.frames) s
+  pub marked : AreMarked t.frames
   pub open_frames : AreOpen t.work (entries t.frames)
   pub states : state_sum t.frames ≤ t.work
   pub level : length t.frames ≤ i + 1
   pub small : t.work ≤ 18446744073709551616 * i
 
-abbrev pub tell : List Counted → List ℕ → List ℕ → ℕ → Sums → Told
+abbrev pub tell : List Counted → (ℕ → Bool) → (ℕ → Bool) → ℕ → Sums → Told
 tell fs a b w t = record { frames = fs; open_sites = a; open_funcs = b; work = w; table = t }
 
 -- ---- the start
-
-pub zeros : (n s : ℕ) → get_or {A = ℕ} (replicate n 0) s 0 ≡ 0
-zeros zero s = refl
-zeros (suc n) zero = refl
-zeros (suc n) (suc s) = zeros n s
 
 pub empty_rows : (key : Option ℕ) → key_row empty key ≡ zero_row
 empty_rows None = refl
 empty_rows (Some s) = ap (λ o. unwrap_or o zero_row) (map.get-empty nat_cmp s)
 
 -- before the first event every row is zero, and none is owed
-pub start_rows : (root sites funcs : ℕ) (key : Option ℕ)
-    → plus (key_row (start_told root sites funcs).table key) (owed (start_told root sites funcs).frames key) ≡ zero_row
-start_rows root sites funcs key = ap₂ (λ (x y : Row). plus x y) (empty_rows key) (none_owed (same_key None key) zero_row) ∙ zero-plus zero_row
+pub start_rows : (root : ℕ) (key : Option ℕ)
+    → plus (key_row (start_told root).table key) (owed (start_told root).frames key) ≡ zero_row
+start_rows root key = ap₂ (λ (x y : Row). plus x y) (empty_rows key) (none_owed (same_key None key) zero_row) ∙ zero-plus zero_row
 
-pub start_bounded : (root sites funcs : ℕ) → root < funcs → Bounded 0 (start_told root sites funcs)
-start_bounded root sites funcs l =
-    let first = λ (s : ℕ). raised_is (replicate funcs 0) root s (simp length-replicate l) in
-    record {
-      low = λ key. subst (λ r. Low 0 0 r) (sym (start_rows root sites funcs key)) (low_zero 0 0);
-      sites = λ s. zeros sites s;
-      funcs = λ s. ap (λ v. get_or (set (replicate funcs 0) root (v + 1)) s 0) (sym (zeros funcs root)) ∙ first s ∙ ap (λ v. cond (nat_eq root s) 1 0 + v) (zeros funcs s);
-      open_frames = (refl, refl, refl, refl);
-      states = omega arith;
-      level = omega arith;
-      small = omega arith;
-    }
+pub start_bounded : (root : ℕ) → Bounded 0 (start_told root)
+start_bounded root = record {
+  low = λ key. subst (λ r. Low 0 0 r) (sym (start_rows root key)) (low_zero 0 0);
+  sites = λ s. refl;
+  funcs = λ s. refl;
+  marked = (refl, refl, tt);
+  open_frames = (refl, refl, refl, refl);
+  states = omega arith;
+  level = omega arith;
+  small = omega arith;
+}
 
 -- ---- the open frames
 
@@ -107,7 +107,7 @@ low_idle : (i w : ℕ) (r : Row) → Low i w r → Low (suc i) w r
 low_idle i w r a =
     subst (λ x. Low (suc i) w x) (plus-zero r) (subst (λ v. Low (suc i) v (plus r zero_row)) (let z : w + 0 ≡ w = omega arith in z) (low_more i w 0 r zero_row a (low_zero 1 0)))
 
-pub strand_bounded : (i n : ℕ) → n < 2 ^ 64 → (f : Counted) (fs : List Counted) (a b : List ℕ) (w : ℕ) (t : Sums)
+pub strand_bounded : (i n : ℕ) → n < 2 ^ 64 → (f : Counted) (fs : List Counted) (a b : ℕ → Bool) (w : ℕ) (t : Sums)
     → Bounded i (tell (f ∷ fs) a b w t) → Bounded (suc i) (strand_told n (tell (f ∷ fs) a b w t))
 strand_bounded i n short f fs a b w t h =
     let c = greatest_more f.entry.state.spine n f.entry.state.child in
@@ -119,13 +119,14 @@ strand_bounded i n short f fs a b w t h =
           subst (λ r. Low (suc i) (w + n) r) (sym (strand_owed k f.local n (key_row t key) (owed fs key))) (low_more i w n _ _ (h.low key) (low_strand k n));
       sites = h.sites;
       funcs = h.funcs;
-      open_frames = open_more w (w + n) (omega arith) (entries (record { entry = record f.entry { state = after_strand n f.entry.state }; local = f.local + n } ∷ fs)) (open_state w f.entry (after_strand n f.entry.state) (entries fs) h.open_frames);
+      marked = h.marked;
+      open_frames = open_more w (w + n) (omega arith) (entries (record f { entry = record f.entry { state = after_strand n f.entry.state }; local = f.local + n } ∷ fs)) (open_state w f.entry (after_strand n f.entry.state) (entries fs) h.open_frames);
       states = omega arith;
       level = omega arith;
       small = omega arith;
     }
 
-pub sync_bounded : (i : ℕ) (f : Counted) (fs : List Counted) (a b : List ℕ) (w : ℕ) (t : Sums)
+pub sync_bounded : (i : ℕ) (f : Counted) (fs : List Counted) (a b : ℕ → Bool) (w : ℕ) (t : Sums)
     → Bounded i (tell (f ∷ fs) a b w t) → Bounded (suc i) (sync_told (tell (f ∷ fs) a b w t))
 sync_bounded i f fs a b w t h =
     let l : length (f ∷ fs) ≤ i + 1 = h.level in
@@ -135,26 +136,27 @@ sync_bounded i f fs a b w t h =
       low = λ key. low_idle i w _ (h.low key);
       sites = h.sites;
       funcs = h.funcs;
+      marked = h.marked;
       open_frames = open_state w f.entry (after_sync f.entry.state) (entries fs) h.open_frames;
       states = omega arith;
       level = omega arith;
       small = omega arith;
     }
 
-keyed : (o : Option ℕ) (site s : ℕ) → o ≡ Some site → cond {A = ℕ} (nat_eq site s) 1 0 ≡ cond (same_key o (Some s)) 1 0
-keyed o site s e = ap (λ k. cond {A = ℕ} (same_key k (Some s)) 1 0) (sym e)
+keyed : (o : Option ℕ) (site s : ℕ) → o ≡ Some site → nat_eq site s ≡ same_key o (Some s)
+keyed o site s e = ap (λ k. same_key k (Some s)) (sym e)
 
-pub open_bounded : (i : ℕ) (kind : FrameKind) (site func : ℕ) → site_by kind site ≡ Some site → (f : Counted) (fs : List Counted) (a b : List ℕ) (w : ℕ) (t : Sums)
-    → site < length a → func < length b
+pub open_bounded : (i : ℕ) (kind : FrameKind) (site func : ℕ) → site_by kind site ≡ Some site → (f : Counted) (fs : List Counted) (a b : ℕ → Bool) (w : ℕ) (t : Sums)
     → Bounded i (tell (f ∷ fs) a b w t) → Bounded (suc i) (open_told kind i site func (tell (f ∷ fs) a b w t))
-open_bounded i kind site func k f fs a b w t site_in func_in h =
+open_bounded i kind site func k f fs a b w t h =
     let l : length (f ∷ fs) ≤ i + 1 = h.level in
     let s : close f.entry.state + state_sum fs ≤ w = h.states in
     let m : w ≤ 18446744073709551616 * i = h.small in
     record {
       low = λ key. subst (λ r. Low (suc i) w r) (ap (λ r. plus (key_row t key) r) (sym (none_owed (same_key (site_by kind site) key) (owed (f ∷ fs) key)))) (low_idle i w _ (h.low key));
-      sites = λ s. raised_is a site s site_in ∙ ap₂ (λ (x y : ℕ). x + y) (keyed (site_by kind site) site s k) (h.sites s);
-      funcs = λ s. raised_is b func s func_in ∙ ap (λ y. cond (nat_eq func s) 1 0 + y) (h.funcs s);
+      sites = λ s. marked_more site a (has_site (entries (f ∷ fs))) h.sites s ∙ ap (λ c. c || has_site (entries (f ∷ fs)) s) (keyed (site_by kind site) site s k);
+      funcs = λ s. marked_more func b (has_func (entries (f ∷ fs))) h.funcs s;
+      marked = (ap not (h.sites site), ap not (h.funcs func), h.marked);
       open_frames = open_new w (opened_frame kind i site func (tell (f ∷ fs) a b w t) f).entry f.entry (entries fs) k (omega arith) h.open_frames;
       states = omega arith;
       level = omega arith;
@@ -178,7 +180,7 @@ added f w t u k h (Some s) =
     ∙ ap (λ x. cond x (plus (row_at t s) (full_row f w)) (row_at t s)) (turned s f.entry.site ∙ ap (λ o. same_key o (Some s)) (sym k))
 
 -- what a return adds to the table, and the frame owes no more
-close_low : (i : ℕ) → i ≤ 268435456 → (f : Counted) (fs : List Counted) (a b : List ℕ) (w : ℕ) (t : Sums)
+close_low : (i : ℕ) → i ≤ 268435456 → (f : Counted) (fs : List Counted) (a b : ℕ → Bool) (w : ℕ) (t : Sums)
     → Bounded i (tell (f ∷ fs) a b w t) → (key : Option ℕ)
     → Low (suc i) w (plus (cond (same_key (key_of f.entry) key) (plus (key_row t key) (full_row f w)) (key_row t key)) (owed fs key))
 close_low i short f fs a b w t h key =
@@ -193,15 +195,14 @@ pub same_told : (t u : Told) → t.frames ≡ u.frames → t.open_sites ≡ u.op
 same_told t u a b c d e = λ j. record { frames = a j; open_sites = b j; open_funcs = c j; work = d j; table = e j }
 
 -- what a return leaves
-pub left : (f g : Counted) (fs : List Counted) (a b : List ℕ) (w : ℕ) (t : Sums) (new : Told) → IsReturned f (tell (f ∷ g ∷ fs) a b w t) new
-    → new ≡ tell (return_frames (f ∷ g ∷ fs)) (lowered a f.entry.site) (lowered b f.entry.func) w new.table
+pub left : (f g : Counted) (fs : List Counted) (a b : ℕ → Bool) (w : ℕ) (t : Sums) (new : Told) → IsReturned f (tell (f ∷ g ∷ fs) a b w t) new
+    → new ≡ tell (return_frames (f ∷ g ∷ fs)) (without f.entry.top_site f.entry.site a) (without f.top_func f.entry.func b) w new.table
 left f g fs a b w t new r =
-    same_told new (tell (return_frames (f ∷ g ∷ fs)) (lowered a f.entry.site) (lowered b f.entry.func) w new.table) r.frames r.open_sites r.open_funcs r.work refl
+    same_told new (tell (return_frames (f ∷ g ∷ fs)) (without f.entry.top_site f.entry.site a) (without f.top_func f.entry.func b) w new.table) r.frames r.open_sites r.open_funcs r.work refl
 
-pub return_bounded : (i : ℕ) → i ≤ 268435456 → (f g : Counted) (fs : List Counted) (a b : List ℕ) (w : ℕ) (t : Sums) (new : Told)
-    → f.entry.site < length a → f.entry.func < length b
+pub return_bounded : (i : ℕ) → i ≤ 268435456 → (f g : Counted) (fs : List Counted) (a b : ℕ → Bool) (w : ℕ) (t : Sums) (new : Told)
     → Bounded i (tell (f ∷ g ∷ fs) a b w t) → IsReturned f (tell (f ∷ g ∷ fs) a b w t) new → Bounded (suc i) new
-return_bounded i short f g fs a b w t new site_in func_in h r =
+return_bounded i short f g fs a b w t new h r =
     let k : key_of f.entry ≡ Some f.entry.site = h.open_frames.0 in
     let c = child_adds unburdened f.entry.kind f.entry.at (close f.entry.state) g.entry.state in
     let l : length (f ∷ g ∷ fs) ≤ i + 1 = h.level in
@@ -210,9 +211,10 @@ return_bounded i short f g fs a b w t new site_in func_in h r =
     subst (λ x. Bounded (suc i) x) (sym (left f g fs a b w t new r))
     (record {
       low = λ key. subst (λ x. Low (suc i) w (plus x (owed (g ∷ fs) key))) (sym (added f w t new.table k r.table key)) (close_low i short f (g ∷ fs) a b w t h key);
-      sites = λ s. lowered_is a f.entry.site s (count_site s (entries (g ∷ fs))) site_in
-          (h.sites s ∙ ap (λ x. x + count_site s (entries (g ∷ fs))) (sym (keyed (key_of f.entry) f.entry.site s k)));
-      funcs = λ s. lowered_is b f.entry.func s (count_func s (entries (g ∷ fs))) func_in (h.funcs s);
+      sites = λ s. marked_less f.entry.top_site f.entry.site a (has_site (entries (g ∷ fs))) h.marked.0
+          (λ y. h.sites y ∙ ap (λ c. c || has_site (entries (g ∷ fs)) y) (sym (keyed (key_of f.entry) f.entry.site y k))) s;
+      funcs = λ s. marked_less f.top_func f.entry.func b (has_func (entries (g ∷ fs))) h.marked.1 h.funcs s;
+      marked = h.marked.2;
       open_frames = open_state w g.entry (after_child unburdened f.entry.kind f.entry.at (close f.entry.state) g.entry.state) (entries fs) h.open_frames.2;
       states = omega arith;
       level = omega arith;
@@ -225,7 +227,7 @@ same_self : (key : Option ℕ) → same_key key key ≡ true
 same_self None = refl
 same_self (Some s) = eq-eqb s s refl
 
-pub local_le : (i : ℕ) (f : Counted) (fs : List Counted) (a b : List ℕ) (w : ℕ) (t : Sums) → Bounded i (tell (f ∷ fs) a b w t) → f.local ≤ w
+pub local_le : (i : ℕ) (f : Counted) (fs : List Counted) (a b : ℕ → Bool) (w : ℕ) (t : Sums) → Bounded i (tell (f ∷ fs) a b w t) → f.local ≤ w
 local_le i f fs a b w t h =
     let key : Option ℕ = key_of f.entry in
     let e : Low i w (plus (key_row t key) (plus (strand_row f.local) (owed fs key))) =
@@ -233,58 +235,22 @@ local_le i f fs a b w t h =
     let l : (key_row t key).local + (f.local + (owed fs key).local) ≤ w = e.local in
     omega arith
 
-func_open : (i : ℕ) (f : Counted) (fs : List Counted) (a b : List ℕ) (w : ℕ) (t : Sums)
-    → Bounded i (tell (f ∷ fs) a b w t) → 0 < slice_index b f.entry.func
-func_open i f fs a b w t h =
-    let e = h.funcs f.entry.func in
-    let o : cond {A = ℕ} (nat_eq f.entry.func f.entry.func) 1 0 ≡ 1 = ap (λ c. cond {A = ℕ} c 1 0) (eq-eqb f.entry.func f.entry.func refl) in
-    omega arith
-
--- a frame can be opened
-pub record Openable (site func : ℕ) (f : Counted) (t : Told) : Type 0 where
-  pub caller_known : f.entry.func < length t.open_funcs
-  pub site_room : slice_index t.open_sites site + 1 < 2 ^ 32
-  pub func_room : slice_index t.open_funcs func + 1 < 2 ^ 32
-
-pub openable : (i site func : ℕ) → i ≤ 268435456 → (f : Counted) (fs : List Counted) (a b : List ℕ) (w : ℕ) (t : Sums)
-    → Bounded i (tell (f ∷ fs) a b w t) → Openable site func f (tell (f ∷ fs) a b w t)
-openable i site func short f fs a b w t h =
-    let l = h.level in
-    let n : length (entries (f ∷ fs)) ≡ length (f ∷ fs) = length-map (f ∷ fs) (λ f. f.entry) in
-    let p = h.sites site in
-    let q = h.funcs func in
-    let p_le = site_le site (entries (f ∷ fs)) in
-    let q_le = func_le func (entries (f ∷ fs)) in
-    record { caller_known = known b f.entry.func (func_open i f fs a b w t h); site_room = omega arith; func_room = omega arith }
-
 -- the innermost frame f, which isn't alone, can close
 pub record Closable (f : Counted) (t : Told) : Type 0 where
   pub before : f.entry.before ≤ t.work
-  pub site_known : f.entry.site < length t.open_sites
-  pub func_known : f.entry.func < length t.open_funcs
-  pub site_open : 0 < slice_index t.open_sites f.entry.site
-  pub func_open : 0 < slice_index t.open_funcs f.entry.func
   pub row : Fits (plus (row_at t.table f.entry.site) (full_row f t.work))
 
-pub closable : (i : ℕ) → i ≤ 268435456 → (f g : Counted) (fs : List Counted) (a b : List ℕ) (w : ℕ) (t : Sums)
+pub closable : (i : ℕ) → i ≤ 268435456 → (f g : Counted) (fs : List Counted) (a b : ℕ → Bool) (w : ℕ) (t : Sums)
     → Bounded i (tell (f ∷ g ∷ fs) a b w t) → Closable f (tell (f ∷ g ∷ fs) a b w t)
 closable i short f g fs a b w t h =
     let site : Option ℕ = Some f.entry.site in
     let k : key_of f.entry ≡ site = h.open_frames.0 in
     let same : same_key (key_of f.entry) site ≡ true = ap (λ o. same_key o site) k ∙ eq-eqb f.entry.site f.entry.site refl in
-    let p = h.sites f.entry.site in
-    let o : cond {A = ℕ} (same_key (key_of f.entry) site) 1 0 ≡ 1 = ap (λ c. cond {A = ℕ} c 1 0) same in
-    let site_open : 0 < slice_index a f.entry.site = omega arith in
-    let func_is = func_open i f (g ∷ fs) a b w t h in
     let m : w ≤ 18446744073709551616 * i = h.small in
     let low = subst (λ c. Low (suc i) w (plus (cond c (plus (row_at t f.entry.site) (full_row f w)) (row_at t f.entry.site)) (owed (g ∷ fs) site))) same
     (close_low i short f (g ∷ fs) a b w t h site) in
     record {
       before = h.open_frames.1;
-      site_known = known a f.entry.site site_open;
-      func_known = known b f.entry.func func_is;
-      site_open = site_open;
-      func_open = func_is;
       row = low_fits (suc i) w _ (owed (g ∷ fs) site) _ refl low (omega arith) (omega arith);
     }
 
@@ -292,7 +258,7 @@ pub root_key : (w : ℕ) (f : Counted) → AreOpen w (f.entry ∷ []) → key_of
 root_key w f h = ap (λ k. site_by k f.entry.site) h.0
 
 -- the root, which is alone, can close
-pub finishable : (i : ℕ) → i ≤ 268435456 → (f : Counted) (a b : List ℕ) (w : ℕ) (t : Sums)
+pub finishable : (i : ℕ) → i ≤ 268435456 → (f : Counted) (a b : ℕ → Bool) (w : ℕ) (t : Sums)
     → Bounded i (tell (f ∷ []) a b w t) → (f.entry.before ≤ w) × Fits (plus t.root (full_row f w))
 finishable i short f a b w t h =
     let before : f.entry.before ≡ 0 = h.open_frames.1 in

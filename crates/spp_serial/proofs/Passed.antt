@@ -1,9 +1,9 @@
 -- What a pass over the events of a run keeps: its frames are those of the figures, its counts and sums are within
 -- bounds, and if the trace is well-formed its table and its choices are those so far.
-use Rattle.std.proofs.Common.{◌≡◌, ℕ, suc, ◌+◌, ◌*◌, ◌<◌, ◌≤◌, ◌^◌, true, false, List, [], ◌∷◌, ◌++◌, length, map, take, replicate, Option, Some, None, Ok, Err, IfOk, refl, sym, ap, subst, ◌∙◌, arith}
+use Rattle.std.proofs.Common.{◌≡◌, ℕ, suc, ◌+◌, ◌*◌, ◌<◌, ◌≤◌, ◌^◌, true, false, List, [], ◌∷◌, ◌++◌, length, map, take, Option, Some, None, Ok, Err, IfOk, refl, sym, ap, subst, ◌∙◌, arith}
 use Rattle.std.specs.Option.{option_map}
 use Rattle.std.specs.List.{slice_get}
-use Rattle.std.proofs.lemmas.List.{length-map, length-replicate, length-set, append-nil}
+use Rattle.std.proofs.lemmas.List.{length-map, append-nil}
 use Rattle.std.proofs.lemmas.Option.{slice_get-map, slice_get-get_or}
 use Rattle.spp_event.specs.declared.records.Event.{Event}
 use Rattle.spp_event.specs.declared.records.Event.TheVariants.{Strand, Call, Spawn, Ret, Sync}
@@ -39,10 +39,10 @@ use Rattle.spp_serial.specs.declared.summing.FirstPass.{FirstPass}
 use Rattle.spp_serial.specs.declared.stack.Frame.{Frame}
 use Rattle.spp_serial.specs.Tables.{IsDagTable}
 use Rattle.spp_serial.specs.Weights.{close, advance}
-use Rattle.spp_serial.specs.Passes.{Seen, state_of, joins_at, ends_at, start_seen, strand_seen, sync_seen, open_seen, OnTop, HasOpen, CanAdd, CanOpen, CanReturn, IsReturned, Returns, CanFinish, IsFinished}
+use Rattle.spp_serial.specs.Passes.{Seen, state_of, joins_at, ends_at, start_seen, strand_seen, sync_seen, open_seen, OnTop, HasOpen, CanAdd, CanReturn, IsReturned, Returns, CanFinish, IsFinished}
 use Rattle.spp_serial.proofs.Keeping as figures
 use Rattle.spp_serial.proofs.Keeping.{kept_none, kept_more, all_kept}
-use Rattle.spp_serial.proofs.Bounded.{entries, Bounded, start_bounded, strand_bounded, sync_bounded, open_bounded, return_bounded, local_le, openable, closable, finishable}
+use Rattle.spp_serial.proofs.Bounded.{entries, Bounded, start_bounded, strand_bounded, sync_bounded, open_bounded, return_bounded, local_le, closable, finishable}
 use Rattle.spp_serial.proofs.Shared.{Shared, start_shared, strand_shared, sync_shared, call_shared, spawn_shared, return_shared, finished}
 use Rattle.spp_serial.proofs.Choosing.{AreTo, AreAt, none_to, more_to, no_end, no_join, return_ends, wait_joins}
 use Rattle.spp_serial.proofs.Projected.{lean, counted, told, AllNeat, row_is, neat_returned, told_sync, told_return}
@@ -58,23 +58,18 @@ AreNoted es i ends joins = AreTo (λ (e : End). e.at) (IsEnd es) i ends × AreTo
 pub record Passed (trace : Recording) (burdens : Burdens) (i : ℕ) (s : Seen) : Type 0 where
   pub reached : figures.Kept trace.records burdens trace.root i s.work (leans s.frames)
   pub neat : AllNeat s.frames
-  pub sites : length s.open_sites ≡ length trace.sites
-  pub funcs : length s.open_funcs ≡ length trace.funcs
   pub bounded : Bounded i (told s)
   pub shared : (es : List Event) → AreEvents trace.records es → IsWellFormed es → (span : ℕ → ℕ) → AreSpans es span → Shared es trace.root span i (told s)
   pub noted : (es : List Event) → AreEvents trace.records es → IsWellFormed es → AreNoted es i s.ends s.joins
 
 -- ---- the start
 
-pub start_passed : (trace : Recording) (burdens : Burdens) (s : Seen) → trace.root < length trace.funcs
-    → s ≡ start_seen trace.root (length trace.sites) (length trace.funcs) → Passed trace burdens 0 s
-start_passed trace burdens s l e = subst (λ x. Passed trace burdens 0 x) (sym e) (record {
+pub start_passed : (trace : Recording) (burdens : Burdens) (s : Seen) → s ≡ start_seen trace.root → Passed trace burdens 0 s
+start_passed trace burdens s e = subst (λ x. Passed trace burdens 0 x) (sym e) (record {
   reached = kept_none trace.records burdens trace.root;
   neat = ((λ c. refl), tt);
-  sites = length-replicate (length trace.sites) 0;
-  funcs = length-set (replicate (length trace.funcs) 0) trace.root 1 ∙ length-replicate (length trace.funcs) 0;
-  bounded = start_bounded trace.root (length trace.sites) (length trace.funcs) l;
-  shared = λ es are wf span spans. start_shared es wf trace.root span spans (length trace.sites) (length trace.funcs);
+  bounded = start_bounded trace.root;
+  shared = λ es are wf span spans. start_shared es wf trace.root span spans;
   noted = λ es are wf. (none_to (λ (e : End). e.at) (IsEnd es), none_to (λ (j : Join). j.at) (IsJoin es));
 })
 
@@ -199,8 +194,6 @@ module _ (trace : Recording) (burdens : Burdens) (light : burdens.on_continuatio
       by (f ∷ fs) at = record {
         reached = goes (Strand n) r.0 (let z : n < 2 ^ 64 = r.1 in omega arith) _ _ s.work (s.work + n) refl refl at.reached;
         neat = at.neat;
-        sites = at.sites;
-        funcs = at.funcs;
         bounded = strand_bounded i n r.1 (counted f) (map counted fs) s.open_sites s.open_funcs s.work s.table at.bounded;
         shared = λ es are wf span spans.
             strand_shared es wf trace.root span spans i n (event_is trace.records es i (Strand n) are lt r.0) (counted f) (map counted fs) s.open_sites s.open_funcs s.work s.table (at.shared es are wf span spans);
@@ -227,8 +220,6 @@ module _ (trace : Recording) (burdens : Burdens) (light : burdens.on_continuatio
           record {
             reached = goes Sync r.0 (omega arith) _ _ s.work s.work refl (omega arith) at.reached;
             neat = ((λ c. refl), at.neat.1);
-            sites = at.sites;
-            funcs = at.funcs;
             bounded = subst (λ t. Bounded (suc i) t) (sym tells) (sync_bounded i (counted f) (map counted fs) s.open_sites s.open_funcs s.work s.table at.bounded);
             shared = λ es are wf span spans. subst (λ t. Shared es trace.root span (suc i) t) (sym tells)
                 (sync_shared es wf trace.root span spans i (event_is trace.records es i Sync are lt r.0) (counted f) (map counted fs) s.open_sites s.open_funcs s.work s.table (at.shared es are wf span spans));
@@ -245,38 +236,16 @@ module _ (trace : Recording) (burdens : Burdens) (light : burdens.on_continuatio
 
   -- ---- a call or a spawn
 
-  ready_open : (site func : ℕ) → (site < length trace.sites) × (func < length trace.funcs) → (s : Seen) → Now s → CanOpen site func s
-  ready_open site func r s at = by s.frames at
-    where
-      by : (frames : List CountedFrame) → Now (record s { frames = frames }) → CanOpen site func (record s { frames = frames })
-      by [] at = absurd at.bounded.open_frames
-      by (f ∷ fs) at =
-          let o = openable i site func (omega arith) (counted f) (map counted fs) s.open_sites s.open_funcs s.work s.table at.bounded in
-          let a : site < length trace.sites = r.0 in
-          let b : func < length trace.funcs = r.1 in
-          let c : length s.open_sites ≡ length trace.sites = at.sites in
-          let d : length s.open_funcs ≡ length trace.funcs = at.funcs in
-          record { site_known = omega arith; func_known = omega arith; caller_known = o.caller_known; site_room = o.site_room; func_room = o.func_room }
-
-  pub ready_call : (site func : ℕ) → IsRead trace i (Call site func) → (s : Seen) → Now s → CanOpen site func s
-  ready_call site func r = ready_open site func r.1
-
-  pub ready_spawn : (site func : ℕ) → IsRead trace i (Spawn site func) → (s : Seen) → Now s → CanOpen site func s
-  ready_spawn site func r = ready_open site func r.1
-
   pub call_passed : (site func : ℕ) → IsRead trace i (Call site func) → (s new : Seen) → new ≡ open_seen Called i site func s → Now s → Next new
   call_passed site func r s new e at = subst Next (sym e) (by s.frames at)
     where
       by : (frames : List CountedFrame) → Now (record s { frames = frames }) → Next (open_seen Called i site func (record s { frames = frames }))
       by [] at = absurd at.bounded.open_frames
       by (f ∷ fs) at =
-          let can = ready_call site func r (record s { frames = f ∷ fs }) at in
           record {
             reached = goes (Call site func) r.0 (omega arith) _ _ s.work s.work refl (omega arith) at.reached;
             neat = ((λ c. refl), at.neat);
-            sites = length-set s.open_sites site _ ∙ at.sites;
-            funcs = length-set s.open_funcs func _ ∙ at.funcs;
-            bounded = open_bounded i Called site func refl (counted f) (map counted fs) s.open_sites s.open_funcs s.work s.table can.site_known can.func_known at.bounded;
+            bounded = open_bounded i Called site func refl (counted f) (map counted fs) s.open_sites s.open_funcs s.work s.table at.bounded;
             shared = λ es are wf span spans.
                 call_shared es wf trace.root span spans i site func (event_is trace.records es i (Call site func) are lt r.0) (counted f) (map counted fs) s.open_sites s.open_funcs s.work s.table at.bounded (at.shared es are wf span spans);
             noted = λ es are wf. let is = event_is trace.records es i (Call site func) are lt r.0 in
@@ -289,13 +258,10 @@ module _ (trace : Recording) (burdens : Burdens) (light : burdens.on_continuatio
       by : (frames : List CountedFrame) → Now (record s { frames = frames }) → Next (open_seen Spawned i site func (record s { frames = frames }))
       by [] at = absurd at.bounded.open_frames
       by (f ∷ fs) at =
-          let can = ready_spawn site func r (record s { frames = f ∷ fs }) at in
           record {
             reached = goes (Spawn site func) r.0 (omega arith) _ _ s.work s.work refl (omega arith) at.reached;
             neat = ((λ c. refl), at.neat);
-            sites = length-set s.open_sites site _ ∙ at.sites;
-            funcs = length-set s.open_funcs func _ ∙ at.funcs;
-            bounded = open_bounded i Spawned site func refl (counted f) (map counted fs) s.open_sites s.open_funcs s.work s.table can.site_known can.func_known at.bounded;
+            bounded = open_bounded i Spawned site func refl (counted f) (map counted fs) s.open_sites s.open_funcs s.work s.table at.bounded;
             shared = λ es are wf span spans.
                 spawn_shared es wf trace.root span spans i site func (event_is trace.records es i (Spawn site func) are lt r.0) (counted f) (map counted fs) s.open_sites s.open_funcs s.work s.table at.bounded (at.shared es are wf span spans);
             noted = λ es are wf. let is = event_is trace.records es i (Spawn site func) are lt r.0 in
@@ -318,10 +284,6 @@ module _ (trace : Recording) (burdens : Burdens) (light : burdens.on_continuatio
           record {
             fits = record { plain = omega arith; burdened = omega arith };
             before = c.before;
-            site_known = c.site_known;
-            func_known = c.func_known;
-            site_open = c.site_open;
-            func_open = c.func_open;
             row = subst (λ r. Fits (plus (row_at s.table f.site) r)) (sym (row_is f s.work at.neat.0)) c.row;
           }
 
@@ -341,9 +303,7 @@ module _ (trace : Recording) (burdens : Burdens) (light : burdens.on_continuatio
       record {
         reached = goes Ret r.0 (omega arith) _ _ s.work new.work (ap (λ (l : List CountedFrame). Some (leans l)) (sym h.frames)) (h.work ∙ omega arith) at.reached;
         neat = subst AllNeat (sym h.frames) (neat_returned burdens f g at.neat.1.0, at.neat.1.1);
-        sites = ap (λ (l : List ℕ). length l) h.open_sites ∙ length-set s.open_sites f.site _ ∙ at.sites;
-        funcs = ap (λ (l : List ℕ). length l) h.open_funcs ∙ length-set s.open_funcs f.func _ ∙ at.funcs;
-        bounded = return_bounded i (omega arith) (counted f) (counted g) (map counted fs) s.open_sites s.open_funcs s.work s.table (told new) c.site_known c.func_known at.bounded tells;
+        bounded = return_bounded i (omega arith) (counted f) (counted g) (map counted fs) s.open_sites s.open_funcs s.work s.table (told new) at.bounded tells;
         shared = λ es are wf span spans.
             return_shared es wf trace.root span spans i (event_is trace.records es i Ret are lt r.0) (counted f) (counted g) (map counted fs) s.open_sites s.open_funcs s.work s.table (told new) at.bounded tells (at.shared es are wf span spans);
         noted = λ es are wf.

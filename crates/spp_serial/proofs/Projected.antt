@@ -35,6 +35,7 @@ counted f = record {
     top_caller = f.top_caller;
   };
   local = f.local;
+  top_func = f.top_func;
 }
 
 abbrev pub told : Seen → Told

@@ -1,6 +1,6 @@
 -- What the table's part of a pass keeps in a well-formed trace: its frames are the open ones, and the table and what
 -- they owe are the shares so far.
-use Rattle.std.proofs.Common.{◌≡◌, ℕ, suc, ◌+◌, ◌-◌, Bool, true, cond, not, nat_eq, List, [], ◌∷◌, length, map, take, slice_index, Option, Some, None, refl, sym, ap, ap₂, subst, ◌∙◌, arith, Ok}
+use Rattle.std.proofs.Common.{◌≡◌, ℕ, suc, ◌+◌, ◌-◌, Bool, true, cond, not, List, [], ◌∷◌, length, map, take, Option, Some, None, refl, sym, ap, ap₂, subst, ◌∙◌, arith, Ok}
 use Rattle.std.proofs.lemmas.List.{length-map, take_all}
 use Rattle.spp_event.specs.declared.records.Event.{Event}
 use Rattle.spp_event.specs.declared.records.Event.TheVariants.{Strand, Call, Spawn, Ret, Sync}
@@ -29,7 +29,6 @@ use Rattle.spp_site.proofs.Rows.{plus-zero, zero-plus}
 use Rattle.spp_path.specs.Tables.{key_row}
 use Rattle.spp_serial.proofs.Told.{Counted, Told, full_row, start_told, strand_told, sync_told, opened_frame, open_told, IsReturned}
 use Rattle.spp_path.proofs.RowSums.{strand_owed, none_owed, closed_owed}
-use Rattle.spp_path.proofs.Counts.{count_site, count_func, has_site_is, has_func_is}
 use Rattle.spp_serial.proofs.Bounded.{entries, owed, AreOpen, Bounded, tell, start_rows, added, left, root_key}
 
 -- before the event at i the pass has t
@@ -55,7 +54,7 @@ module _ (es : List Event) (wf : IsWellFormed es) (root : ℕ) (span : ℕ → �
   entry_next e is fs w v at same =
       subst (λ n. IsEntry es root (suc i) (entry_after i e w fs) n) (ap (λ o. w + weight_of o) is ∙ sym same) (entry_follows es wf root i e is fs w at)
 
-  pub strand_shared : (n : ℕ) → event_at es i ≡ Some (Strand n) → (f : Counted) (fs : List Counted) (a b : List ℕ) (w : ℕ) (t : Sums)
+  pub strand_shared : (n : ℕ) → event_at es i ≡ Some (Strand n) → (f : Counted) (fs : List Counted) (a b : ℕ → Bool) (w : ℕ) (t : Sums)
       → Shared es root span i (tell (f ∷ fs) a b w t) → Shared es root span (suc i) (strand_told n (tell (f ∷ fs) a b w t))
   strand_shared n is f fs a b w t h = record {
     entry = entry_next (Strand n) is (entries (f ∷ fs)) w (w + n) h.entry refl;
@@ -64,7 +63,7 @@ module _ (es : List Event) (wf : IsWellFormed es) (root : ℕ) (span : ℕ → �
         ∙ share_next (Strand n) is f.entry (entries fs) w h.entry key;
   }
 
-  pub sync_shared : event_at es i ≡ Some Sync → (f : Counted) (fs : List Counted) (a b : List ℕ) (w : ℕ) (t : Sums)
+  pub sync_shared : event_at es i ≡ Some Sync → (f : Counted) (fs : List Counted) (a b : ℕ → Bool) (w : ℕ) (t : Sums)
       → Shared es root span i (tell (f ∷ fs) a b w t) → Shared es root span (suc i) (sync_told (tell (f ∷ fs) a b w t))
   sync_shared is f fs a b w t h = record {
     entry = entry_next Sync is (entries (f ∷ fs)) w w h.entry (omega arith);
@@ -73,14 +72,11 @@ module _ (es : List Event) (wf : IsWellFormed es) (root : ℕ) (span : ℕ → �
 
   -- the new frame is marked as it should be
   new_entry : (kind : FrameKind) (at site func : ℕ) (f : Counted) (fs : List Counted) (t : Told)
-      → ((s : ℕ) → slice_index t.open_sites s ≡ count_site s (entries (f ∷ fs)))
-      → ((s : ℕ) → slice_index t.open_funcs s ≡ count_func s (entries (f ∷ fs)))
+      → ((s : ℕ) → t.open_sites s ≡ has_site (entries (f ∷ fs)) s) → f.top_func ≡ not (has_func (entries fs) f.entry.func)
       → opened kind at site func t.work f.entry (entries fs) ≡ (opened_frame kind at site func t f).entry
-  new_entry kind at site func f fs t sites funcs =
-      let by_site : not (has_site (entries (f ∷ fs)) site) ≡ nat_eq (slice_index t.open_sites site) 0 =
-      sym (has_site_is site (entries (f ∷ fs))) ∙ ap (λ n. nat_eq n 0) (sym (sites site)) in
-      let by_func : not (has_func (entries fs) f.entry.func) ≡ nat_eq (slice_index t.open_funcs f.entry.func) 1 =
-      sym (has_func_is f.entry (entries fs)) ∙ ap (λ n. nat_eq n 1) (sym (funcs f.entry.func)) in
+  new_entry kind at site func f fs t sites func_is =
+      let by_site : not (has_site (entries (f ∷ fs)) site) ≡ not (t.open_sites site) = ap not (sym (sites site)) in
+      let by_func : not (has_func (entries fs) f.entry.func) ≡ f.top_func = sym func_is in
       ap₂ (λ (x y : Bool). let e : EntryFrame = record { kind = kind; at = at; site = site; func = func; before = t.work; state = start; top_site = x; top_caller = y } in e) by_site by_func
 
   -- an event that opens such a frame
@@ -90,27 +86,27 @@ module _ (es : List Event) (wf : IsWellFormed es) (root : ℕ) (span : ℕ → �
     gains : (k : Option ℕ) (f : EntryFrame) (w : ℕ) → gain everywhere k i e f w ≡ zero_row
     light : weight_of (Some e) ≡ 0
 
-  open_shared : (e : Event) (kind : FrameKind) (site func : ℕ) → Opens e kind site func → (f : Counted) (fs : List Counted) (a b : List ℕ) (w : ℕ) (t : Sums)
+  open_shared : (e : Event) (kind : FrameKind) (site func : ℕ) → Opens e kind site func → (f : Counted) (fs : List Counted) (a b : ℕ → Bool) (w : ℕ) (t : Sums)
       → Bounded i (tell (f ∷ fs) a b w t) → Shared es root span i (tell (f ∷ fs) a b w t) → Shared es root span (suc i) (open_told kind i site func (tell (f ∷ fs) a b w t))
   open_shared e kind site func o f fs a b w t bounds h =
       let old : Told = tell (f ∷ fs) a b w t in
       let light : weight_of (Some e) ≡ 0 = o.light in
       record {
-        entry = subst (λ gs. IsEntry es root (suc i) gs w) (o.after w f.entry (entries fs) ∙ ap (λ g. g ∷ entries (f ∷ fs)) (new_entry kind i site func f fs old bounds.sites bounds.funcs))
+        entry = subst (λ gs. IsEntry es root (suc i) gs w) (o.after w f.entry (entries fs) ∙ ap (λ g. g ∷ entries (f ∷ fs)) (new_entry kind i site func f fs old bounds.sites bounds.marked.1))
             (entry_next e o.is (entries (f ∷ fs)) w w h.entry (omega arith));
         rows = λ key. ap (λ r. plus (key_row t key) r) (none_owed (same_key (site_by kind site) key) (owed (f ∷ fs) key)) ∙ h.rows key ∙ sym (plus-zero (so_far key))
             ∙ ap (λ r. plus (so_far key) r) (sym (o.gains key f.entry w)) ∙ share_next e o.is f.entry (entries fs) w h.entry key;
       }
 
-  pub call_shared : (site func : ℕ) → event_at es i ≡ Some (Call site func) → (f : Counted) (fs : List Counted) (a b : List ℕ) (w : ℕ) (t : Sums)
+  pub call_shared : (site func : ℕ) → event_at es i ≡ Some (Call site func) → (f : Counted) (fs : List Counted) (a b : ℕ → Bool) (w : ℕ) (t : Sums)
       → Bounded i (tell (f ∷ fs) a b w t) → Shared es root span i (tell (f ∷ fs) a b w t) → Shared es root span (suc i) (open_told Called i site func (tell (f ∷ fs) a b w t))
   call_shared site func is = open_shared (Call site func) Called site func (record { is = is; after = λ w f fs. refl; gains = λ k f w. refl; light = refl })
 
-  pub spawn_shared : (site func : ℕ) → event_at es i ≡ Some (Spawn site func) → (f : Counted) (fs : List Counted) (a b : List ℕ) (w : ℕ) (t : Sums)
+  pub spawn_shared : (site func : ℕ) → event_at es i ≡ Some (Spawn site func) → (f : Counted) (fs : List Counted) (a b : ℕ → Bool) (w : ℕ) (t : Sums)
       → Bounded i (tell (f ∷ fs) a b w t) → Shared es root span i (tell (f ∷ fs) a b w t) → Shared es root span (suc i) (open_told Spawned i site func (tell (f ∷ fs) a b w t))
   spawn_shared site func is = open_shared (Spawn site func) Spawned site func (record { is = is; after = λ w f fs. refl; gains = λ k f w. refl; light = refl })
 
-  pub return_shared : event_at es i ≡ Some Ret → (f g : Counted) (fs : List Counted) (a b : List ℕ) (w : ℕ) (t : Sums) (new : Told)
+  pub return_shared : event_at es i ≡ Some Ret → (f g : Counted) (fs : List Counted) (a b : ℕ → Bool) (w : ℕ) (t : Sums) (new : Told)
       → Bounded i (tell (f ∷ g ∷ fs) a b w t) → IsReturned f (tell (f ∷ g ∷ fs) a b w t) new → Shared es root span i (tell (f ∷ g ∷ fs) a b w t) → Shared es root span (suc i) new
   return_shared is f g fs a b w t new bounds r h =
       let k : key_of f.entry ≡ Some f.entry.site = bounds.open_frames.0 in
@@ -141,10 +137,10 @@ module _ (es : List Event) (wf : IsWellFormed es) (root : ℕ) (span : ℕ → �
   share_none : (key : Option ℕ) → share es root span everywhere key 0 0 ≡ zero_row
   share_none key = doubled _ (shares_law es root span everywhere key 0 0 0 (omega arith) (omega arith))
 
-  pub start_shared : (sites funcs : ℕ) → Shared es root span 0 (start_told root sites funcs)
-  start_shared sites funcs = record {
+  pub start_shared : Shared es root span 0 (start_told root)
+  start_shared = record {
     entry = (root_frame root ∷ [], refl, refl, refl);
-    rows = λ key. start_rows root sites funcs key ∙ sym (share_none key);
+    rows = λ key. start_rows root key ∙ sym (share_none key);
   }
 
   -- at the end the root closes with the span
@@ -179,7 +175,7 @@ module _ (es : List Event) (wf : IsWellFormed es) (root : ℕ) (span : ℕ → �
       (ap (λ c. cond {A = ℕ} c 1 0) site) (ap (λ c. cond c (w - f.entry.before) 0) site ∙ all) (ap (λ c. cond c (close f.entry.state) 0) site ∙ s)
       (ap (λ c. cond {A = ℕ} c 1 0) caller) (ap (λ c. cond c (w - f.entry.before) 0) caller ∙ all) (ap (λ c. cond c (close f.entry.state) 0) caller ∙ s)
 
-  root_added : (f : Counted) (a b : List ℕ) (w : ℕ) (t : Sums) → AreOpen w (f.entry ∷ []) → Shared es root span (length es) (tell (f ∷ []) a b w t)
+  root_added : (f : Counted) (a b : ℕ → Bool) (w : ℕ) (t : Sums) → AreOpen w (f.entry ∷ []) → Shared es root span (length es) (tell (f ∷ []) a b w t)
       → plus t.root (full_row f w) ≡ plus (share es root span everywhere None 0 (length es)) (closed_row f.entry w)
   root_added f a b w t opens h =
       let same : same_key (key_of f.entry) None ≡ true = ap (λ o. same_key o None) (root_key w f opens) in
@@ -194,7 +190,7 @@ module _ (es : List Event) (wf : IsWellFormed es) (root : ℕ) (span : ℕ → �
       ∙ ap (λ r. plus r (share es root span everywhere key (length es) (suc (length es)))) (plus-zero (share es root span everywhere key 0 (length es)))
 
   -- where the root alone is open at the end, the table with its row is that of the dag
-  pub finished : (f : Counted) (a b : List ℕ) (w : ℕ) (t : Sums) → AreOpen w (f.entry ∷ []) → Shared es root span (length es) (tell (f ∷ []) a b w t)
+  pub finished : (f : Counted) (a b : ℕ → Bool) (w : ℕ) (t : Sums) → AreOpen w (f.entry ∷ []) → Shared es root span (length es) (tell (f ∷ []) a b w t)
       → (key : Option ℕ) → key_row (record t { root = plus t.root (full_row f w) }) key ≡ row es root span everywhere key
   finished f a b w t opens h None =
       let e = ended f [] w h.entry in

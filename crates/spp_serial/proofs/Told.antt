@@ -1,5 +1,5 @@
 -- The table's part of a pass: what it has between two events, and what each event does to it.
-use Rattle.std.specs.Prelude.{◌≡◌, ℕ, ◌+◌, true, nat_eq, List, [], ◌∷◌, replicate, slice_index, slice_set}
+use Rattle.std.specs.Prelude.{◌≡◌, ℕ, ◌+◌, Bool, true, false, not, List, [], ◌∷◌}
 use Rattle.spp_maxplus.specs.State.{unburdened, start, close, after_strand, after_sync}
 use Rattle.spp_dag.specs.declared.row.Row.{Row}
 use Rattle.spp_dag.specs.declared.stack.EntryFrame.{EntryFrame}
@@ -8,19 +8,21 @@ use Rattle.spp_dag.specs.declared.stack.FrameKind.TheVariants.{Root}
 use Rattle.spp_dag.specs.Stack.{after_child}
 use Rattle.spp_dag.specs.Steps.{closed_row}
 use Rattle.spp_site.specs.Table.{Sums, empty, IsAdded}
-use Rattle.spp_serial.specs.Passes.{raised, lowered}
+use Rattle.spp_site.specs.Marks.{with_mark, without}
 
--- an open frame, and the counts of the strands directly in it, which the table doesn't have yet
+-- an open frame; the counts of the strands directly in it, which the table doesn't have yet; and whether no frame that
+-- encloses it runs its function
 pub record Counted : Type 0 where
   pub entry : EntryFrame
   pub local : ℕ
+  pub top_func : Bool
 
--- the open frames, innermost first; how many of them each site entered, and how many run each function; the work so
+-- the open frames, innermost first; the sites by which they were entered, and the functions that they run; the work so
 -- far; and the table
 pub record Told : Type 0 where
   pub frames : List Counted
-  pub open_sites : List ℕ
-  pub open_funcs : List ℕ
+  pub open_sites : ℕ → Bool
+  pub open_funcs : ℕ → Bool
   pub work : ℕ
   pub table : Sums
 
@@ -34,14 +36,15 @@ abbrev pub full_row : Counted → ℕ → Row
 full_row f work = record (closed_row f.entry work) { local = f.local }
 
 -- before the first event the root frame is open, which runs `root`
-abbrev pub start_told : ℕ → ℕ → ℕ → Told
-start_told root sites funcs = record {
+abbrev pub start_told : ℕ → Told
+start_told root = record {
   frames = record {
     entry = record { kind = Root; at = 0; site = 0; func = root; before = 0; state = start; top_site = true; top_caller = true };
     local = 0;
+    top_func = true;
   } ∷ [];
-  open_sites = replicate sites 0;
-  open_funcs = slice_set (replicate funcs 0) root 1;
+  open_sites = λ site. false;
+  open_funcs = with_mark root (λ func. false);
   work = 0;
   table = empty;
 }
@@ -51,7 +54,7 @@ start_told root sites funcs = record {
 -- a strand is added to the innermost frame
 abbrev pub strand_frames : ℕ → List Counted → List Counted
 strand_frames count [] = []
-strand_frames count (f ∷ fs) = record { entry = record f.entry { state = after_strand count f.entry.state }; local = f.local + count } ∷ fs
+strand_frames count (f ∷ fs) = record f { entry = record f.entry { state = after_strand count f.entry.state }; local = f.local + count } ∷ fs
 
 abbrev pub strand_told : ℕ → Told → Told
 strand_told count t = record t { frames = strand_frames count t.frames; work = t.work + count }
@@ -67,7 +70,7 @@ sync_told t = record t { frames = sync_frames t.frames }
 -- ---- a call, and a spawn
 
 -- The frame that the frame f opens at `at`. It is a top frame by site where no open frame was entered by its site,
--- and by caller where f alone runs f's function.
+-- by caller where f is one by function, and by function where no open frame runs its function.
 abbrev pub opened_frame : FrameKind → ℕ → ℕ → ℕ → Told → Counted → Counted
 opened_frame kind at site func t f = record {
   entry = record {
@@ -77,10 +80,11 @@ opened_frame kind at site func t f = record {
     func = func;
     before = t.work;
     state = start;
-    top_site = nat_eq (slice_index t.open_sites site) 0;
-    top_caller = nat_eq (slice_index t.open_funcs f.entry.func) 1;
+    top_site = not (t.open_sites site);
+    top_caller = f.top_func;
   };
   local = 0;
+  top_func = not (t.open_funcs func);
 }
 
 abbrev pub open_frames : FrameKind → ℕ → ℕ → ℕ → Told → List Counted → List Counted
@@ -90,8 +94,8 @@ open_frames kind at site func t (f ∷ fs) = opened_frame kind at site func t f 
 abbrev pub open_told : FrameKind → ℕ → ℕ → ℕ → Told → Told
 open_told kind at site func t = record t {
   frames = open_frames kind at site func t t.frames;
-  open_sites = raised t.open_sites site;
-  open_funcs = raised t.open_funcs func;
+  open_sites = with_mark site t.open_sites;
+  open_funcs = with_mark func t.open_funcs;
 }
 
 -- ---- a return
@@ -106,7 +110,7 @@ return_frames (f ∷ g ∷ fs) =
 -- it has closed, and the table has its row
 pub record IsReturned (f : Counted) (old new : Told) : Type 0 where
   pub frames : new.frames ≡ return_frames old.frames
-  pub open_sites : new.open_sites ≡ lowered old.open_sites f.entry.site
-  pub open_funcs : new.open_funcs ≡ lowered old.open_funcs f.entry.func
+  pub open_sites : new.open_sites ≡ without f.entry.top_site f.entry.site old.open_sites
+  pub open_funcs : new.open_funcs ≡ without f.top_func f.entry.func old.open_funcs
   pub work : new.work ≡ old.work
   pub table : IsAdded old.table new.table f.entry.site (full_row f old.work)

@@ -1,5 +1,5 @@
 -- What one pass over the events of a run has between two events, and what each event does to it.
-use Rattle.std.specs.Prelude.{◌≡◌, ℕ, ◌+◌, ◌-◌, ◌<◌, ◌≤◌, ◌^◌, Bool, true, false, cond, nat_eq, nat_lt, List, [], ◌∷◌, ◌++◌, length, replicate, reverse, slice_index, slice_set, Option, Some, None}
+use Rattle.std.specs.Prelude.{◌≡◌, ℕ, ◌+◌, ◌-◌, ◌<◌, ◌≤◌, ◌^◌, Bool, true, false, cond, not, nat_lt, List, [], ◌∷◌, ◌++◌, reverse, Option, Some, None}
 use Rattle.spp_maxplus.specs.declared.state.Burdens.{Burdens}
 use Rattle.spp_maxplus.specs.declared.state.State.{State}
 use Rattle.spp_maxplus.specs.State.{unburdened, taken}
@@ -9,6 +9,7 @@ use Rattle.spp_dag.specs.declared.stack.FrameKind.TheVariants.{Root, Called, Spa
 use Rattle.spp_dag.specs.Shares.{plus}
 use Rattle.spp_site.specs.Rows.{Fits}
 use Rattle.spp_site.specs.Table.{Sums, row_at, empty, IsAdded}
+use Rattle.spp_site.specs.Marks.{is_marked, with_mark, without}
 use Rattle.spp_path.specs.declared.choices.End.{End}
 use Rattle.spp_path.specs.declared.choices.Join.{Join}
 use Rattle.spp_serial.specs.declared.summing.CountedFrame.{CountedFrame}
@@ -28,8 +29,8 @@ abbrev pub state_of : CountedFrame → State
 state_of f = record { spine = f.plain.spine; child = child_of f.plain.child f.child }
 
 -- a frame that is opened at `at` when the work so far is `before`
-abbrev pub opened_frame : FrameKind → ℕ → ℕ → ℕ → ℕ → Bool → Bool → CountedFrame
-opened_frame kind at site func before top_site top_caller = record {
+abbrev pub opened_frame : FrameKind → ℕ → ℕ → ℕ → ℕ → Bool → Bool → Bool → CountedFrame
+opened_frame kind at site func before top_site top_caller top_func = record {
   plain = start;
   burdened = start;
   before = before;
@@ -41,6 +42,7 @@ opened_frame kind at site func before top_site top_caller = record {
   kind = kind;
   top_site = top_site;
   top_caller = top_caller;
+  top_func = top_func;
 }
 
 -- a strand is added
@@ -101,12 +103,12 @@ pub record FitsReturn (burdens : Burdens) (f g : CountedFrame) : Type 0 where
 
 -- ---- the pass
 
--- the open frames, innermost first; how many of them each site entered, and how many run each function; the work so
+-- the open frames, innermost first; the sites by which they were entered, and the functions that they run; the work so
 -- far; the table; and the choices
 pub record Seen : Type 0 where
   pub frames : List CountedFrame
-  pub open_sites : List ℕ
-  pub open_funcs : List ℕ
+  pub open_sites : ℕ → Bool
+  pub open_funcs : ℕ → Bool
   pub work : ℕ
   pub table : Sums
   pub ends : List End
@@ -115,8 +117,8 @@ pub record Seen : Type 0 where
 abbrev pub seen : Summing → Seen
 seen s = record {
   frames = reverse s.frames.items;
-  open_sites = s.open_sites.items;
-  open_funcs = s.open_funcs.items;
+  open_sites = is_marked s.open_sites;
+  open_funcs = is_marked s.open_funcs;
   work = s.work;
   table = s.table;
   ends = s.choices.ends.items;
@@ -124,11 +126,11 @@ seen s = record {
 }
 
 -- before the first event the root frame is open, which runs `root`
-abbrev pub start_seen : ℕ → ℕ → ℕ → Seen
-start_seen root sites funcs = record {
-  frames = opened_frame Root 0 0 root 0 true true ∷ [];
-  open_sites = replicate sites 0;
-  open_funcs = slice_set (replicate funcs 0) root 1;
+abbrev pub start_seen : ℕ → Seen
+start_seen root = record {
+  frames = opened_frame Root 0 0 root 0 true true true ∷ [];
+  open_sites = λ site. false;
+  open_funcs = with_mark root (λ func. false);
   work = 0;
   table = empty;
   ends = [];
@@ -174,34 +176,19 @@ sync_seen at s = record s { frames = on_top sync_frame s.frames; joins = s.joins
 
 -- ---- a call, and a spawn
 
--- one more, and one less, at a place
-abbrev pub raised : List ℕ → ℕ → List ℕ
-raised counts at = slice_set counts at (slice_index counts at + 1)
-
-abbrev pub lowered : List ℕ → ℕ → List ℕ
-lowered counts at = slice_set counts at (slice_index counts at - 1)
-
--- The innermost frame opens one at `at`. That is a top frame by site where no open frame was entered by its site, and
--- by caller where its opener alone runs its opener's function.
+-- The innermost frame opens one at `at`. That is a top frame by site where no open frame was entered by its site, by
+-- caller where its opener is one by function, and by function where no open frame runs its function.
 abbrev pub open_frames : FrameKind → ℕ → ℕ → ℕ → Seen → List CountedFrame → List CountedFrame
 open_frames kind at site func s [] = []
 open_frames kind at site func s (f ∷ fs) =
-    opened_frame kind at site func s.work (nat_eq (slice_index s.open_sites site) 0) (nat_eq (slice_index s.open_funcs f.func) 1) ∷ f ∷ fs
+    opened_frame kind at site func s.work (not (s.open_sites site)) f.top_func (not (s.open_funcs func)) ∷ f ∷ fs
 
 abbrev pub open_seen : FrameKind → ℕ → ℕ → ℕ → Seen → Seen
 open_seen kind at site func s = record s {
   frames = open_frames kind at site func s s.frames;
-  open_sites = raised s.open_sites site;
-  open_funcs = raised s.open_funcs func;
+  open_sites = with_mark site s.open_sites;
+  open_funcs = with_mark func s.open_funcs;
 }
-
--- the site and the two functions have their counts, and these can be raised
-pub record CanOpen (site func : ℕ) (s : Seen) : Type 0 where
-  pub site_known : site < length s.open_sites
-  pub func_known : func < length s.open_funcs
-  pub caller_known : OnTop (λ f. f.func < length s.open_funcs) s.frames
-  pub site_room : slice_index s.open_sites site + 1 < 2 ^ 32
-  pub func_room : slice_index s.open_funcs func + 1 < 2 ^ 32
 
 -- ---- a return
 
@@ -209,10 +196,6 @@ pub record CanOpen (site func : ℕ) (s : Seen) : Type 0 where
 pub record CanClose (burdens : Burdens) (f g : CountedFrame) (s : Seen) : Type 0 where
   pub fits : FitsReturn burdens f g
   pub before : f.before ≤ s.work
-  pub site_known : f.site < length s.open_sites
-  pub func_known : f.func < length s.open_funcs
-  pub site_open : 0 < slice_index s.open_sites f.site
-  pub func_open : 0 < slice_index s.open_funcs f.func
   pub row : Fits (plus (row_at s.table f.site) (row_of f s.work))
 
 -- some frame is open, and if it isn't alone it can return
@@ -230,8 +213,8 @@ ends_at at Spawned spawn = record { at = at; spawn = spawn } ∷ []
 -- the innermost frame f has returned at `at` to g, below which the frames fs are open, and the table has its row
 pub record IsReturned (burdens : Burdens) (at : ℕ) (f g : CountedFrame) (fs : List CountedFrame) (old new : Seen) : Type 0 where
   pub frames : new.frames ≡ returned_frame burdens f g ∷ fs
-  pub open_sites : new.open_sites ≡ lowered old.open_sites f.site
-  pub open_funcs : new.open_funcs ≡ lowered old.open_funcs f.func
+  pub open_sites : new.open_sites ≡ without f.top_site f.site old.open_sites
+  pub open_funcs : new.open_funcs ≡ without f.top_func f.func old.open_funcs
   pub work : new.work ≡ old.work
   pub table : IsAdded old.table new.table f.site (row_of f old.work)
   pub ends : new.ends ≡ old.ends ++ ends_at at f.kind f.at

@@ -48,7 +48,7 @@ pub(crate) fn first_pass(
 {
     let burdens = Burdens::both(burden);
     let count = trace.count();
-    let mut summing = Summing::new(alloc, trace.root(), trace.sites(), trace.funcs())?;
+    let mut summing = Summing::new(alloc, trace.root())?;
     for at in 0..count {
         let event = match trace.event_at(at) {
             Ok(event) => event,

@@ -20,7 +20,6 @@ ghost use Rattle.spp_serial.specs.Passes.{
   open_seen,
   HasOpen,
   CanAdd,
-  CanOpen,
   CanReturn,
   Returns,
   CanFinish,
@@ -32,7 +31,7 @@ use spp_dag::{FrameKind, Row};
 use spp_maxplus::Burdens;
 use spp_path::{Choices, End, Join};
 use spp_piece::Figures;
-use spp_site::Table;
+use spp_site::{Marks, Table};
 use std::alloc::{AllocError, Global};
 
 /// What one reading of a run's events tells.
@@ -71,6 +70,8 @@ struct CountedFrame {
     top_site: bool,
     /// Its caller is enclosed by no frame of the caller's function.
     top_caller: bool,
+    /// No frame of the same function encloses it.
+    top_func: bool,
 }
 
 impl CountedFrame {
@@ -179,10 +180,10 @@ fn note_end(ends: &mut Vec<End>, at: u32, kind: FrameKind, spawn: u32) -> Result
 pub(crate) struct Summing {
     /// The open frames, the root first. They are changed where they lie, since to move one costs more than all else.
     frames: Vec<CountedFrame>,
-    /// For each site how many open frames were entered by it.
-    open_sites: Vec<u32>,
-    /// For each function how many open frames run it.
-    open_funcs: Vec<u32>,
+    /// The sites by which the open frames were entered.
+    open_sites: Marks,
+    /// The functions that the open frames run.
+    open_funcs: Marks,
     /// The counts of all strands so far.
     work: u128,
     /// The rows of the frames that have closed.
@@ -192,14 +193,12 @@ pub(crate) struct Summing {
 }
 
 impl Summing {
-    /// The pass before the first event, where there are that many sites and functions and the root frame runs `root`.
-    pub(crate) fn new(alloc: Global, root: u32, sites: u32, funcs: u32) -> Result<Self, AllocError>
-        requires { root < funcs }
-        ensures { IfOk result (λ s. seen s ≡ start_seen root sites funcs) }
+    /// The pass before the first event, where the root frame runs `root`.
+    pub(crate) fn new(alloc: Global, root: u32) -> Result<Self, AllocError>
+        ensures { IfOk result (λ s. seen s ≡ start_seen root) }
     {
-        let open_sites = vec![in alloc; 0; sites as usize]?;
-        let mut open_funcs = vec![in alloc; 0; funcs as usize]?;
-        open_funcs[root as usize] = 1;
+        let mut open_funcs = Marks::new(alloc);
+        open_funcs.add(root)?;
         let mut frames = Vec::new(alloc);
         frames.push(CountedFrame {
             plain: Weights::start(),
@@ -213,10 +212,11 @@ impl Summing {
             kind: FrameKind::Root,
             top_site: true,
             top_caller: true,
+            top_func: true,
         })?;
         Ok(Summing {
             frames,
-            open_sites,
+            open_sites: Marks::new(alloc),
             open_funcs,
             work: 0,
             table: Table::new(alloc),
@@ -256,12 +256,12 @@ impl Summing {
         site: u32,
         func: u32,
     ) -> Result<(), AllocError>
-        requires { CanOpen site func (seen self.old) }
+        requires { HasOpen (seen self.old) }
         ensures { OnOk result (seen self.new ≡ open_seen kind at site func (seen self.old)) }
     {
-        let caller = self.frames[self.frames.len() - 1].func;
-        let top_site = self.open_sites[site as usize] == 0;
-        let top_caller = self.open_funcs[caller as usize] == 1;
+        let top_caller = self.frames[self.frames.len() - 1].top_func;
+        let top_site = !self.open_sites.has(site);
+        let top_func = !self.open_funcs.has(func);
         self.frames.push(CountedFrame {
             plain: Weights::start(),
             burdened: Weights::start(),
@@ -274,9 +274,10 @@ impl Summing {
             kind,
             top_site,
             top_caller,
+            top_func,
         })?;
-        self.open_sites[site as usize] += 1;
-        self.open_funcs[func as usize] += 1;
+        self.open_sites.add(site)?;
+        self.open_funcs.add(func)?;
         Ok(())
     }
 
@@ -307,8 +308,8 @@ impl Summing {
         note_join(&mut self.choices.joins, at, child.taken())?;
         note_end(&mut self.choices.ends, at, child.kind, child.at)?;
         self.table.add(child.site, &child.row(self.work))?;
-        self.open_sites[child.site as usize] -= 1;
-        self.open_funcs[child.func as usize] -= 1;
+        self.open_sites.remove_if(child.top_site, child.site);
+        self.open_funcs.remove_if(child.top_func, child.func);
         let last = self.frames.len() - 1;
         self.frames[last].receive(&child, burdens);
         Ok(true)

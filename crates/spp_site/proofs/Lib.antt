@@ -4,3 +4,4 @@ pub mod Places
 pub mod Adding
 pub mod Merging
 pub mod Small
+pub mod Marked

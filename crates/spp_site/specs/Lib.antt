@@ -2,3 +2,4 @@ pub mod Rows
 pub mod Table
 pub mod Slots
 pub mod Laws
+pub mod Marks

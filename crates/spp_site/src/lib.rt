@@ -2,10 +2,12 @@
 #![tactic(auto)]
 
 mod laws;
+mod marks;
 mod row_sums;
 mod table;
 
 pub use laws::table_laws;
+pub use marks::Marks;
 pub use spp_dag::Row;
 pub use table::Table;
 

@@ -8,7 +8,7 @@ use Rattle.spp_serial.specs.declared.ProfileFault.{ProfileFault}
 use Rattle.spp_serial.specs.Answers.{IsFaultOf}
 use Rattle.spp_serial.specs.Passes.{Seen, seen, start_seen, Returns, IsFinished}
 use Rattle.spp_serial.proofs.Keeping.{kept_bad, kept_return, kept_open}
-use Rattle.spp_serial.proofs.Passed.{light_of, leans, Passed, start_passed, is_read, ready_add, ready_call, ready_spawn, ready_return, strand_passed, sync_passed, call_passed, spawn_passed, root_stays, return_passed, ready_finish, IsTold, is_told}
+use Rattle.spp_serial.proofs.Passed.{light_of, leans, Passed, start_passed, is_read, ready_add, ready_return, strand_passed, sync_passed, call_passed, spawn_passed, root_stays, return_passed, ready_finish, IsTold, is_told}
 use Rattle.spp_serial.proofs.first_pass.first_pass.Goals as goal
 use Rattle.spp_serial.proofs.first_pass.first_pass.Goals.{in-Strand, in-Call+in_ok-open-in-Call, in-Spawn+in_ok-open-in-Spawn, in-Ret+in_ok-ret-in-Ret+else-not-branch, in-Sync+in_ok-sync-in-Sync}
 use Rattle.std.proofs.lemmas.List.{length-map}
@@ -16,14 +16,8 @@ use Rattle.std.proofs.lemmas.List.{length-map}
 pub loop-at-init : goal.loop-at-init
 loop-at-init c =
     let trace : Recording = c.args.trace.now in
-    let root : c.root.result ≡ trace.root = c.root.ensures in
-    let sites : c.sites.result ≡ length trace.sites = c.sites.ensures in
-    let funcs : c.funcs.result ≡ length trace.funcs = c.funcs.ensures in
-    let is : seen c.in_ok-summing.summing ≡ start_seen c.root.result c.sites.result c.funcs.result = c.in_ok-summing.ensures in
-    record {
-      passed = start_passed trace c.both-burdens.result (seen c.in_ok-summing.summing) c.count-count.ensures.limits.root
-          (is ∙ ap (λ n. start_seen n c.sites.result c.funcs.result) root ∙ ap (λ n. start_seen trace.root n c.funcs.result) sites ∙ ap (λ n. start_seen trace.root (length trace.sites) n) funcs);
-    }
+    let is : seen c.in_ok-summing.summing ≡ start_seen c.root.result = c.in_ok-summing.ensures in
+    record { passed = start_passed trace c.both-burdens.result (seen c.in_ok-summing.summing) (is ∙ ap start_seen c.root.ensures); }
 
 pub returns-in-Err-clause-fault : goal.returns-in-Err-clause-fault
 returns-in-Err-clause-fault c =
@@ -45,26 +39,6 @@ strand-requires c =
     let b : Burdens = c.both-burdens.result in
     let light = light_of b c.args.burden c.both-burdens.ensures c.ranges.burden.fits in
     ready_add trace b light c.count-count.ensures.limits.events c.loop-at.at lt c.in-Strand.count read (seen c.loop-at.summing) c.loop-at.invariant.passed
-
-pub open-requires : goal.open-requires
-open-requires c =
-    let trace : Recording = c.args.trace.now in
-    let lt : c.loop-at.at < length trace.records = omega (arith, c.count-count.ensures.count) in
-    let e : Event = Call c.in-Call.site c.in-Call.func in
-    let read = is_read trace c.loop-at.at c.event_at.result e c.event_at.ensures.said c.event_at.ensures.within (c.in-Ok.is ∙ ap (λ (e : Event). Ok e) c.in-Call.is) in
-    let b : Burdens = c.both-burdens.result in
-    let light = light_of b c.args.burden c.both-burdens.ensures c.ranges.burden.fits in
-    ready_call trace b light c.count-count.ensures.limits.events c.loop-at.at lt c.in-Call.site c.in-Call.func read (seen c.loop-at.summing) c.loop-at.invariant.passed
-
-pub open-requires-in-Spawn : goal.open-requires-in-Spawn
-open-requires-in-Spawn c =
-    let trace : Recording = c.args.trace.now in
-    let lt : c.loop-at.at < length trace.records = omega (arith, c.count-count.ensures.count) in
-    let e : Event = Spawn c.in-Spawn.site c.in-Spawn.func in
-    let read = is_read trace c.loop-at.at c.event_at.result e c.event_at.ensures.said c.event_at.ensures.within (c.in-Ok.is ∙ ap (λ (e : Event). Ok e) c.in-Spawn.is) in
-    let b : Burdens = c.both-burdens.result in
-    let light = light_of b c.args.burden c.both-burdens.ensures c.ranges.burden.fits in
-    ready_spawn trace b light c.count-count.ensures.limits.events c.loop-at.at lt c.in-Spawn.site c.in-Spawn.func read (seen c.loop-at.summing) c.loop-at.invariant.passed
 
 pub ret-requires : goal.ret-requires
 ret-requires c =

@@ -1,0 +1,84 @@
+//! A set of small numbers.
+
+ghost use Rattle.std.specs.Prelude.{◌≡◌, ℕ, [], true, OnOk, OnErr};
+ghost use Rattle.spp_site.specs.Marks.{is_marked, with_mark, without};
+
+use std::alloc::{AllocError, Global};
+use std::marker::Model;
+
+/// A set of numbers of sites or of functions, such as those of the frames that are open. It takes a byte for each number
+/// up to the greatest that was put in, or up to twice that where it grew bit by bit.
+///
+/// Contracts see a bit for each number; a number behind the last bit isn't in the set.
+#[derive(Drop)]
+pub struct Marks {
+    bits: Vec<bool>,
+}
+
+impl Model for Marks {
+    ghost use Rattle.std.specs.Prelude.{Bool, List};
+
+    ghost Value = { List Bool };
+
+    ghost view = { λ m. m.bits.items };
+}
+
+impl Marks {
+    /// No numbers. It takes no memory.
+    pub fn new(alloc: Global) -> Marks
+        ensures { result ≡ [] }
+    {
+        Marks {
+            bits: Vec::new(alloc),
+        }
+    }
+
+    /// Whether the number is in the set.
+    #[inline(always)]
+    pub fn has(&self, x: u32) -> bool
+        ensures { result ≡ is_marked self.now x }
+    {
+        match self.bits.get(x as usize) {
+            None => false,
+            Some(bit) => *bit,
+        }
+    }
+
+    /// Puts a number in. It takes constant time, amortized, behind a step for each number up to the greatest.
+    ///
+    /// # Errors
+    ///
+    /// Where a growth was refused; the set then is as it was.
+    #[inline(always)]
+    pub fn add(&mut self, x: u32) -> Result<(), AllocError>
+        ensures added { OnOk result ((y : ℕ) → is_marked self.new y ≡ with_mark x (is_marked self.old) y) }
+        ensures stays { OnErr result (self.new ≡ self.old) }
+    {
+        let place = x as usize;
+        if self.bits.len() <= place {
+            self.bits.resize(place + 1, false)?;
+        }
+        self.bits[place] = true;
+        Ok(())
+    }
+
+    /// Takes a number out.
+    #[inline(always)]
+    pub fn remove(&mut self, x: u32)
+        ensures { (y : ℕ) → is_marked self.new y ≡ without true x (is_marked self.old) y }
+    {
+        if let Some(bit) = self.bits.get_mut(x as usize) {
+            *bit = false;
+        }
+    }
+
+    /// Takes a number out, if that is so, as where the outermost of the open frames that have it closes.
+    #[inline(always)]
+    pub fn remove_if(&mut self, out: bool, x: u32)
+        ensures { (y : ℕ) → is_marked self.new y ≡ without out x (is_marked self.old) y }
+    {
+        if out {
+            self.remove(x);
+        }
+    }
+}
