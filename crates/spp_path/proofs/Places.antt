@@ -1,6 +1,6 @@
 -- The open frames before an event: those that the path enters, with what the pass has of them, and on top of them
 -- those that it doesn't enter.
-use Rattle.std.proofs.Common.{◌≡◌, ℕ, suc, ◌+◌, ◌≤◌, ◌<◌, ◌↔◌, Bool, true, false, refl, arith, sym, ◌∙◌, ap, subst, List, [], ◌∷◌, ◌++◌, length, map, take, Some}
+use Rattle.std.proofs.Common.{◌≡◌, ℕ, suc, ◌+◌, ◌≤◌, ◌<◌, ◌↔◌, Bool, true, false, not, refl, arith, sym, ◌∙◌, ap, subst, List, [], ◌∷◌, ◌++◌, length, map, take, Some}
 use Rattle.std.proofs.lemmas.Bool.{both_ways}
 use Rattle.spp_event.specs.declared.records.Event.{Event}
 use Rattle.spp_event.specs.declared.records.Event.TheVariants.{Strand, Call, Spawn, Ret, Sync}
@@ -15,7 +15,7 @@ use Rattle.spp_dag.specs.Dag.{IsGreatest, IsPath, On}
 use Rattle.spp_dag.specs.Stack.{after_child, run, root_frame}
 use Rattle.spp_dag.specs.Laws.{HasTop}
 use Rattle.spp_dag.specs.Choices.{IsEntry, IsRunning, entry_frame, first_of}
-use Rattle.spp_dag.specs.Steps.{key_of, opened, entry_after}
+use Rattle.spp_dag.specs.Steps.{key_of, has_site, has_func, opened, entry_after}
 use Rattle.spp_dag.proofs.Depth.{inside}
 use Rattle.spp_dag.proofs.Owner.{owner_is, return_closes}
 use Rattle.spp_dag.proofs.Stacks.{plain_top, frames_give_spans}
@@ -24,12 +24,13 @@ use Rattle.spp_dag.proofs.StepsFrames.{all_traced, traced_frame}
 use Rattle.spp_dag.proofs.StepsListing.{shape_at}
 use Rattle.spp_path.proofs.Running.{running_keeps, running_quiet, running_waited, running_beside, running_stops, running_first, passes, enters_called, enters_parent}
 
--- an open frame that the path enters: what the machine has of it, the path's strands directly in it, and whether it
--- runs on
+-- an open frame that the path enters: what the machine has of it, the path's strands directly in it, whether it runs
+-- on, and whether no frame that encloses it runs its function
 pub record PathFrame : Type 0 where
   pub entry : EntryFrame
   pub local : ℕ
   pub running : Bool
+  pub top_func : Bool
 
 abbrev pub entries : List PathFrame → List EntryFrame
 entries ks = map (λ k. k.entry) ks
@@ -69,9 +70,19 @@ open_state : (w : ℕ) (f : EntryFrame) (s : State) (fs : List EntryFrame) → A
 open_state w f s [] h = h
 open_state w f s (g ∷ fs) h = h
 
+-- each frame is a top frame by site, and by function, where none that encloses it has the same
+abbrev pub AreMarked : List PathFrame → Type 0
+AreMarked [] = Unit {0}
+AreMarked (k ∷ ks) = (k.entry.top_site ≡ not (has_site (entries ks) k.entry.site)) × (k.top_func ≡ not (has_func (entries ks) k.entry.func)) × AreMarked ks
+
 -- the innermost frame as the pass has it after a call or a spawn, where it was opened by f
 abbrev pub new_frame : FrameKind → ℕ → ℕ → ℕ → ℕ → EntryFrame → List EntryFrame → PathFrame
-new_frame kind i site func w f fs = record { entry = opened kind i site func w f fs; local = 0; running = true }
+new_frame kind i site func w f fs = record {
+  entry = opened kind i site func w f fs;
+  local = 0;
+  running = true;
+  top_func = not (has_func (f ∷ fs) func);
+}
 
 -- another state of what the machine has of it
 abbrev pub with_state : State → PathFrame → PathFrame
@@ -260,7 +271,7 @@ module _ (es : List Event) (wf : IsWellFormed es) (root : ℕ) (rest : List ℕ)
           )
 
       pub strand_in : (n m : ℕ) → event_at es i ≡ Some (Strand n)
-          → Place (suc i) (w + n) [] (record { entry = record k.entry { state = after_strand n k.entry.state }; local = m; running = k.running } ∷ ks)
+          → Place (suc i) (w + n) [] (record k { entry = record k.entry { state = after_strand n k.entry.state }; local = m } ∷ ks)
       strand_in n m is = record {
         entry = entry_next i (Strand n) is (entries (k ∷ ks)) w (w + n) h.entry refl;
         beside = tt;
@@ -272,7 +283,7 @@ module _ (es : List Event) (wf : IsWellFormed es) (root : ℕ) (rest : List ℕ)
       }
 
       pub sync_in : event_at es i ≡ Some Sync
-          → Place (suc i) w [] (record { entry = record k.entry { state = after_sync k.entry.state }; local = k.local; running = true } ∷ ks)
+          → Place (suc i) w [] (record k { entry = record k.entry { state = after_sync k.entry.state }; running = true } ∷ ks)
       sync_in is =
           let l = inside es i Sync is in
           let o = owner_in l in

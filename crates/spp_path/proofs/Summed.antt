@@ -1,6 +1,6 @@
 -- What the pass that sums up the rows of the path keeps: the table and what the open entered frames owe are the shares
 -- so far.
-use Rattle.std.proofs.Common.{◌≡◌, ℕ, suc, ◌+◌, ◌-◌, ◌*◌, ◌<◌, ◌≤◌, ◌^◌, ◌↔◌, ◌&&◌, Bool, true, false, cond, not, nat_eq, List, [], ◌∷◌, ◌++◌, length, map, slice_index, Option, Some, None, refl, sym, ap, ap₂, subst, ◌∙◌, arith, inl, inr}
+use Rattle.std.proofs.Common.{◌≡◌, ℕ, suc, ◌+◌, ◌-◌, ◌*◌, ◌<◌, ◌≤◌, ◌^◌, ◌↔◌, ◌&&◌, ◌||◌, Bool, true, false, cond, not, nat_eq, List, [], ◌∷◌, ◌++◌, length, map, Option, Some, None, refl, sym, ap, ap₂, subst, ◌∙◌, arith, inl, inr}
 use Rattle.std.proofs.lemmas.Bool.{eq-eqb, ne_eqb, cases_eq, cases_Bool, false_from_ne_true, cond-true, cond-false}
 use Rattle.spp_event.specs.declared.records.Event.{Event}
 use Rattle.spp_event.specs.declared.records.Event.TheVariants.{Strand, Call, Spawn, Ret, Sync}
@@ -23,11 +23,12 @@ use Rattle.spp_site.specs.Table.{Sums, row_at, IsAdded}
 use Rattle.spp_site.proofs.Rows.{plus-zero}
 use Rattle.spp_path.specs.declared.rows.EnteredFrame.{EnteredFrame}
 use Rattle.spp_path.specs.Tables.{key_row}
-use Rattle.spp_path.specs.Rows.{Told, entered_row, runs, strand_told, beside_told, enter_told, entered_frame, skip_told, wait_told, sync_told, leave_told, raised, lowered, IsReturned}
+use Rattle.spp_path.specs.Rows.{Told, entered_row, runs, strand_told, beside_told, enter_told, entered_frame, skip_told, wait_told, sync_told, leave_told, IsReturned}
 use Rattle.spp_path.proofs.PathSpans.{passed, entered_span}
 use Rattle.spp_path.proofs.RowSums.{full_row, strand_owed, none_owed, closed_owed, Low, low_zero, low_plus, low_strand, low_closed}
-use Rattle.spp_path.proofs.Counts.{count_site, count_func, has_site_is, has_func_is, raised_is, lowered_is}
-use Rattle.spp_path.proofs.Places.{PathFrame, entries, first, new_frame, with_state, Place, not_on, is_on, strand_out, sync_out, call_out, spawn_out, return_out, return_back, strand_in, sync_in, call_in, call_beside, spawn_in, spawn_beside, return_closing, return_in}
+use Rattle.spp_site.specs.Marks.{with_mark, without}
+use Rattle.spp_site.proofs.Marked.{marked_more, marked_less}
+use Rattle.spp_path.proofs.Places.{PathFrame, AreMarked, entries, first, new_frame, with_state, Place, not_on, is_on, strand_out, sync_out, call_out, spawn_out, return_out, return_back, strand_in, sync_in, call_in, call_beside, spawn_in, spawn_beside, return_closing, return_in}
 
 -- what the open frames owe the row of a key: the path's strands directly in them
 abbrev pub owed : List PathFrame → Option ℕ → Row
@@ -98,6 +99,7 @@ module _ (es : List Event) (wf : IsWellFormed es) (root : ℕ) (span : ℕ → �
     func = k.entry.func;
     top_site = k.entry.top_site;
     top_caller = k.entry.top_caller;
+    top_func = k.top_func;
     running = k.running;
     work_before = k.entry.before;
     weight_before = passed es on (first k.entry);
@@ -105,7 +107,7 @@ module _ (es : List Event) (wf : IsWellFormed es) (root : ℕ) (span : ℕ → �
   }
 
   -- what the pass has, where the machine has the frames `outs` open, which the path doesn't enter, within `ks`
-  abbrev pub tell : List EntryFrame → List PathFrame → List ℕ → List ℕ → ℕ → ℕ → Sums → Told
+  abbrev pub tell : List EntryFrame → List PathFrame → (ℕ → Bool) → (ℕ → Bool) → ℕ → ℕ → Sums → Told
   tell outs ks a b w v t = record {
     frames = map shown ks;
     skipped = length outs;
@@ -121,12 +123,13 @@ module _ (es : List Event) (wf : IsWellFormed es) (root : ℕ) (span : ℕ → �
   shares_to i key = share es root span on key 0 i
 
   -- before the event at i: the open frames, and what the counts, the work, the weight and the table are
-  pub record At (i : ℕ) (outs : List EntryFrame) (ks : List PathFrame) (a b : List ℕ) (w v : ℕ) (t : Sums) : Type 0 where
+  pub record At (i : ℕ) (outs : List EntryFrame) (ks : List PathFrame) (a b : ℕ → Bool) (w v : ℕ) (t : Sums) : Type 0 where
     pub place : Place es wf root rest path i w outs ks
     pub rows : (key : Option ℕ) → plus (key_row t key) (owed ks key) ≡ shares_to i key
     pub low : (key : Option ℕ) → Low i w (shares_to i key)
-    pub sites : (s : ℕ) → slice_index a s ≡ count_site s (entries ks)
-    pub funcs : (s : ℕ) → slice_index b s ≡ count_func s (entries ks)
+    pub sites : (s : ℕ) → a s ≡ has_site (entries ks) s
+    pub funcs : (s : ℕ) → b s ≡ has_func (entries ks) s
+    pub marked : AreMarked ks
     pub weight_is : v ≡ passed es on i
     pub light : v ≤ w
     pub small : w ≤ 18446744073709551616 * i
@@ -138,7 +141,7 @@ module _ (es : List Event) (wf : IsWellFormed es) (root : ℕ) (span : ℕ → �
     pub is : t ≡ tell outs ks t.open_sites t.open_funcs t.work t.weight t.table
     pub at : At i outs ks t.open_sites t.open_funcs t.work t.weight t.table
 
-  summed : (i : ℕ) (t : Told) (outs : List EntryFrame) (ks : List PathFrame) (a b : List ℕ) (w v : ℕ) (u : Sums)
+  summed : (i : ℕ) (t : Told) (outs : List EntryFrame) (ks : List PathFrame) (a b : ℕ → Bool) (w v : ℕ) (u : Sums)
       → t ≡ tell outs ks a b w v u → At i outs ks a b w v u → Summed i t
   summed i t outs ks a b w v u e h = subst (λ x. Summed i x) (sym e) (record { outs = outs; ks = ks; is = refl; at = h })
 
@@ -166,12 +169,12 @@ module _ (es : List Event) (wf : IsWellFormed es) (root : ℕ) (span : ℕ → �
       short : weight_of (Some e) < 2 ^ 64
       passes_none : cond (on i) (weight es i) 0 ≡ 0
 
-    still : (e : Event) (f : EntryFrame) (fs : List EntryFrame) (outs xs : List EntryFrame) (ks ys : List PathFrame) (a b c d : List ℕ) (w u v : ℕ) (t : Sums)
+    still : (e : Event) (f : EntryFrame) (fs : List EntryFrame) (outs xs : List EntryFrame) (ks ys : List PathFrame) (a b c d : ℕ → Bool) (w u v : ℕ) (t : Sums)
         → Still e f fs w → outs ++ entries ks ≡ f ∷ fs → u ≡ w + weight_of (Some e) → At i outs ks a b w v t
         → Place es wf root rest path (suc i) u xs ys → ((key : Option ℕ) → owed ys key ≡ owed ks key)
-        → ((s : ℕ) → slice_index c s ≡ count_site s (entries ys)) → ((s : ℕ) → slice_index d s ≡ count_func s (entries ys))
+        → ((s : ℕ) → c s ≡ has_site (entries ys) s) → ((s : ℕ) → d s ≡ has_func (entries ys) s) → AreMarked ys
         → At (suc i) xs ys c d u v t
-    still e f fs outs xs ks ys a b c d w u v t s heads same h place owes sites funcs =
+    still e f fs outs xs ks ys a b c d w u v t s heads same h place owes sites funcs marked =
         let at : IsEntry es root i (f ∷ fs) w = subst (λ gs. IsEntry es root i gs w) heads h.place.entry in
         let more = λ (key : Option ℕ). let z : plus (shares_to i key) zero_row ≡ shares_to (suc i) key = ap (λ r. plus (shares_to i key) r) (sym (s.gains key)) ∙ share_next e s.is f fs w at key in z in
         let m = h.small in
@@ -184,6 +187,7 @@ module _ (es : List Event) (wf : IsWellFormed es) (root : ℕ) (span : ℕ → �
           low = λ key. low_next key (weight_of (Some e)) w u zero_row same (more key) (h.low key) (low_zero 1 (weight_of (Some e)));
           sites = sites;
           funcs = funcs;
+          marked = marked;
           weight_is = (let z = h.weight_is in omega arith);
           light = omega arith;
           small = omega arith;
@@ -231,10 +235,10 @@ module _ (es : List Event) (wf : IsWellFormed es) (root : ℕ) (span : ℕ → �
 
     -- the frame, with a strand on the path
     abbrev strand_frame : ℕ → PathFrame → PathFrame
-    strand_frame n k = record { entry = record k.entry { state = after_strand n k.entry.state }; local = k.local + n; running = k.running }
+    strand_frame n k = record k { entry = record k.entry { state = after_strand n k.entry.state }; local = k.local + n }
 
     -- a strand on the path
-    strand_on : (n : ℕ) → event_at es i ≡ Some (Strand n) → n < 2 ^ 64 → on i ≡ true → (k : PathFrame) (ks : List PathFrame) (a b : List ℕ) (w v : ℕ) (t : Sums)
+    strand_on : (n : ℕ) → event_at es i ≡ Some (Strand n) → n < 2 ^ 64 → on i ≡ true → (k : PathFrame) (ks : List PathFrame) (a b : ℕ → Bool) (w v : ℕ) (t : Sums)
         → At i [] (k ∷ ks) a b w v t → At (suc i) [] (strand_frame n k ∷ ks) a b (w + n) (v + n) t
     strand_on n is short p k ks a b w v t h =
         let key_on = λ (key : Option ℕ). let z : gain on key i (Strand n) k.entry w ≡ cond (same_key (key_of k.entry) key) (strand_row n) zero_row = ap (λ c. cond (c && same_key (key_of k.entry) key) (strand_row n) zero_row) p in z in
@@ -249,13 +253,14 @@ module _ (es : List Event) (wf : IsWellFormed es) (root : ℕ) (span : ℕ → �
           low = λ key. low_next key n w (w + n) _ refl (more key) (h.low key) (low_strand (same_key (key_of k.entry) key) n);
           sites = h.sites;
           funcs = h.funcs;
+          marked = h.marked;
           weight_is = (let z = h.weight_is in omega arith);
           light = omega arith;
           small = omega arith;
         }
 
     -- which frames run on, as the pass tells it
-    runs_out : (o : EntryFrame) (os : List EntryFrame) (ks : List PathFrame) (a b : List ℕ) (w v : ℕ) (t : Sums) → runs (tell (o ∷ os) ks a b w v t) ≡ false
+    runs_out : (o : EntryFrame) (os : List EntryFrame) (ks : List PathFrame) (a b : ℕ → Bool) (w v : ℕ) (t : Sums) → runs (tell (o ∷ os) ks a b w v t) ≡ false
     runs_out o os [] a b w v t = ap (λ c. c && false) (not_zero (length os))
     runs_out o os (k ∷ ks) a b w v t = ap (λ c. c && k.running) (not_zero (length os))
 
@@ -271,7 +276,7 @@ module _ (es : List Event) (wf : IsWellFormed es) (root : ℕ) (span : ℕ → �
             (d.1 (runs_out o os ks old.open_sites old.open_funcs old.work old.weight old.table))
             (still (Strand n) o (os ++ entries ks) (o ∷ os) _ ks ks old.open_sites old.open_funcs old.open_sites old.open_funcs old.work (old.work + n) old.weight old.table
             (strand_still n is short off o (os ++ entries ks) old.work) refl refl h
-            (strand_out es wf root rest path i old.work o os ks h.place n is) (λ key. refl) h.sites h.funcs)
+            (strand_out es wf root rest path i old.work o os ks h.place n is) (λ key. refl) h.sites h.funcs h.marked)
         by [] [] h d = absurd h.place.open_frames
         by [] (k ∷ ks) h d = elim (cases_Bool k.running) [
           | inl r ↦
@@ -280,12 +285,12 @@ module _ (es : List Event) (wf : IsWellFormed es) (root : ℕ) (span : ℕ → �
               (d.0 r) (strand_on n is short p k ks old.open_sites old.open_funcs old.work old.weight old.table h)
           | inr r ↦
               let off = on_false i (λ x. let z : true ≡ false = sym ((is_on es wf root rest path i old.work k ks h.place (Strand n) is refl).1 x) ∙ r in cc) in
-              summed (suc i) new [] (record { entry = record k.entry { state = after_strand n k.entry.state }; local = k.local; running = k.running } ∷ ks)
+              summed (suc i) new [] (record k { entry = record k.entry { state = after_strand n k.entry.state } } ∷ ks)
               old.open_sites old.open_funcs (old.work + n) old.weight old.table
               (d.1 r)
               (still (Strand n) k.entry (entries ks) [] _ (k ∷ ks) _ old.open_sites old.open_funcs old.open_sites old.open_funcs old.work (old.work + n) old.weight old.table
               (strand_still n is short off k.entry (entries ks) old.work) refl refl h
-              (strand_in es wf root rest path i old.work k ks h.place n k.local is) (λ key. refl) h.sites h.funcs)
+              (strand_in es wf root rest path i old.work k ks h.place n k.local is) (λ key. refl) h.sites h.funcs h.marked)
         ]
 
     -- ---- a sync
@@ -304,27 +309,28 @@ module _ (es : List Event) (wf : IsWellFormed es) (root : ℕ) (span : ℕ → �
             (d.1 (omega arith))
             (still Sync o (os ++ entries ks) (o ∷ os) _ ks ks old.open_sites old.open_funcs old.open_sites old.open_funcs old.work old.work old.weight old.table
             (sync_still is o (os ++ entries ks) old.work) refl same h
-            (sync_out es wf root rest path i old.work o os ks h.place is) (λ key. refl) h.sites h.funcs)
+            (sync_out es wf root rest path i old.work o os ks h.place is) (λ key. refl) h.sites h.funcs h.marked)
         by [] [] h d = absurd h.place.open_frames
         by [] (k ∷ ks) h d =
-            summed (suc i) new [] (record { entry = record k.entry { state = after_sync k.entry.state }; local = k.local; running = true } ∷ ks)
+            summed (suc i) new [] (record k { entry = record k.entry { state = after_sync k.entry.state }; running = true } ∷ ks)
             old.open_sites old.open_funcs old.work old.weight old.table
             (d.0 refl)
             (still Sync k.entry (entries ks) [] _ (k ∷ ks) _ old.open_sites old.open_funcs old.open_sites old.open_funcs old.work old.work old.weight old.table
             (sync_still is k.entry (entries ks) old.work) refl same h
-            (sync_in es wf root rest path i old.work k ks h.place is) (λ key. refl) h.sites h.funcs)
+            (sync_in es wf root rest path i old.work k ks h.place is) (λ key. refl) h.sites h.funcs h.marked)
 
     -- ---- a call, and a spawn
 
-    keyed : (o : Option ℕ) (site s : ℕ) → o ≡ Some site → cond {A = ℕ} (nat_eq site s) 1 0 ≡ cond (same_key o (Some s)) 1 0
-    keyed o site s e = ap (λ k. cond {A = ℕ} (same_key k (Some s)) 1 0) (sym e)
+    keyed : (o : Option ℕ) (site s : ℕ) → o ≡ Some site → nat_eq site s ≡ same_key o (Some s)
+    keyed o site s e = ap (λ k. same_key k (Some s)) (sym e)
 
     -- a new frame has what the pass gives it
-    new_shown : (kind : FrameKind) (site func : ℕ) (k : PathFrame) (ks : List PathFrame) (a b : List ℕ) (w v : ℕ) (t : Sums) → first_of kind i ≡ suc i → weight es i ≡ 0
+    new_shown : (kind : FrameKind) (site func : ℕ) (k : PathFrame) (ks : List PathFrame) (a b : ℕ → Bool) (w v : ℕ) (t : Sums) → first_of kind i ≡ suc i → weight es i ≡ 0
         → At i [] (k ∷ ks) a b w v t → entered_frame site func (tell [] (k ∷ ks) a b w v t) (shown k) ≡ shown (new_frame kind i site func w k.entry (entries ks))
     new_shown kind site func k ks a b w v t f z h =
-        let by_site : nat_eq (slice_index a site) 0 ≡ not (has_site (entries (k ∷ ks)) site) = ap (λ n. nat_eq n 0) (h.sites site) ∙ has_site_is site (entries (k ∷ ks)) in
-        let by_func : nat_eq (slice_index b k.entry.func) 1 ≡ not (has_func (entries ks) k.entry.func) = ap (λ n. nat_eq n 1) (h.funcs k.entry.func) ∙ has_func_is k.entry (entries ks) in
+        let by_site : not (a site) ≡ not (has_site (entries (k ∷ ks)) site) = ap not (h.sites site) in
+        let by_caller : k.top_func ≡ not (has_func (entries ks) k.entry.func) = h.marked.1 in
+        let by_func : not (b func) ≡ not (has_func (entries (k ∷ ks)) func) = ap not (h.funcs func) in
         let here : cond (on i) (weight es i) 0 ≡ 0 = no_weight (on i) (weight es i) z in
         let so_far : v ≡ passed es on (suc i) = (let z = h.weight_is in omega arith) in
         let weighs : v ≡ passed es on (first_of kind i) = so_far ∙ ap (λ n. passed es on n) (sym f) in
@@ -332,7 +338,8 @@ module _ (es : List Event) (wf : IsWellFormed es) (root : ℕ) (span : ℕ → �
           site = site;
           func = func;
           top_site = by_site j;
-          top_caller = by_func j;
+          top_caller = by_caller j;
+          top_func = by_func j;
           running = true;
           work_before = w;
           weight_before = weighs j;
@@ -340,34 +347,35 @@ module _ (es : List Event) (wf : IsWellFormed es) (root : ℕ) (span : ℕ → �
         }
 
     -- and the pass has it on top, whether its parent runs on or not
-    enter_is : (kind : FrameKind) (site func : ℕ) (k : PathFrame) (ks : List PathFrame) (a b : List ℕ) (w v : ℕ) (t : Sums) → first_of kind i ≡ suc i → weight es i ≡ 0
+    enter_is : (kind : FrameKind) (site func : ℕ) (k : PathFrame) (ks : List PathFrame) (a b : ℕ → Bool) (w v : ℕ) (t : Sums) → first_of kind i ≡ suc i → weight es i ≡ 0
         → At i [] (k ∷ ks) a b w v t
         → (r : Bool) → enter_told site func (tell [] (record k { running = r } ∷ ks) a b w v t)
-        ≡ tell [] (new_frame kind i site func w k.entry (entries ks) ∷ record k { running = r } ∷ ks) (raised a site) (raised b func) w v t
+        ≡ tell [] (new_frame kind i site func w k.entry (entries ks) ∷ record k { running = r } ∷ ks) (with_mark site a) (with_mark func b) w v t
     enter_is kind site func k ks a b w v t f z h r =
-        ap (λ (x : EnteredFrame). let u : Told = record { frames = x ∷ map shown (record k { running = r } ∷ ks); skipped = 0; open_sites = raised a site; open_funcs = raised b func; work = w; weight = v; table = t } in u)
+        ap (λ (x : EnteredFrame). let u : Told = record { frames = x ∷ map shown (record k { running = r } ∷ ks); skipped = 0; open_sites = with_mark site a; open_funcs = with_mark func b; work = w; weight = v; table = t } in u)
         (new_shown kind site func k ks a b w v t f z h)
 
     -- one more frame is open that the path doesn't enter
-    skip_is : (outs : List EntryFrame) (ks : List PathFrame) (a b : List ℕ) (w v : ℕ) (t : Sums) → skip_told (tell outs ks a b w v t) ≡ record (tell outs ks a b w v t) { skipped = suc (length outs) }
+    skip_is : (outs : List EntryFrame) (ks : List PathFrame) (a b : ℕ → Bool) (w v : ℕ) (t : Sums) → skip_told (tell outs ks a b w v t) ≡ record (tell outs ks a b w v t) { skipped = suc (length outs) }
     skip_is outs ks a b w v t =
         ap (λ (n : ℕ). let u : Told = record { frames = map shown ks; skipped = n; open_sites = a; open_funcs = b; work = w; weight = v; table = t } in u)
         (let z : length outs + 1 ≡ suc (length outs) = omega arith in z)
 
-    -- the counts, with a new frame
-    raised_site : (kind : FrameKind) (site func w : ℕ) (k : PathFrame) (ks : List PathFrame) (a : List ℕ) → site_by kind site ≡ Some site → site < length a
-        → ((s : ℕ) → slice_index a s ≡ count_site s (entries (k ∷ ks)))
-        → (s : ℕ) → slice_index (raised a site) s ≡ count_site s (entries (new_frame kind i site func w k.entry (entries ks) ∷ k ∷ ks))
-    raised_site kind site func w k ks a key l h s = raised_is a site s l ∙ ap₂ (λ (x y : ℕ). x + y) (keyed (site_by kind site) site s key) (h s)
+    -- the marks, with a new frame
+    more_sites : (kind : FrameKind) (site func w : ℕ) (k : PathFrame) (ks : List PathFrame) (a : ℕ → Bool) → site_by kind site ≡ Some site
+        → ((s : ℕ) → a s ≡ has_site (entries (k ∷ ks)) s)
+        → (s : ℕ) → with_mark site a s ≡ has_site (entries (new_frame kind i site func w k.entry (entries ks) ∷ k ∷ ks)) s
+    more_sites kind site func w k ks a key h s =
+        marked_more site a (has_site (entries (k ∷ ks))) h s ∙ ap (λ c. c || has_site (entries (k ∷ ks)) s) (keyed (site_by kind site) site s key)
 
-    raised_func : (kind : FrameKind) (site func w : ℕ) (k : PathFrame) (ks : List PathFrame) (b : List ℕ) → func < length b
-        → ((s : ℕ) → slice_index b s ≡ count_func s (entries (k ∷ ks)))
-        → (s : ℕ) → slice_index (raised b func) s ≡ count_func s (entries (new_frame kind i site func w k.entry (entries ks) ∷ k ∷ ks))
-    raised_func kind site func w k ks b l h s = raised_is b func s l ∙ ap (λ y. cond (nat_eq func s) 1 0 + y) (h s)
+    more_funcs : (kind : FrameKind) (site func w : ℕ) (k : PathFrame) (ks : List PathFrame) (b : ℕ → Bool)
+        → ((s : ℕ) → b s ≡ has_func (entries (k ∷ ks)) s)
+        → (s : ℕ) → with_mark func b s ≡ has_func (entries (new_frame kind i site func w k.entry (entries ks) ∷ k ∷ ks)) s
+    more_funcs kind site func w k ks b h s = marked_more func b (has_func (entries (k ∷ ks))) h s
 
-    pub call_next : (site func : ℕ) → event_at es i ≡ Some (Call site func) → (old new : Told) → site < length old.open_sites → func < length old.open_funcs
+    pub call_next : (site func : ℕ) → event_at es i ≡ Some (Call site func) → (old new : Told)
         → Summed i old → CallDone site func old new → Summed (suc i) new
-    call_next site func is old new site_in func_in s d =
+    call_next site func is old new s d =
         by s.outs s.ks s.at (subst (λ x. CallDone site func x new) s.is d)
       where
         same : old.work ≡ old.work + weight_of (Some (Call site func))
@@ -380,28 +388,28 @@ module _ (es : List Event) (wf : IsWellFormed es) (root : ℕ) (span : ℕ → �
             (d.1 (runs_out o os ks old.open_sites old.open_funcs old.work old.weight old.table) ∙ skip_is (o ∷ os) ks old.open_sites old.open_funcs old.work old.weight old.table)
             (still (Call site func) o (os ++ entries ks) (o ∷ os) _ ks ks old.open_sites old.open_funcs old.open_sites old.open_funcs old.work old.work old.weight old.table
             (call_still site func is o (os ++ entries ks) old.work) refl same h
-            (call_out es wf root rest path i old.work o os ks h.place site func is) (λ key. refl) h.sites h.funcs)
+            (call_out es wf root rest path i old.work o os ks h.place site func is) (λ key. refl) h.sites h.funcs h.marked)
         by [] [] h d = absurd h.place.open_frames
         by [] (k ∷ ks) h d = elim (cases_Bool k.running) [
           | inl r ↦
-              summed (suc i) new [] (new_frame Called i site func old.work k.entry (entries ks) ∷ k ∷ ks) (raised old.open_sites site) (raised old.open_funcs func) old.work old.weight old.table
+              summed (suc i) new [] (new_frame Called i site func old.work k.entry (entries ks) ∷ k ∷ ks) (with_mark site old.open_sites) (with_mark func old.open_funcs) old.work old.weight old.table
               (d.0 r ∙ enter_is Called site func k ks old.open_sites old.open_funcs old.work old.weight old.table refl (ap weight_of is) h k.running)
               (still (Call site func) k.entry (entries ks) [] [] (k ∷ ks) _ old.open_sites old.open_funcs _ _ old.work old.work old.weight old.table
               (call_still site func is k.entry (entries ks) old.work) refl same h
               (call_in es wf root rest path i old.work k ks h.place site func is r) (λ key. none_owed (same_key (Some site) key) (owed (k ∷ ks) key))
-              (raised_site Called site func old.work k ks old.open_sites refl site_in h.sites) (raised_func Called site func old.work k ks old.open_funcs func_in h.funcs))
+              (more_sites Called site func old.work k ks old.open_sites refl h.sites) (more_funcs Called site func old.work k ks old.open_funcs h.funcs) (refl, refl, h.marked))
           | inr r ↦
               summed (suc i) new _ (k ∷ ks) old.open_sites old.open_funcs old.work old.weight old.table
               (d.1 r ∙ skip_is [] (k ∷ ks) old.open_sites old.open_funcs old.work old.weight old.table)
               (still (Call site func) k.entry (entries ks) [] _ (k ∷ ks) (k ∷ ks) old.open_sites old.open_funcs old.open_sites old.open_funcs old.work old.work old.weight old.table
               (call_still site func is k.entry (entries ks) old.work) refl same h
-              (call_beside es wf root rest path i old.work k ks h.place site func is r) (λ key. refl) h.sites h.funcs)
+              (call_beside es wf root rest path i old.work k ks h.place site func is r) (λ key. refl) h.sites h.funcs h.marked)
         ]
 
     pub spawn_next : (enters : Bool) (site func : ℕ) → event_at es i ≡ Some (Spawn site func) → (enters ≡ true) ↔ On 0 rest (suc i)
-        → (old new : Told) → site < length old.open_sites → func < length old.open_funcs
+        → (old new : Told)
         → Summed i old → SpawnDone enters site func old new → Summed (suc i) new
-    spawn_next enters site func is marked old new site_in func_in s d =
+    spawn_next enters site func is marked old new s d =
         by s.outs s.ks s.at (subst (λ x. SpawnDone enters site func x new) s.is d)
       where
         same : old.work ≡ old.work + weight_of (Some (Spawn site func))
@@ -414,28 +422,28 @@ module _ (es : List Event) (wf : IsWellFormed es) (root : ℕ) (span : ℕ → �
             (d.1 (ap (λ c. c && enters) (not_zero (length os))) ∙ skip_is (o ∷ os) ks old.open_sites old.open_funcs old.work old.weight old.table)
             (still (Spawn site func) o (os ++ entries ks) (o ∷ os) _ ks ks old.open_sites old.open_funcs old.open_sites old.open_funcs old.work old.work old.weight old.table
             (spawn_still site func is o (os ++ entries ks) old.work) refl same h
-            (spawn_out es wf root rest path i old.work o os ks h.place site func is) (λ key. refl) h.sites h.funcs)
+            (spawn_out es wf root rest path i old.work o os ks h.place site func is) (λ key. refl) h.sites h.funcs h.marked)
         by [] [] h d = absurd h.place.open_frames
         by [] (k ∷ ks) h d = elim (cases_Bool enters) [
           | inl r ↦
-              summed (suc i) new [] (new_frame Spawned i site func old.work k.entry (entries ks) ∷ record k { running = false } ∷ ks) (raised old.open_sites site) (raised old.open_funcs func) old.work old.weight old.table
+              summed (suc i) new [] (new_frame Spawned i site func old.work k.entry (entries ks) ∷ record k { running = false } ∷ ks) (with_mark site old.open_sites) (with_mark func old.open_funcs) old.work old.weight old.table
               (d.0 r ∙ enter_is Spawned site func k ks old.open_sites old.open_funcs old.work old.weight old.table refl (ap weight_of is) h false)
               (still (Spawn site func) k.entry (entries ks) [] [] (k ∷ ks) _ old.open_sites old.open_funcs _ _ old.work old.work old.weight old.table
               (spawn_still site func is k.entry (entries ks) old.work) refl same h
               (spawn_in es wf root rest path i old.work k ks h.place site func is (marked.0 r)) (λ key. none_owed (same_key (Some site) key) (owed (k ∷ ks) key))
-              (raised_site Spawned site func old.work k ks old.open_sites refl site_in h.sites) (raised_func Spawned site func old.work k ks old.open_funcs func_in h.funcs))
+              (more_sites Spawned site func old.work k ks old.open_sites refl h.sites) (more_funcs Spawned site func old.work k ks old.open_funcs h.funcs) (refl, refl, h.marked))
           | inr r ↦
               summed (suc i) new _ (k ∷ ks) old.open_sites old.open_funcs old.work old.weight old.table
               (d.1 r ∙ skip_is [] (k ∷ ks) old.open_sites old.open_funcs old.work old.weight old.table)
               (still (Spawn site func) k.entry (entries ks) [] _ (k ∷ ks) (k ∷ ks) old.open_sites old.open_funcs old.open_sites old.open_funcs old.work old.work old.weight old.table
               (spawn_still site func is k.entry (entries ks) old.work) refl same h
-              (spawn_beside es wf root rest path i old.work k ks h.place site func is (λ x. let z : true ≡ false = sym (marked.1 x) ∙ r in cc)) (λ key. refl) h.sites h.funcs)
+              (spawn_beside es wf root rest path i old.work k ks h.place site func is (λ x. let z : true ≡ false = sym (marked.1 x) ∙ r in cc)) (λ key. refl) h.sites h.funcs h.marked)
         ]
 
     -- ---- a return
 
     -- one frame less is open that the path doesn't enter
-    leave_is : (o : EntryFrame) (os : List EntryFrame) (ks : List PathFrame) (a b : List ℕ) (w v : ℕ) (t : Sums) → leave_told (tell (o ∷ os) ks a b w v t) ≡ tell os ks a b w v t
+    leave_is : (o : EntryFrame) (os : List EntryFrame) (ks : List PathFrame) (a b : ℕ → Bool) (w v : ℕ) (t : Sums) → leave_told (tell (o ∷ os) ks a b w v t) ≡ tell os ks a b w v t
     leave_is o os ks a b w v t =
         ap (λ (n : ℕ). let u : Told = record { frames = map shown ks; skipped = n; open_sites = a; open_funcs = b; work = w; weight = v; table = t } in u)
         (let z : suc (length os) - 1 ≡ length os = omega arith in z)
@@ -445,7 +453,7 @@ module _ (es : List Event) (wf : IsWellFormed es) (root : ℕ) (span : ℕ → �
     heads f fs k ks e = (let z : shown k ≡ f = cc in sym z)
 
     -- the frame that closes has the path's weight in it as its span
-    pub closes_with : event_at es i ≡ Some Ret → (k : PathFrame) (ks : List PathFrame) (a b : List ℕ) (w v : ℕ) (t : Sums) → At i [] (k ∷ ks) a b w v t
+    pub closes_with : event_at es i ≡ Some Ret → (k : PathFrame) (ks : List PathFrame) (a b : ℕ → Bool) (w v : ℕ) (t : Sums) → At i [] (k ∷ ks) a b w v t
         → passed es on (first k.entry) + close k.entry.state ≡ v
     closes_with is k ks a b w v t h =
         let r = return_closing es wf root rest path i w k ks h.place is in
@@ -474,14 +482,14 @@ module _ (es : List Event) (wf : IsWellFormed es) (root : ℕ) (span : ℕ → �
     closed_gain : (k : PathFrame) (w : ℕ) → On 0 rest (first k.entry) → (key : Option ℕ) → gain on key i Ret k.entry w ≡ cond (same_key (key_of k.entry) key) (closed_row k.entry w) zero_row
     closed_gain k w e key = ap (λ c. cond (c && same_key (key_of k.entry) key) (closed_row k.entry w) zero_row) (on_true (first k.entry) e)
 
-    pub return_rows : event_at es i ≡ Some Ret → (k : PathFrame) (ks : List PathFrame) (a b : List ℕ) (w v : ℕ) (t : Sums) → At i [] (k ∷ ks) a b w v t → (key : Option ℕ)
+    pub return_rows : event_at es i ≡ Some Ret → (k : PathFrame) (ks : List PathFrame) (a b : ℕ → Bool) (w v : ℕ) (t : Sums) → At i [] (k ∷ ks) a b w v t → (key : Option ℕ)
         → plus (cond (same_key (key_of k.entry) key) (plus (key_row t key) (full_row k.entry k.local w)) (key_row t key)) (owed ks key) ≡ shares_to (suc i) key
     return_rows is k ks a b w v t h key =
         closed_owed (same_key (key_of k.entry) key) k.entry k.local w (key_row t key) (owed ks key)
         ∙ ap₂ (λ (x y : Row). plus x y) (h.rows key) (sym (closed_gain k w h.place.entered.0 key))
         ∙ share_next Ret is k.entry (entries ks) w h.place.entry key
 
-    pub return_low : event_at es i ≡ Some Ret → i ≤ 268435456 → (k : PathFrame) (ks : List PathFrame) (a b : List ℕ) (w v : ℕ) (t : Sums) → At i [] (k ∷ ks) a b w v t → (key : Option ℕ)
+    pub return_low : event_at es i ≡ Some Ret → i ≤ 268435456 → (k : PathFrame) (ks : List PathFrame) (a b : ℕ → Bool) (w v : ℕ) (t : Sums) → At i [] (k ∷ ks) a b w v t → (key : Option ℕ)
         → Low (suc i) w (shares_to (suc i) key)
     return_low is short k ks a b w v t h key =
         let s = closes_with is k ks a b w v t h in
@@ -491,36 +499,36 @@ module _ (es : List Event) (wf : IsWellFormed es) (root : ℕ) (span : ℕ → �
         (ap (λ r. plus (shares_to i key) r) (sym (closed_gain k w h.place.entered.0 key)) ∙ share_next Ret is k.entry (entries ks) w h.place.entry key)
         (h.low key) (low_closed (same_key (key_of k.entry) key) k.entry w (omega arith) (omega arith))
 
-    return_on : event_at es i ≡ Some Ret → i ≤ 268435456 → (k g : PathFrame) (ks : List PathFrame) (a b : List ℕ) (w v : ℕ) (t : Sums) (new : Told)
-        → k.entry.site < length a → k.entry.func < length b
+    return_on : event_at es i ≡ Some Ret → i ≤ 268435456 → (k g : PathFrame) (ks : List PathFrame) (a b : ℕ → Bool) (w v : ℕ) (t : Sums) (new : Told)
         → At i [] (k ∷ g ∷ ks) a b w v t → IsReturned (shown k) (tell [] (k ∷ g ∷ ks) a b w v t) new → Summed (suc i) new
-    return_on is short k g ks a b w v t new site_in func_in h r =
+    return_on is short k g ks a b w v t new h r =
         let key : key_of k.entry ≡ Some k.entry.site = h.place.open_frames.0 in
         let s = closes_with is k (g ∷ ks) a b w v t h in
         let table : IsAdded t new.table k.entry.site (full_row k.entry k.local w) = subst (λ x. IsAdded t new.table k.entry.site x) (row_is k w v s) r.table in
         let here = none_of Ret is refl in
         let m = h.small in
         let below : PathFrame = with_state (after_child unburdened k.entry.kind k.entry.at (close k.entry.state) g.entry.state) g in
-        summed (suc i) new [] (below ∷ ks) (lowered a k.entry.site) (lowered b k.entry.func) w v new.table
+        summed (suc i) new [] (below ∷ ks) (without k.entry.top_site k.entry.site a) (without k.top_func k.entry.func b) w v new.table
         (λ j. record { frames = r.frames j; skipped = r.skipped j; open_sites = r.open_sites j; open_funcs = r.open_funcs j; work = r.work j; weight = r.weight j; table = new.table })
         (record {
           place = return_in es wf root rest path i w k g ks h.place is;
           rows = λ o. ap (λ x. plus x (owed (g ∷ ks) o)) (added (key_of k.entry) k.entry.site (full_row k.entry k.local w) t new.table key table o) ∙ return_rows is k (g ∷ ks) a b w v t h o;
           low = λ o. return_low is short k (g ∷ ks) a b w v t h o;
-          sites = λ s. lowered_is a k.entry.site s (count_site s (entries (g ∷ ks))) site_in
-              (h.sites s ∙ ap (λ x. x + count_site s (entries (g ∷ ks))) (sym (keyed (key_of k.entry) k.entry.site s key)));
-          funcs = λ s. lowered_is b k.entry.func s (count_func s (entries (g ∷ ks))) func_in (h.funcs s);
+          sites = λ s. marked_less k.entry.top_site k.entry.site a (has_site (entries (g ∷ ks))) h.marked.0
+              (λ y. h.sites y ∙ ap (λ c. c || has_site (entries (g ∷ ks)) y) (sym (keyed (key_of k.entry) k.entry.site y key))) s;
+          funcs = λ s. marked_less k.top_func k.entry.func b (has_func (entries (g ∷ ks))) h.marked.1 h.funcs s;
+          marked = h.marked.2;
           weight_is = (let z = h.weight_is in omega arith);
           light = h.light;
           small = omega arith;
         })
 
     pub return_next : event_at es i ≡ Some Ret → i ≤ 268435456 → (f : EnteredFrame) (old new : Told) → HasFirst f old → Summed i old
-        → (old.skipped ≡ 0 → (1 < length old.frames) × (f.site < length old.open_sites) × (f.func < length old.open_funcs))
+        → (old.skipped ≡ 0 → 1 < length old.frames)
         → ReturnDone f old new → Summed (suc i) new
     return_next is short f old new top s known d =
         by s.outs s.ks s.at (subst (λ x. HasFirst f x) s.is top)
-        (subst (λ x. x.skipped ≡ 0 → (1 < length x.frames) × (f.site < length old.open_sites) × (f.func < length old.open_funcs)) s.is known)
+        (subst (λ x. x.skipped ≡ 0 → 1 < length x.frames) s.is known)
         (subst (λ x. ReturnDone f x new) s.is d)
       where
         same : old.work ≡ old.work + weight_of (Some Ret)
@@ -528,26 +536,24 @@ module _ (es : List Event) (wf : IsWellFormed es) (root : ℕ) (span : ℕ → �
 
         by : (outs : List EntryFrame) (ks : List PathFrame) → At i outs ks old.open_sites old.open_funcs old.work old.weight old.table
             → HasFirst f (tell outs ks old.open_sites old.open_funcs old.work old.weight old.table)
-            → (length outs ≡ 0 → (1 < length (map shown ks)) × (f.site < length old.open_sites) × (f.func < length old.open_funcs))
+            → (length outs ≡ 0 → 1 < length (map shown ks))
             → ReturnDone f (tell outs ks old.open_sites old.open_funcs old.work old.weight old.table) new → Summed (suc i) new
         by (o ∷ p ∷ os) ks h top known d =
             summed (suc i) new _ ks old.open_sites old.open_funcs old.work old.weight old.table
             (d.1 (omega arith) ∙ leave_is o (p ∷ os) ks old.open_sites old.open_funcs old.work old.weight old.table)
             (still Ret o (p ∷ os ++ entries ks) (o ∷ p ∷ os) _ ks ks old.open_sites old.open_funcs old.open_sites old.open_funcs old.work old.work old.weight old.table
             (return_still is o (p ∷ os ++ entries ks) old.work h.place.beside.0) refl same h
-            (return_out es wf root rest path i old.work o p os ks h.place is) (λ key. refl) h.sites h.funcs)
+            (return_out es wf root rest path i old.work o p os ks h.place is) (λ key. refl) h.sites h.funcs h.marked)
         by (o ∷ []) [] h top known d = absurd h.place.open_frames
         by (o ∷ []) (k ∷ ks) h top known d =
             summed (suc i) new [] (with_state (after_child unburdened o.kind o.at (close o.state) k.entry.state) k ∷ ks) old.open_sites old.open_funcs old.work old.weight old.table
             (d.1 (omega arith) ∙ leave_is o [] (k ∷ ks) old.open_sites old.open_funcs old.work old.weight old.table)
             (still Ret o (entries (k ∷ ks)) (o ∷ []) [] (k ∷ ks) _ old.open_sites old.open_funcs old.open_sites old.open_funcs old.work old.work old.weight old.table
             (return_still is o (entries (k ∷ ks)) old.work h.place.beside.0) refl same h
-            (return_back es wf root rest path i old.work o k ks h.place is) (λ key. refl) h.sites h.funcs)
+            (return_back es wf root rest path i old.work o k ks h.place is) (λ key. refl) h.sites h.funcs h.marked)
         by [] [] h top known d = absurd h.place.open_frames
-        by [] (k ∷ []) h top known d = absurd (let z = (known refl).0 in omega arith)
+        by [] (k ∷ []) h top known d = absurd (let z = known refl in omega arith)
         by [] (k ∷ g ∷ ks) h top known d =
             let is_k : f ≡ shown k = heads f top.0 k (g ∷ ks) top.1 in
-            let site_in : k.entry.site < length old.open_sites = (let z = (known refl).1 in let y : f.site ≡ k.entry.site = ap (λ x. x.site) is_k in omega arith) in
-            let func_in : k.entry.func < length old.open_funcs = (let z = (known refl).2 in let y : f.func ≡ k.entry.func = ap (λ x. x.func) is_k in omega arith) in
-            return_on is short k g ks old.open_sites old.open_funcs old.work old.weight old.table new site_in func_in h
+            return_on is short k g ks old.open_sites old.open_funcs old.work old.weight old.table new h
             (subst (λ x. IsReturned x (tell [] (k ∷ g ∷ ks) old.open_sites old.open_funcs old.work old.weight old.table) new) is_k (d.0 refl))

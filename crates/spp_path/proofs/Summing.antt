@@ -42,20 +42,14 @@ use Rattle.spp_path.specs.declared.rows.EnteredFrame.{EnteredFrame}
 use Rattle.spp_path.specs.declared.rows.PathRows.{PathRows}
 use Rattle.spp_path.specs.Entered.{AreEntered}
 use Rattle.spp_path.specs.Tables.{key_row, IsPathTable}
-use Rattle.spp_path.specs.Rows.{Told, told, entered_row, start_told, runs, enter_told, wait_told, CanAdd, CanEnter, CanReturn, CanFinish, IsRead, passed_told, CanPass}
+use Rattle.spp_path.specs.Rows.{Told, told, entered_row, start_told, runs, enter_told, wait_told, CanAdd, CanSkip, CanReturn, CanFinish, IsRead, passed_told, CanPass}
 use Rattle.spp_path.proofs.PathSpans.{passed, entered_span}
 use Rattle.spp_path.proofs.RowSums.{full_row, none_owed, closed_owed, Low, low_zero, low_plus, low_closed, low_fits}
-use Rattle.spp_path.proofs.Counts.{site_le, func_le, known, raised_is}
 use Rattle.spp_path.proofs.Running.{running_first, marked}
 use Rattle.spp_path.proofs.Places.{PathFrame, entries, first, AreOpen}
 use Rattle.spp_path.proofs.Summed.{no_weight, owed, on, on_true, shown, tell, shares_to, At, Summed, StrandDone, strand_next, SyncDone, sync_next, CallDone, call_next, SpawnDone, spawn_next, ReturnDone, HasFirst, return_next, heads, closes_with, row_is, return_rows, return_low}
 
 -- ---- the start
-
-zeros : (n s : ℕ) → get_or {A = ℕ} (replicate n 0) s 0 ≡ 0
-zeros zero s = refl
-zeros (suc n) zero = refl
-zeros (suc n) (suc s) = zeros n s
 
 doubled : (a : Row) → a ≡ plus a a → a ≡ zero_row
 doubled a h =
@@ -84,13 +78,14 @@ root_in root = record {
   entry = record { kind = Root; at = 0; site = 0; func = root; before = 0; state = start; top_site = true; top_caller = true };
   local = 0;
   running = true;
+  top_func = true;
 }
 
 module _ (es : List Event) (wf : IsWellFormed es) (root : ℕ) (span : ℕ → ℕ) (spans : AreSpans es span) (rest : List ℕ) (path : IsPath es unburdened 0 (length es) rest) where
   abbrev SummedTo : ℕ → Told → Type 0
   SummedTo = Summed es wf root span spans rest path
 
-  abbrev AtPlace : ℕ → List EntryFrame → List PathFrame → List ℕ → List ℕ → ℕ → ℕ → Sums → Type 0
+  abbrev AtPlace : ℕ → List EntryFrame → List PathFrame → (ℕ → Bool) → (ℕ → Bool) → ℕ → ℕ → Sums → Type 0
   AtPlace = At es wf root span spans rest path
 
   abbrev so_far : ℕ → Option ℕ → Row
@@ -102,15 +97,14 @@ module _ (es : List Event) (wf : IsWellFormed es) (root : ℕ) (span : ℕ → �
   abbrev shows : PathFrame → EnteredFrame
   shows = shown es wf root span spans rest path
 
-  abbrev tells : List EntryFrame → List PathFrame → List ℕ → List ℕ → ℕ → ℕ → Sums → Told
+  abbrev tells : List EntryFrame → List PathFrame → (ℕ → Bool) → (ℕ → Bool) → ℕ → ℕ → Sums → Told
   tells = tell es wf root span spans rest path
 
   share_none : (key : Option ℕ) → so_far 0 key ≡ zero_row
   share_none key = doubled _ (shares_law es root span on_path key 0 0 0 (omega arith) (omega arith))
 
-  pub start_summed : (sites funcs : ℕ) → root < funcs → SummedTo 0 (start_told root sites funcs)
-  start_summed sites funcs l =
-      let counts = λ (s : ℕ). raised_is (replicate funcs 0) root s (simp length-replicate l) in
+  pub start_summed : SummedTo 0 (start_told root)
+  start_summed =
       record {
         outs = [];
         ks = root_in root ∷ [];
@@ -126,8 +120,9 @@ module _ (es : List Event) (wf : IsWellFormed es) (root : ℕ) (span : ℕ → �
           };
           rows = λ key. ap₂ (λ (x y : Row). plus x y) (empty_rows key) (none_owed (same_key None key) zero_row) ∙ zero-plus zero_row ∙ sym (share_none key);
           low = λ key. subst (λ r. Low 0 0 r) (sym (share_none key)) (low_zero 0 0);
-          sites = λ s. zeros sites s;
-          funcs = λ s. ap (λ v. get_or (set (replicate funcs 0) root (v + 1)) s 0) (sym (zeros funcs root)) ∙ counts s ∙ ap (λ v. cond (nat_eq root s) 1 0 + v) (zeros funcs s);
+          sites = λ s. refl;
+          funcs = λ s. refl;
+          marked = (refl, refl, tt);
           weight_is = refl;
           light = omega arith;
           small = omega arith;
@@ -141,21 +136,13 @@ module _ (es : List Event) (wf : IsWellFormed es) (root : ℕ) (span : ℕ → �
   same_self (Some s) = eq-eqb s s refl
 
   -- the innermost frame has no more strands than the work so far
-  local_le : (i : ℕ) (outs : List EntryFrame) (k : PathFrame) (ks : List PathFrame) (a b : List ℕ) (w v : ℕ) (t : Sums) → AtPlace i outs (k ∷ ks) a b w v t → k.local ≤ w
+  local_le : (i : ℕ) (outs : List EntryFrame) (k : PathFrame) (ks : List PathFrame) (a b : ℕ → Bool) (w v : ℕ) (t : Sums) → AtPlace i outs (k ∷ ks) a b w v t → k.local ≤ w
   local_le i outs k ks a b w v t h =
       let key : Option ℕ = key_of k.entry in
       let e : plus (key_row t key) (plus (strand_row k.local) (owed ks key)) ≡ so_far i key =
       ap (λ c. plus (key_row t key) (plus (cond c (strand_row k.local) zero_row) (owed ks key))) (sym (same_self key)) ∙ h.rows key in
       let m : (key_row t key).local + (k.local + (owed ks key).local) ≡ (so_far i key).local = ap (λ r. r.local) e in
       let l = (h.low key).local in
-      omega arith
-
-  -- the function of the innermost frame is counted
-  func_open : (i : ℕ) (outs : List EntryFrame) (k : PathFrame) (ks : List PathFrame) (a b : List ℕ) (w v : ℕ) (t : Sums) → AtPlace i outs (k ∷ ks) a b w v t
-      → 0 < slice_index b k.entry.func
-  func_open i outs k ks a b w v t h =
-      let e = h.funcs k.entry.func in
-      let o : cond {A = ℕ} (nat_eq k.entry.func k.entry.func) 1 0 ≡ 1 = ap (λ c. cond {A = ℕ} c 1 0) (eq-eqb k.entry.func k.entry.func refl) in
       omega arith
 
   pub can_add : (i n : ℕ) → i ≤ 268435456 → n < 2 ^ 64 → (t : Told) → SummedTo i t → CanAdd n t
@@ -171,28 +158,13 @@ module _ (es : List Event) (wf : IsWellFormed es) (root : ℕ) (span : ℕ → �
           let q = local_le i outs k ks t.open_sites t.open_funcs t.work t.weight t.table h in
           record { local = omega arith; work = omega arith; weight = omega arith }
 
-  pub can_enter : (i site func : ℕ) → i ≤ 268435456 → (t : Told) → site < length t.open_sites → func < length t.open_funcs → SummedTo i t → CanEnter site func t
-  can_enter i site func short t site_in func_in s =
-      subst (λ x. CanEnter site func x) (sym s.is) (by s.outs s.ks s.at)
+  pub can_skip : (i : ℕ) → i ≤ 268435456 → (t : Told) → SummedTo i t → CanSkip t
+  can_skip i short t s =
+      subst CanSkip (sym s.is) (by s.outs s.ks s.at)
     where
       by : (outs : List EntryFrame) (ks : List PathFrame) → AtPlace i outs ks t.open_sites t.open_funcs t.work t.weight t.table
-          → CanEnter site func (tells outs ks t.open_sites t.open_funcs t.work t.weight t.table)
-      by outs [] h = absurd h.place.open_frames
-      by outs (k ∷ ks) h =
-          let l = h.place.level in
-          let n : length (entries (k ∷ ks)) ≡ length (k ∷ ks) = length-map (k ∷ ks) (λ f. f.entry) in
-          let p = h.sites site in
-          let q = h.funcs func in
-          let p_le = site_le site (entries (k ∷ ks)) in
-          let q_le = func_le func (entries (k ∷ ks)) in
-          record {
-            site_known = site_in;
-            func_known = func_in;
-            caller_known = known t.open_funcs k.entry.func (func_open i outs k ks t.open_sites t.open_funcs t.work t.weight t.table h);
-            site_room = omega arith;
-            func_room = omega arith;
-            skip_room = omega arith;
-          }
+          → CanSkip (tells outs ks t.open_sites t.open_funcs t.work t.weight t.table)
+      by outs ks h = let l = h.place.level in omega arith
 
   -- a return never meets the root alone
   not_alone : (i : ℕ) (f : EntryFrame) (w : ℕ) → event_at es i ≡ Some Ret → i < length es → IsEntry es root i (f ∷ []) w → ⊥
@@ -218,10 +190,6 @@ module _ (es : List Event) (wf : IsWellFormed es) (root : ℕ) (span : ℕ → �
       in_tell k g ks h =
           let key : key_of k.entry ≡ Some k.entry.site = h.place.open_frames.0 in
           let same : same_key (key_of k.entry) (Some k.entry.site) ≡ true = ap (λ o. same_key o (Some k.entry.site)) key ∙ eq-eqb k.entry.site k.entry.site refl in
-          let p = h.sites k.entry.site in
-          let o : cond {A = ℕ} (same_key (key_of k.entry) (Some k.entry.site)) 1 0 ≡ 1 = ap (λ c. cond {A = ℕ} c 1 0) same in
-          let site_open : 0 < slice_index t.open_sites k.entry.site = omega arith in
-          let func_is = func_open i [] k (g ∷ ks) t.open_sites t.open_funcs t.work t.weight t.table h in
           let m : t.work ≤ 18446744073709551616 * i = h.small in
           let e = closes_with es wf root span spans rest path i is k (g ∷ ks) t.open_sites t.open_funcs t.work t.weight t.table h in
           let rows = ap (λ c. plus (cond c (plus (row_at t.table k.entry.site) (full_row k.entry k.local t.work)) (row_at t.table k.entry.site)) (owed (g ∷ ks) (Some k.entry.site))) (sym same)
@@ -231,10 +199,6 @@ module _ (es : List Event) (wf : IsWellFormed es) (root : ℕ) (span : ℕ → �
             deep = omega arith;
             work_before = h.place.open_frames.1;
             weight_before = omega arith;
-            site_known = known t.open_sites k.entry.site site_open;
-            func_known = known t.open_funcs k.entry.func func_is;
-            site_open = site_open;
-            func_open = func_is;
             row = subst (λ r. Fits (plus (row_at t.table k.entry.site) r)) (sym (row_is es wf root span spans rest path i k t.work t.weight e)) fits;
           }
 
@@ -421,50 +385,6 @@ no_fault rs es i f are l said =
     by None h = absurd cc
     by (Some x) h = absurd cc
 
--- ---- no event changes how many counts there are
-
--- as many counts as before
-abbrev SameLengths : Told → Told → Type 0
-SameLengths old new = (length new.open_sites ≡ length old.open_sites) × (length new.open_funcs ≡ length old.open_funcs)
-
-same_lengths : (old new mid : Told) → new ≡ mid → SameLengths old mid → SameLengths old new
-same_lengths old new mid e h = subst (λ x. SameLengths old x) (sym e) h
-
-entered_lengths : (site func : ℕ) (t : Told) → SameLengths t (enter_told site func t)
-entered_lengths site func t = (length-set t.open_sites site _, length-set t.open_funcs func _)
-
-strand_lengths : (n : ℕ) (old new : Told) → StrandDone n old new → SameLengths old new
-strand_lengths n old new d = elim (cases_Bool (runs old)) [
-  | inl r ↦ same_lengths old new _ (d.0 r) (refl, refl)
-  | inr r ↦ same_lengths old new _ (d.1 r) (refl, refl)
-]
-
-sync_lengths : (old new : Told) → SyncDone old new → SameLengths old new
-sync_lengths old new d = elim (cases_lt 0 old.skipped) [
-  | inl l ↦ same_lengths old new _ (d.1 l) (refl, refl)
-  | inr l ↦ same_lengths old new _ (d.0 (omega arith)) (refl, refl)
-]
-
-call_lengths : (site func : ℕ) (old new : Told) → CallDone site func old new → SameLengths old new
-call_lengths site func old new d = elim (cases_Bool (runs old)) [
-  | inl r ↦ same_lengths old new _ (d.0 r) (entered_lengths site func old)
-  | inr r ↦ same_lengths old new _ (d.1 r) (refl, refl)
-]
-
-spawn_lengths : (enters : Bool) (site func : ℕ) (old new : Told) → SpawnDone enters site func old new → SameLengths old new
-spawn_lengths enters site func old new d = elim (cases_Bool (nat_eq old.skipped 0 && enters)) [
-  | inl r ↦ same_lengths old new _ (d.0 r) (entered_lengths site func (wait_told old))
-  | inr r ↦ same_lengths old new _ (d.1 r) (refl, refl)
-]
-
-return_lengths : (f : EnteredFrame) (old new : Told) → ReturnDone f old new → SameLengths old new
-return_lengths f old new d = elim (cases_lt 0 old.skipped) [
-  | inl l ↦ same_lengths old new _ (d.1 l) (refl, refl)
-  | inr l ↦
-      let r = d.0 (omega arith) in
-      (ap (λ (x : List ℕ). length x) r.open_sites ∙ length-set old.open_sites f.site _, ap (λ (x : List ℕ). length x) r.open_funcs ∙ length-set old.open_funcs f.func _)
-]
-
 -- ---- the pass over a trace
 
 -- before the event at i the pass has t
@@ -472,18 +392,13 @@ abbrev pub SummedIn : Recording → ℕ → Told → Type 0
 SummedIn trace i t = (es : List Event) → AreEvents trace.records es → (wf : IsWellFormed es) (span : ℕ → ℕ) (spans : AreSpans es span) (rest : List ℕ) (path : IsPath es unburdened 0 (length es) rest)
     → Summed es wf trace.root span spans rest path i t
 
--- The pass has what it should, and each site and each function of the trace has its count.
-pub record Kept (trace : Recording) (i : ℕ) (s : PathRows) : Type 0 where
-  pub sites : length s.open_sites.items ≡ length trace.sites
-  pub funcs : length s.open_funcs.items ≡ length trace.funcs
-  pub summed : SummedIn trace i (told s)
+-- the pass has what it should
+abbrev pub Kept : Recording → ℕ → PathRows → Type 0
+Kept trace i s = SummedIn trace i (told s)
 
-pub start_in : (trace : Recording) (s : PathRows) → trace.root < length trace.funcs → told s ≡ start_told trace.root (length trace.sites) (length trace.funcs) → Kept trace 0 s
-start_in trace s l e = record {
-  sites = ap (λ t. length t.open_sites) e ∙ length-replicate (length trace.sites) 0;
-  funcs = ap (λ t. length t.open_funcs) e ∙ length-set (replicate (length trace.funcs) 0) trace.root 1 ∙ length-replicate (length trace.funcs) 0;
-  summed = λ es are wf span spans rest path. subst (λ t. Summed es wf trace.root span spans rest path 0 t) (sym e) (start_summed es wf trace.root span spans rest path (length trace.sites) (length trace.funcs) l);
-}
+pub start_in : (trace : Recording) (s : PathRows) → told s ≡ start_told trace.root → Kept trace 0 s
+start_in trace s e es are wf span spans rest path =
+    subst (λ t. Summed es wf trace.root span spans rest path 0 t) (sym e) (start_summed es wf trace.root span spans rest path)
 
 -- the events of a well-formed trace, the spans of its frames and its path
 record Given (trace : Recording) : Type 0 where
@@ -528,76 +443,61 @@ module _ (trace : Recording) (wf : nesting.IsWellFormed trace.records) (short : 
   pub ready_add : (n : ℕ) → i < length trace.records → IsRead trace i (Strand n) → CanAdd n (told s)
   ready_add n l r =
       let g = given trace wf in
-      can_add g.es g.wf trace.root g.span g.spans g.rest g.path i n (omega arith) r.1 (told s) (at.summed g.es g.are g.wf g.span g.spans g.rest g.path)
+      can_add g.es g.wf trace.root g.span g.spans g.rest g.path i n (omega arith) r.1 (told s) (at g.es g.are g.wf g.span g.spans g.rest g.path)
 
-  ready_enter : (site func : ℕ) → i < length trace.records → (site < length trace.sites) × (func < length trace.funcs) → CanEnter site func (told s)
-  ready_enter site func l r =
+  pub ready_skip : i < length trace.records → CanSkip (told s)
+  ready_skip l =
       let g = given trace wf in
-      let n = at.sites in
-      let m = at.funcs in
-      let site_in : site < length trace.sites = r.0 in
-      let func_in : func < length trace.funcs = r.1 in
-      can_enter g.es g.wf trace.root g.span g.spans g.rest g.path i site func (omega arith) (told s) (omega arith) (omega arith) (at.summed g.es g.are g.wf g.span g.spans g.rest g.path)
-
-  pub ready_call : (site func : ℕ) → i < length trace.records → IsRead trace i (Call site func) → CanEnter site func (told s)
-  ready_call site func l r = ready_enter site func l r.1
-
-  pub ready_spawn : (site func : ℕ) → i < length trace.records → IsRead trace i (Spawn site func) → CanEnter site func (told s)
-  ready_spawn site func l r = ready_enter site func l r.1
+      can_skip g.es g.wf trace.root g.span g.spans g.rest g.path i (omega arith) (told s) (at g.es g.are g.wf g.span g.spans g.rest g.path)
 
   pub ready_return : i < length trace.records → IsRead trace i Ret → s.skipped ≡ 0 → CanReturn s.top (told s)
   ready_return l r z =
       let g = given trace wf in
       let n = events_len g.es g.are in
       can_return g.es g.wf trace.root g.span g.spans g.rest g.path i (event_is trace.records g.es i Ret g.are l r.0) (omega arith) (omega arith) s.top (told s) (top_in s)
-      (at.summed g.es g.are g.wf g.span g.spans g.rest g.path) z
+      (at g.es g.are g.wf g.span g.spans g.rest g.path) z
 
   next_to : (new : PathRows) → ((es : List Event) → AreEvents trace.records es → (wf : IsWellFormed es) (span : ℕ → ℕ) (spans : AreSpans es span) (rest : List ℕ) (path : IsPath es unburdened 0 (length es) rest) → Summed es wf trace.root span spans rest path (suc i) (told new))
       → SummedIn trace (i + 1) (told new)
   next_to new h es are wf span spans rest path =
       subst (λ k. Summed es wf trace.root span spans rest path k (told new)) (let z : suc i ≡ i + 1 = omega arith in z) (h es are wf span spans rest path)
 
-  next_in : (new : PathRows) → SameLengths (told s) (told new) → SummedIn trace (i + 1) (told new) → Kept trace (i + 1) new
-  next_in new e h = record { sites = e.0 ∙ at.sites; funcs = e.1 ∙ at.funcs; summed = h }
-
   pub next_strand : (n : ℕ) (new : PathRows) → i < length trace.records → IsRead trace i (Strand n) → StrandDone n (told s) (told new) → Kept trace (i + 1) new
   next_strand n new l r d =
-      next_in new (strand_lengths n (told s) (told new) d) (next_to new (λ es are wf span spans rest path.
-      strand_next es wf trace.root span spans rest path i n (event_is trace.records es i (Strand n) are l r.0) r.1 (told s) (told new) (at.summed es are wf span spans rest path) d))
+      next_to new (λ es are wf span spans rest path.
+      strand_next es wf trace.root span spans rest path i n (event_is trace.records es i (Strand n) are l r.0) r.1 (told s) (told new) (at es are wf span spans rest path) d)
 
   pub next_sync : (new : PathRows) → i < length trace.records → IsRead trace i Sync → SyncDone (told s) (told new) → Kept trace (i + 1) new
   next_sync new l r d =
-      next_in new (sync_lengths (told s) (told new) d) (next_to new (λ es are wf span spans rest path.
-      sync_next es wf trace.root span spans rest path i (event_is trace.records es i Sync are l r.0) (told s) (told new) (at.summed es are wf span spans rest path) d))
+      next_to new (λ es are wf span spans rest path.
+      sync_next es wf trace.root span spans rest path i (event_is trace.records es i Sync are l r.0) (told s) (told new) (at es are wf span spans rest path) d)
 
   pub next_call : (site func : ℕ) (new : PathRows) → i < length trace.records → IsRead trace i (Call site func) → CallDone site func (told s) (told new) → Kept trace (i + 1) new
   next_call site func new l r d =
-      let can = ready_call site func l r in
-      next_in new (call_lengths site func (told s) (told new) d) (next_to new (λ es are wf span spans rest path.
-      call_next es wf trace.root span spans rest path i site func (event_is trace.records es i (Call site func) are l r.0) (told s) (told new) can.site_known can.func_known (at.summed es are wf span spans rest path) d))
+      next_to new (λ es are wf span spans rest path.
+      call_next es wf trace.root span spans rest path i site func (event_is trace.records es i (Call site func) are l r.0) (told s) (told new) (at es are wf span spans rest path) d)
 
   pub next_spawn : (marks : List Bool) → ((es : List Event) → AreEvents trace.records es → AreEntered es marks) → (site func : ℕ) (new : PathRows) → i < length trace.records → IsRead trace i (Spawn site func)
       → SpawnDone (slice_index_or marks i false) site func (told s) (told new) → Kept trace (i + 1) new
   next_spawn marks are_marks site func new l r d =
-      let can = ready_spawn site func l r in
-      next_in new (spawn_lengths (slice_index_or marks i false) site func (told s) (told new) d) (next_to new (λ es are wf span spans rest path.
+      next_to new (λ es are wf span spans rest path.
       let is = event_is trace.records es i (Spawn site func) are l r.0 in
       let n = events_len es are in
       spawn_next es wf trace.root span spans rest path i (slice_index_or marks i false) site func is
-      (marked es wf rest path marks (are_marks es are) i (omega arith) (ap spawns is)) (told s) (told new) can.site_known can.func_known (at.summed es are wf span spans rest path) d))
+      (marked es wf rest path marks (are_marks es are) i (omega arith) (ap spawns is)) (told s) (told new) (at es are wf span spans rest path) d)
 
   pub next_return : (new : PathRows) → i < length trace.records → IsRead trace i Ret → ReturnDone s.top (told s) (told new) → Kept trace (i + 1) new
   next_return new l r d =
       let can = ready_return l r in
-      next_in new (return_lengths s.top (told s) (told new) d) (next_to new (λ es are wf span spans rest path.
-      return_next es wf trace.root span spans rest path i (event_is trace.records es i Ret are l r.0) (omega arith) s.top (told s) (told new) (top_in s) (at.summed es are wf span spans rest path)
-      (λ z. let c = can z in (c.deep, c.site_known, c.func_known)) d))
+      next_to new (λ es are wf span spans rest path.
+      return_next es wf trace.root span spans rest path i (event_is trace.records es i Ret are l r.0) (omega arith) s.top (told s) (told new) (top_in s) (at es are wf span spans rest path)
+      (λ z. (can z).deep) d)
 
   -- within a frame that the path doesn't enter
   pub ready_pass : (e : Event) → i < length trace.records → IsRead trace i e → CanPass e (told s)
   ready_pass (Strand n) l r = (ready_add n l r).work
-  ready_pass (Call site func) l r = (ready_call site func l r).skip_room
-  ready_pass (Spawn site func) l r = (ready_spawn site func l r).skip_room
+  ready_pass (Call site func) l r = ready_skip l
+  ready_pass (Spawn site func) l r = ready_skip l
   ready_pass Ret l r = tt
   ready_pass Sync l r = tt
 
@@ -620,7 +520,7 @@ module _ (trace : Recording) (wf : nesting.IsWellFormed trace.records) (short : 
       let g = given trace wf in
       let n = events_len g.es g.are in
       can_finish g.es g.wf trace.root g.span g.spans g.rest g.path (omega arith) s.top (told s) (top_in s)
-      (subst (λ k. Summed g.es g.wf trace.root g.span g.spans g.rest g.path k (told s)) (last ∙ n) (at.summed g.es g.are g.wf g.span g.spans g.rest g.path))
+      (subst (λ k. Summed g.es g.wf trace.root g.span g.spans g.rest g.path k (told s)) (last ∙ n) (at g.es g.are g.wf g.span g.spans g.rest g.path))
 
   pub finished_in : i ≡ length trace.records → IsPathTable trace (record s.table { root = plus s.table.root (entered_row s.top s.work s.weight) })
   finished_in last =
@@ -637,7 +537,7 @@ module _ (trace : Recording) (wf : nesting.IsWellFormed trace.records) (short : 
               g.rest,
               g.path,
               finished g.es g.wf trace.root g.span g.spans g.rest g.path s.top (told s) (top_in s)
-                  (subst (λ k. Summed g.es g.wf trace.root g.span g.spans g.rest g.path k (told s)) (last ∙ n) (at.summed g.es g.are g.wf g.span g.spans g.rest g.path)),
+                  (subst (λ k. Summed g.es g.wf trace.root g.span g.spans g.rest g.path k (told s)) (last ∙ n) (at g.es g.are g.wf g.span g.spans g.rest g.path)),
             ),
           ),
         ),

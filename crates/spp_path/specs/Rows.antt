@@ -1,5 +1,5 @@
 -- What the pass that sums up the rows of the path has between two events, and what each event does to it.
-use Rattle.std.specs.Prelude.{◌≡◌, ℕ, ◌+◌, ◌-◌, ◌<◌, ◌≤◌, ◌^◌, Bool, true, false, ◌&&◌, cond, nat_eq, List, [], ◌∷◌, length, replicate, reverse, slice_index, slice_set, Ok}
+use Rattle.std.specs.Prelude.{◌≡◌, ℕ, ◌+◌, ◌-◌, ◌<◌, ◌≤◌, ◌^◌, Bool, true, false, not, ◌&&◌, cond, nat_eq, List, [], ◌∷◌, length, reverse, Ok}
 use Rattle.spp_event.specs.declared.records.Event.{Event}
 use Rattle.spp_event.specs.declared.records.Event.TheVariants.{Strand, Call, Spawn, Ret, Sync}
 use Rattle.spp_event.specs.Records.{IsEventOf}
@@ -8,17 +8,18 @@ use Rattle.spp_dag.specs.declared.row.Row.{Row}
 use Rattle.spp_dag.specs.Shares.{plus}
 use Rattle.spp_site.specs.Rows.{Fits}
 use Rattle.spp_site.specs.Table.{Sums, row_at, empty, IsAdded}
+use Rattle.spp_site.specs.Marks.{is_marked, with_mark, without}
 use Rattle.spp_path.specs.declared.rows.EnteredFrame.{EnteredFrame}
 use Rattle.spp_path.specs.declared.rows.PathRows.{PathRows}
 
 -- the open frames that the path enters, innermost first; how many frames are open within these that it doesn't enter;
--- how many of the entered ones each site entered, and how many run each function; the work so far, and the weight of
+-- the sites by which the entered ones were entered, and the functions that they run; the work so far, and the weight of
 -- the path so far; and the table
 pub record Told : Type 0 where
   pub frames : List EnteredFrame
   pub skipped : ℕ
-  pub open_sites : List ℕ
-  pub open_funcs : List ℕ
+  pub open_sites : ℕ → Bool
+  pub open_funcs : ℕ → Bool
   pub work : ℕ
   pub weight : ℕ
   pub table : Sums
@@ -27,8 +28,8 @@ abbrev pub told : PathRows → Told
 told s = record {
   frames = s.top ∷ reverse s.below.items;
   skipped = s.skipped;
-  open_sites = s.open_sites.items;
-  open_funcs = s.open_funcs.items;
+  open_sites = is_marked s.open_sites;
+  open_funcs = is_marked s.open_funcs;
   work = s.work;
   weight = s.weight;
   table = s.table;
@@ -47,29 +48,23 @@ entered_row f work weight = record {
   caller_span = cond f.top_caller (weight - f.weight_before) 0;
 }
 
--- one more, and one less, at a place
-abbrev pub raised : List ℕ → ℕ → List ℕ
-raised counts at = slice_set counts at (slice_index counts at + 1)
-
-abbrev pub lowered : List ℕ → ℕ → List ℕ
-lowered counts at = slice_set counts at (slice_index counts at - 1)
-
 -- before the first event the root frame is open, which runs `root`, and the path is in it
-abbrev pub start_told : ℕ → ℕ → ℕ → Told
-start_told root sites funcs = record {
+abbrev pub start_told : ℕ → Told
+start_told root = record {
   frames = record {
     site = 0;
     func = root;
     top_site = true;
     top_caller = true;
+    top_func = true;
     running = true;
     work_before = 0;
     weight_before = 0;
     local = 0;
   } ∷ [];
   skipped = 0;
-  open_sites = replicate sites 0;
-  open_funcs = slice_set (replicate funcs 0) root 1;
+  open_sites = λ site. false;
+  open_funcs = with_mark root (λ func. false);
   work = 0;
   weight = 0;
   table = empty;
@@ -120,14 +115,15 @@ sync_told t = record t { frames = set_running true t.frames }
 
 -- ---- a call, and a spawn
 
--- The frame that the frame f opens. It is a top frame by site where no open frame was entered by its site, and by
--- caller where f alone runs f's function.
+-- The frame that the frame f opens. It is a top frame by site where no open frame was entered by its site, by caller
+-- where f is one by function, and by function where no open frame runs its function.
 abbrev pub entered_frame : ℕ → ℕ → Told → EnteredFrame → EnteredFrame
 entered_frame site func t f = record {
   site = site;
   func = func;
-  top_site = nat_eq (slice_index t.open_sites site) 0;
-  top_caller = nat_eq (slice_index t.open_funcs f.func) 1;
+  top_site = not (t.open_sites site);
+  top_caller = f.top_func;
+  top_func = not (t.open_funcs func);
   running = true;
   work_before = t.work;
   weight_before = t.weight;
@@ -142,8 +138,8 @@ enter_frames site func t (f ∷ fs) = entered_frame site func t f ∷ f ∷ fs
 abbrev pub enter_told : ℕ → ℕ → Told → Told
 enter_told site func t = record t {
   frames = enter_frames site func t t.frames;
-  open_sites = raised t.open_sites site;
-  open_funcs = raised t.open_funcs func;
+  open_sites = with_mark site t.open_sites;
+  open_funcs = with_mark func t.open_funcs;
 }
 
 -- the innermost frame doesn't run on while the path is in its child
@@ -154,19 +150,9 @@ wait_told t = record t { frames = set_running false t.frames }
 abbrev pub skip_told : Told → Told
 skip_told t = record t { skipped = t.skipped + 1 }
 
--- the function of the innermost entered frame
-abbrev pub func_in : List EnteredFrame → ℕ
-func_in [] = 0
-func_in (f ∷ fs) = f.func
-
--- the site and the two functions have their counts, and these can be raised
-pub record CanEnter (site func : ℕ) (t : Told) : Type 0 where
-  pub site_known : site < length t.open_sites
-  pub func_known : func < length t.open_funcs
-  pub caller_known : func_in t.frames < length t.open_funcs
-  pub site_room : slice_index t.open_sites site + 1 < 2 ^ 32
-  pub func_room : slice_index t.open_funcs func + 1 < 2 ^ 32
-  pub skip_room : t.skipped + 1 < 2 ^ 32
+-- one more can be open
+abbrev pub CanSkip : Told → Type 0
+CanSkip t = t.skipped + 1 < 2 ^ 32
 
 -- ---- a return
 
@@ -183,18 +169,14 @@ pub record CanReturn (f : EnteredFrame) (t : Told) : Type 0 where
   pub deep : 1 < length t.frames
   pub work_before : f.work_before ≤ t.work
   pub weight_before : f.weight_before ≤ t.weight
-  pub site_known : f.site < length t.open_sites
-  pub func_known : f.func < length t.open_funcs
-  pub site_open : 0 < slice_index t.open_sites f.site
-  pub func_open : 0 < slice_index t.open_funcs f.func
   pub row : Fits (plus (row_at t.table f.site) (entered_row f t.work t.weight))
 
 -- it has closed, and the table has its row
 pub record IsReturned (f : EnteredFrame) (old new : Told) : Type 0 where
   pub frames : new.frames ≡ frames_below old.frames
   pub skipped : new.skipped ≡ old.skipped
-  pub open_sites : new.open_sites ≡ lowered old.open_sites f.site
-  pub open_funcs : new.open_funcs ≡ lowered old.open_funcs f.func
+  pub open_sites : new.open_sites ≡ without f.top_site f.site old.open_sites
+  pub open_funcs : new.open_funcs ≡ without f.top_func f.func old.open_funcs
   pub work : new.work ≡ old.work
   pub weight : new.weight ≡ old.weight
   pub table : IsAdded old.table new.table f.site (entered_row f old.work old.weight)

@@ -23,7 +23,7 @@ ghost use Rattle.spp_path.specs.Rows.{
   IsRead,
   CanPass,
   CanAdd,
-  CanEnter,
+  CanSkip,
   CanReturn,
   CanFinish,
   IsReturned,
@@ -31,7 +31,7 @@ ghost use Rattle.spp_path.specs.Rows.{
 
 use spp_dag::Row;
 use spp_event::{Event, Trace};
-use spp_site::Table;
+use spp_site::{Marks, Table};
 use std::alloc::{AllocError, Global};
 
 /// An open frame that the path enters.
@@ -45,6 +45,8 @@ struct EnteredFrame {
     top_site: bool,
     /// No frame that encloses its caller runs the caller's function.
     top_caller: bool,
+    /// No frame that encloses it runs its function.
+    top_func: bool,
     /// The frame runs on along the path: it waits for no child that the path enters.
     running: bool,
     /// The counts of all strands of the trace before its first event.
@@ -87,10 +89,10 @@ struct PathRows {
     below: Vec<EnteredFrame>,
     /// How many frames are open that the path doesn't enter. All of them lie within the innermost entered frame.
     skipped: u32,
-    /// For each site how many open frames that the path enters were entered by it.
-    open_sites: Vec<u32>,
-    /// For each function how many open frames that the path enters run it.
-    open_funcs: Vec<u32>,
+    /// The sites by which the open frames that the path enters were entered.
+    open_sites: Marks,
+    /// The functions that they run.
+    open_funcs: Marks,
     /// The counts of all strands so far.
     work: u128,
     /// The counts of the path's strands so far.
@@ -100,20 +102,19 @@ struct PathRows {
 }
 
 impl PathRows {
-    /// The pass before the first event, where there are that many sites and functions and the root frame runs `root`.
-    fn new(alloc: Global, root: u32, sites: u32, funcs: u32) -> Result<Self, AllocError>
-        requires { root < funcs }
-        ensures { IfOk result (λ s. told s ≡ start_told root sites funcs) }
+    /// The pass before the first event, where the root frame runs `root`.
+    fn new(alloc: Global, root: u32) -> Result<Self, AllocError>
+        ensures { IfOk result (λ s. told s ≡ start_told root) }
     {
-        let open_sites = vec![in alloc; 0; sites as usize]?;
-        let mut open_funcs = vec![in alloc; 0; funcs as usize]?;
-        open_funcs[root as usize] = 1;
+        let mut open_funcs = Marks::new(alloc);
+        open_funcs.add(root)?;
         Ok(PathRows {
             top: EnteredFrame {
                 site: 0,
                 func: root,
                 top_site: true,
                 top_caller: true,
+                top_func: true,
                 running: true,
                 work_before: 0,
                 weight_before: 0,
@@ -121,7 +122,7 @@ impl PathRows {
             },
             below: Vec::new(alloc),
             skipped: 0,
-            open_sites,
+            open_sites: Marks::new(alloc),
             open_funcs,
             work: 0,
             weight: 0,
@@ -170,15 +171,14 @@ impl PathRows {
     /// Opens a frame that the path enters, from the innermost one.
     #[inline(always)]
     fn enter(&mut self, site: u32, func: u32) -> Result<(), AllocError>
-        requires { CanEnter site func (told self.old) }
         ensures { OnOk result (told self.new ≡ enter_told site func (told self.old)) }
     {
-        let caller = self.top.func;
         let frame = EnteredFrame {
             site,
             func,
-            top_site: self.open_sites[site as usize] == 0,
-            top_caller: self.open_funcs[caller as usize] == 1,
+            top_site: !self.open_sites.has(site),
+            top_caller: self.top.top_func,
+            top_func: !self.open_funcs.has(func),
             running: true,
             work_before: self.work,
             weight_before: self.weight,
@@ -186,15 +186,15 @@ impl PathRows {
         };
         self.below.push(self.top)?;
         self.top = frame;
-        self.open_sites[site as usize] += 1;
-        self.open_funcs[func as usize] += 1;
+        self.open_sites.add(site)?;
+        self.open_funcs.add(func)?;
         Ok(())
     }
 
     /// A call.
     #[inline(always)]
     fn call(&mut self, site: u32, func: u32) -> Result<(), AllocError>
-        requires { CanEnter site func (told self.old) }
+        requires { CanSkip (told self.old) }
         ensures enters { OnOk result (runs (told self.old) ≡ true → told self.new ≡ enter_told site func (told self.old)) }
         ensures skips { OnOk result (runs (told self.old) ≡ false → told self.new ≡ skip_told (told self.old)) }
     {
@@ -208,7 +208,7 @@ impl PathRows {
     /// A spawn of a child that the path enters, or doesn't.
     #[inline(always)]
     fn spawn(&mut self, entered: bool, site: u32, func: u32) -> Result<(), AllocError>
-        requires { CanEnter site func (told self.old) }
+        requires { CanSkip (told self.old) }
         ensures enters { OnOk result ((nat_eq self.old.skipped 0 && entered) ≡ true → told self.new ≡ enter_told site func (wait_told (told self.old))) }
         ensures skips { OnOk result ((nat_eq self.old.skipped 0 && entered) ≡ false → told self.new ≡ skip_told (told self.old)) }
     {
@@ -258,8 +258,8 @@ impl PathRows {
             unreachable!();
         };
         self.top = parent;
-        self.open_sites[child.site as usize] -= 1;
-        self.open_funcs[child.func as usize] -= 1;
+        self.open_sites.remove_if(child.top_site, child.site);
+        self.open_funcs.remove_if(child.top_func, child.func);
         Ok(())
     }
 
@@ -304,7 +304,7 @@ pub fn path_table(alloc: Global, trace: &Trace<'_>, entered: &[bool]) -> Result<
     ensures { IfOk result (λ t. IsPathTable trace.now t) }
 {
     let count = trace.count();
-    let mut rows = PathRows::new(alloc, trace.root(), trace.sites(), trace.funcs())?;
+    let mut rows = PathRows::new(alloc, trace.root())?;
     for at in 0..count {
         if rows.skipped > 0 {
             rows.pass_by(known_event(trace, at));

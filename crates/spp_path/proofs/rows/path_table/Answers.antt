@@ -5,21 +5,15 @@ use Rattle.spp_event.specs.Recordings.{Recording, record_at}
 use Rattle.spp_path.specs.declared.rows.PathRows.{PathRows}
 use Rattle.spp_path.specs.Rows.{told, start_told}
 use Rattle.spp_path.specs.Tables.{IsPathTable}
-use Rattle.spp_path.proofs.Summing.{Kept, start_in, marks_len, ready_add, ready_call, ready_spawn, ready_return, ready_pass, next_pass, next_strand, next_sync, next_call, next_spawn, next_return, ready_finish, finished_in}
+use Rattle.spp_path.proofs.Summing.{Kept, start_in, marks_len, ready_add, ready_skip, ready_return, ready_pass, next_pass, next_strand, next_sync, next_call, next_spawn, next_return, ready_finish, finished_in}
 use Rattle.spp_path.proofs.rows.path_table.Goals as goal
 use Rattle.spp_path.proofs.rows.path_table.Goals.{in-Strand, in-Call+in_ok-call-in-Call, in-Spawn+in_ok-spawn-in-Spawn, in-Ret+in_ok-ret-in-Ret, in-Sync}
 
 pub loop-at-init : goal.loop-at-init
 loop-at-init c =
     let trace : Recording = c.args.trace.now in
-    let root : c.root.result ≡ trace.root = c.root.ensures in
-    let sites : c.sites.result ≡ length trace.sites = c.sites.ensures in
-    let funcs : c.funcs.result ≡ length trace.funcs = c.funcs.ensures in
-    let is : told c.in_ok-rows.rows ≡ start_told c.root.result c.sites.result c.funcs.result = c.in_ok-rows.ensures in
-    record {
-      kept = start_in trace c.in_ok-rows.rows c.count-count.ensures.limits.root
-          (is ∙ ap (λ n. start_told n c.sites.result c.funcs.result) root ∙ ap (λ n. start_told trace.root n c.funcs.result) sites ∙ ap (λ n. start_told trace.root (length trace.sites) n) funcs);
-    }
+    let is : told c.in_ok-rows.rows ≡ start_told c.root.result = c.in_ok-rows.ensures in
+    record { kept = start_in trace c.in_ok-rows.rows (is ∙ ap start_told c.root.ensures) }
 
 pub pass_by-requires : goal.pass_by-requires
 pass_by-requires c =
@@ -43,7 +37,7 @@ call-requires c =
     let trace : Recording = c.args.trace.now in
     let lt : c.loop-at.at < length trace.records = omega (arith, c.count-count.ensures.count) in
     let short = c.count-count.ensures.limits.events in
-    ready_call trace c.requires.formed short c.loop-at.at c.loop-at.rows c.loop-at.invariant.kept c.in-Call.site c.in-Call.func lt c.in-Call.ensures
+    ready_skip trace c.requires.formed short c.loop-at.at c.loop-at.rows c.loop-at.invariant.kept lt
 
 pub bounds-entered-at : goal.bounds-entered-at
 bounds-entered-at c =
@@ -56,7 +50,7 @@ spawn-requires c =
     let trace : Recording = c.args.trace.now in
     let lt : c.loop-at.at < length trace.records = omega (arith, c.count-count.ensures.count) in
     let short = c.count-count.ensures.limits.events in
-    ready_spawn trace c.requires.formed short c.loop-at.at c.loop-at.rows c.loop-at.invariant.kept c.in-Spawn.site c.in-Spawn.func lt c.in-Spawn.ensures
+    ready_skip trace c.requires.formed short c.loop-at.at c.loop-at.rows c.loop-at.invariant.kept lt
 
 pub ret-requires : goal.ret-requires
 ret-requires c =
