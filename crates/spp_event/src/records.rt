@@ -1,7 +1,7 @@
 //! One record: 16 bytes, the one spelling of an event.
 
 ghost use Rattle.std.specs.Prelude.{◌≡◌, IfOk, Some};
-ghost use Rattle.spp_event.specs.Records.{spelling, read_record, IsEventOf};
+ghost use Rattle.spp_event.specs.Records.{spelling, read_record, event_in, IsEvent, IsEventOf};
 ghost use Rattle.spp_event.specs.Texts.{event_fault_text};
 
 use std::error::Error;
@@ -153,5 +153,25 @@ pub(crate) fn event_of(r: &[u8; 16], sites: u32, funcs: u32) -> Result<Event, Ev
             }
         }
         _ => Err(EventFault::Tag),
+    }
+}
+
+/// The event that the tag and the numbers of a whole record say. It is the record's event where the record spells one.
+#[inline(always)]
+pub(crate) fn event_said(r: &[u8; 16]) -> Event
+    ensures said { result ≡ event_in r.now }
+    ensures fits { IsEvent result }
+{
+    let [tag, _, _, _, a0, a1, a2, a3, b0, b1, b2, b3, b4, b5, b6, b7] = *r;
+    let site = u32::from_be_bytes([a0, a1, a2, a3]);
+    let func = u32::from_be_bytes([b0, b1, b2, b3]);
+    match tag {
+        0 => Event::Strand {
+            count: u64::from_be_bytes([b0, b1, b2, b3, b4, b5, b6, b7]),
+        },
+        1 => Event::Call { site, func },
+        2 => Event::Spawn { site, func },
+        3 => Event::Ret,
+        _ => Event::Sync,
     }
 }

@@ -1,16 +1,27 @@
 //! An opened trace.
 
-ghost use Rattle.std.specs.Prelude.{◌≡◌, ◌<◌, length, slice_index_or, [], IfOk, Err};
+ghost use Rattle.std.specs.Prelude.{◌≡◌, ◌+◌, ◌*◌, ◌<◌, length, slice_index_or, [], None, IfOk, IfSome, IsOk, Ok, Err};
 ghost use Rattle.spp_event.specs.declared.records.EventFault.TheVariants.{Truncated};
 ghost use Rattle.spp_event.specs.Records.{IsEventOf};
 ghost use Rattle.spp_event.specs.Header.{HasGoodNames};
-ghost use Rattle.spp_event.specs.Recordings.{InLimits, record_at};
+ghost use Rattle.spp_event.specs.Recordings.{InLimits, record_at, place};
 
-use crate::records::{Event, EventFault, event_of};
+use crate::records::{Event, EventFault, event_of, event_said};
 use std::marker::Model;
 
 /// The bytes of one record.
 pub(crate) const RECORD: usize = 16;
+
+/// The bytes of the record at a position; none where the body ends before its end.
+#[inline(always)]
+fn record_in(body: &[u8], i: u32) -> Option<&[u8; RECORD]>
+    ensures some { IfSome result (λ r. r.now ≡ place body.now i) }
+    ensures none { result ≡ None → length body.now < i * 16 + 16 }
+{
+    let first = i as usize * RECORD;
+    let record = body.get(first..first + RECORD)?;
+    record.first_chunk()
+}
 
 /// An opened trace: its names, its root function, and its events. Names and events are borrowed from the bytes that
 /// it was opened from.
@@ -105,12 +116,24 @@ impl<'a> Trace<'a> {
     {
         let sites = self.sites.len() as u32;
         let funcs = self.funcs.len() as u32;
-        let Some(rest) = self.body.get(i as usize * RECORD..) else {
-            return Err(EventFault::Truncated);
-        };
-        let Some(record) = rest.first_chunk::<RECORD>() else {
+        let Some(record) = record_in(self.body, i) else {
             return Err(EventFault::Truncated);
         };
         event_of(record, sites, funcs)
+    }
+
+    /// The event at a position where one is known to stand: what its tag and its numbers say. It leaves out the tests
+    /// that [`Trace::event_at`] makes.
+    #[inline(always)]
+    pub fn known_event(&self, i: u32) -> Event
+        requires inside { i < length self.now.records }
+        requires good { IsOk (record_at self.now.records i) }
+        ensures said { record_at self.now.records i ≡ Ok result }
+        ensures within { IsEventOf (length self.now.sites) (length self.now.funcs) result }
+    {
+        let Some(record) = record_in(self.body, i) else {
+            unreachable!();
+        };
+        event_said(record)
     }
 }

@@ -1,7 +1,8 @@
 -- Rows that fit their types, and rows that are zero.
-use Rattle.std.specs.Prelude.{ℕ, ◌<◌, ◌^◌, Bool, ◌&&◌, nat_eq, refl}
+use Rattle.std.specs.Prelude.{ℕ, ◌<◌, ◌^◌, Bool, cond, ◌&&◌, nat_eq, refl}
 use Rattle.std.specs.Coded.{Coded, code_by, coded×, coded_ℕ}
 use Rattle.spp_dag.specs.declared.row.Row.{Row}
+use Rattle.spp_site.specs.declared.closed_frame.ClosedFrame.{ClosedFrame}
 
 -- each sum fits its type
 pub record Fits (r : Row) : Type 0 where
@@ -37,3 +38,16 @@ row_code =
       caller_span = p.1.1.1.1.1.1.1;
     })
     (λ _. refl)
+
+-- the row of one frame that closes
+abbrev pub frame_row : ClosedFrame → Row
+frame_row f = record {
+  count = 1;
+  local = f.local;
+  site_count = cond f.top_site 1 0;
+  site_work = cond f.top_site f.work 0;
+  site_span = cond f.top_site f.span 0;
+  caller_count = cond f.top_caller 1 0;
+  caller_work = cond f.top_caller f.work 0;
+  caller_span = cond f.top_caller f.span 0;
+}

@@ -1,11 +1,13 @@
 //! The table of rows by call site: the row of the root frame, and one for each site that was added to.
 #![tactic(auto)]
 
+mod closed_frame;
 mod laws;
 mod marks;
 mod row_sums;
 mod table;
 
+pub use closed_frame::ClosedFrame;
 pub use laws::table_laws;
 pub use marks::Marks;
 pub use spp_dag::Row;

@@ -12,17 +12,8 @@ returns-in_default-clause-said c =
     let t = c.self.inside in
     let n = length-records_of (length t.sites.items) (length t.funcs.items) t.count t.body.now in
     let h : c.args.i < t.count = subst (λ (k : ℕ). c.args.i < k) n (subst (λ (v : Recording). c.args.i < length v.records) (sym c.self.view_is) c.requires) in
-    let past = c.in_default.ensures.lookup in
-    subst (λ (v : Recording). Err Truncated ≡ record_at v.records c.args.i) c.self.view_is (sym (truncated (length t.sites.items) (length t.funcs.items) t.count t.body.now c.args.i h (omega arith)))
-
-pub returns-in_default-first_chunk-clause-said : goal.returns-in_default-first_chunk-clause-said
-returns-in_default-first_chunk-clause-said c =
-    let t = c.self.inside in
-    let n = length-records_of (length t.sites.items) (length t.funcs.items) t.count t.body.now in
-    let h : c.args.i < t.count = subst (λ (k : ℕ). c.args.i < k) n (subst (λ (v : Recording). c.args.i < length v.records) (sym c.self.view_is) c.requires) in
-    let past : length c.in-Some.rest.now < 16 = c.in_default-first_chunk.ensures.cases in
-    let rest = c.in-Some.ensures.lookup.0.3 in
-    subst (λ (v : Recording). Err Truncated ≡ record_at v.records c.args.i) c.self.view_is (sym (truncated (length t.sites.items) (length t.funcs.items) t.count t.body.now c.args.i h (omega arith)))
+    subst (λ (v : Recording). Err Truncated ≡ record_at v.records c.args.i) c.self.view_is
+    (sym (truncated (length t.sites.items) (length t.funcs.items) t.count t.body.now c.args.i h (c.record_in.ensures.none c.in_default.is)))
 
 pub returns-clause-said : goal.returns-clause-said
 returns-clause-said c =
@@ -31,10 +22,8 @@ returns-clause-said c =
     let h : c.args.i < t.count = subst (λ (k : ℕ). c.args.i < k) n (subst (λ (v : Recording). c.args.i < length v.records) (sym c.self.view_is) c.requires) in
     let sites : c.len-sites.result ≡ length t.sites.items = omega (arith, c.len-sites.ensures, t.sites.ok.0) in
     let funcs : c.len-funcs.result ≡ length t.funcs.items = omega (arith, c.len-funcs.ensures, t.funcs.ok.0) in
-    let chunk : c.in-Some-first_chunk.record.now ≡ take 16 c.in-Some.rest.now = c.in-Some-first_chunk.ensures.cases.same in
-    let rest : c.in-Some.rest.now ≡ drop (c.args.i * 16) t.body.now = c.in-Some.ensures.lookup.0.2 ∙ take_rest t.body.now (c.args.i * 16) in
-    let bytes : c.in-Some-first_chunk.record.now ≡ place t.body.now c.args.i = chunk ∙ ap (λ (l : List ℕ). take 16 l) rest in
-    let said : c.event_of.result ≡ read_record (length t.sites.items) (length t.funcs.items) (place t.body.now c.args.i) = c.event_of.ensures.said ∙ ap (λ (k : ℕ). read_record k c.len-funcs.result c.in-Some-first_chunk.record.now) sites ∙ ap (λ (k : ℕ). read_record (length t.sites.items) k c.in-Some-first_chunk.record.now) funcs ∙ ap (λ (l : List ℕ). read_record (length t.sites.items) (length t.funcs.items) l) bytes in
+    let bytes : c.in-Some.record.now ≡ place t.body.now c.args.i = c.in-Some.ensures.some in
+    let said : c.event_of.result ≡ read_record (length t.sites.items) (length t.funcs.items) (place t.body.now c.args.i) = c.event_of.ensures.said ∙ ap (λ (k : ℕ). read_record k c.len-funcs.result c.in-Some.record.now) sites ∙ ap (λ (k : ℕ). read_record (length t.sites.items) k c.in-Some.record.now) funcs ∙ ap (λ (l : List ℕ). read_record (length t.sites.items) (length t.funcs.items) l) bytes in
     subst (λ (v : Recording). c.event_of.result ≡ record_at v.records c.args.i) c.self.view_is (said ∙ sym (record_at-records_of (length t.sites.items) (length t.funcs.items) t.count t.body.now c.args.i h))
 
 pub returns-clause-within : goal.returns-clause-within
