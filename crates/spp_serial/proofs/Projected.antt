@@ -14,7 +14,7 @@ use Rattle.spp_serial.specs.declared.summing.CountedFrame.{CountedFrame}
 use Rattle.spp_serial.specs.declared.stack.Frame.{Frame}
 use Rattle.spp_serial.specs.Weights.{close, after_child}
 use Rattle.spp_serial.specs.Passes as pass
-use Rattle.spp_serial.specs.Passes.{Seen, child_of, state_of, row_of, strand_frame, sync_frame, greater_child, child_after, returned_frame, on_top, strand_seen, sync_seen, open_seen}
+use Rattle.spp_serial.specs.Passes.{Seen, child_of, state_of, row_of, strand_frame, sync_frame, greater_child, child_after, returned_of, returned_frame, on_top, strand_seen, sync_seen, open_seen}
 use Rattle.spp_serial.proofs.Told.{Counted, Told, full_row, sync_told, IsReturned}
 
 -- a frame as those of the figures
@@ -78,7 +78,7 @@ pub returned_state : (burdens : Burdens) (f g : CountedFrame) → IsNeat f → I
 returned_state burdens f g nf ng = by f.kind ∙ ap (λ v. machine.after_child state.unburdened f.kind f.at v (state_of g)) (close_is f nf)
   where
     by : (kind : FrameKind)
-        → (let s : State = record { spine = (after_child state.unburdened kind (close f.plain) g.plain).spine; child = child_of (after_child state.unburdened kind (close f.plain) g.plain).child (child_after kind f g) } in s)
+        → (let s : State = record { spine = (after_child state.unburdened kind (close f.plain) g.plain).spine; child = child_of (after_child state.unburdened kind (close f.plain) g.plain).child (child_after kind (returned_of f) g) } in s)
         ≡ machine.after_child state.unburdened kind f.at (close f.plain) (state_of g)
     by Root = refl
     by Called = refl
@@ -98,7 +98,7 @@ greater_some w (Some s) at y e = by (nat_lt w y) e
 pub neat_returned : (burdens : Burdens) (f g : CountedFrame) → IsNeat g → IsNeat (returned_frame burdens f g)
 neat_returned burdens f g h = by f.kind
   where
-    by : (kind : FrameKind) → child_after kind f g ≡ None → (after_child state.unburdened kind (close f.plain) g.plain).child ≡ 0
+    by : (kind : FrameKind) → child_after kind (returned_of f) g ≡ None → (after_child state.unburdened kind (close f.plain) g.plain).child ≡ 0
     by Root = h
     by Called = h
     by Spawned = λ e. absurd (greater_some g.plain.child g.child f.at (g.plain.spine + close f.plain) e)

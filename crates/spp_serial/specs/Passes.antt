@@ -7,12 +7,14 @@ use Rattle.spp_dag.specs.declared.row.Row.{Row}
 use Rattle.spp_dag.specs.declared.stack.FrameKind.{FrameKind}
 use Rattle.spp_dag.specs.declared.stack.FrameKind.TheVariants.{Root, Called, Spawned}
 use Rattle.spp_dag.specs.Shares.{plus}
-use Rattle.spp_site.specs.Rows.{Fits}
+use Rattle.spp_site.specs.Rows.{Fits, frame_row}
 use Rattle.spp_site.specs.Table.{Sums, row_at, empty, IsAdded}
 use Rattle.spp_site.specs.Marks.{is_marked, with_mark, without}
 use Rattle.spp_path.specs.declared.choices.End.{End}
 use Rattle.spp_path.specs.declared.choices.Join.{Join}
+use Rattle.spp_site.specs.declared.closed_frame.ClosedFrame.{ClosedFrame}
 use Rattle.spp_serial.specs.declared.summing.CountedFrame.{CountedFrame}
+use Rattle.spp_serial.specs.declared.summing.Returned.{Returned}
 use Rattle.spp_serial.specs.declared.summing.Summing.{Summing}
 use Rattle.spp_serial.specs.declared.summing.FirstPass.{FirstPass}
 use Rattle.spp_serial.specs.Weights.{start, close, after_strand, after_sync, after_child}
@@ -63,32 +65,40 @@ abbrev pub greater_child : ℕ → Option ℕ → ℕ → ℕ → Option ℕ
 greater_child weight None at through = Some at
 greater_child weight (Some spawn) at through = cond (nat_lt weight through) (Some at) (Some spawn)
 
--- the waiting child of a frame, where the frame f has returned to it
-abbrev pub child_after : FrameKind → CountedFrame → CountedFrame → Option ℕ
-child_after Root f g = g.child
-child_after Called f g = g.child
-child_after Spawned f g = greater_child g.plain.child g.child f.at (g.plain.spine + close f.plain)
+-- what the return of the frame f tells its parent
+abbrev pub returned_of : CountedFrame → Returned
+returned_of f = record { kind = f.kind; at = f.at; plain = close f.plain; burdened = close f.burdened }
 
--- the frame g, where the frame f has returned to it
+-- the waiting child of a frame, where a frame has returned to it
+abbrev pub child_after : FrameKind → Returned → CountedFrame → Option ℕ
+child_after Root r g = g.child
+child_after Called r g = g.child
+child_after Spawned r g = greater_child g.plain.child g.child r.at (g.plain.spine + r.plain)
+
+-- the frame g, where a frame has returned to it
+abbrev pub received : Burdens → Returned → CountedFrame → CountedFrame
+received burdens r g = record g {
+  plain = after_child unburdened r.kind r.plain g.plain;
+  burdened = after_child burdens r.kind r.burdened g.burdened;
+  child = child_after r.kind r g;
+}
+
 abbrev pub returned_frame : Burdens → CountedFrame → CountedFrame → CountedFrame
-returned_frame burdens f g = record g {
-  plain = after_child unburdened f.kind (close f.plain) g.plain;
-  burdened = after_child burdens f.kind (close f.burdened) g.burdened;
-  child = child_after f.kind f g;
+returned_frame burdens f g = received burdens (returned_of f) g
+
+-- the frame as the table counts it, with the strands directly in it, where it closes when that is the work so far
+abbrev pub closed_of : CountedFrame → ℕ → ClosedFrame
+closed_of f work = record {
+  local = f.local;
+  work = work - f.before;
+  span = close f.plain;
+  top_site = f.top_site;
+  top_caller = f.top_caller;
 }
 
--- the row of a frame with the strands directly in it, where it closes when that is the work so far
+-- its row
 abbrev pub row_of : CountedFrame → ℕ → Row
-row_of f work = record {
-  count = 1;
-  local = f.local;
-  site_count = cond f.top_site 1 0;
-  site_work = cond f.top_site (work - f.before) 0;
-  site_span = cond f.top_site (close f.plain) 0;
-  caller_count = cond f.top_caller 1 0;
-  caller_work = cond f.top_caller (work - f.before) 0;
-  caller_span = cond f.top_caller (close f.plain) 0;
-}
+row_of f work = frame_row (closed_of f work)
 
 -- a strand of that many instructions fits
 pub record FitsStrand (count : ℕ) (f : CountedFrame) : Type 0 where
@@ -96,10 +106,10 @@ pub record FitsStrand (count : ℕ) (f : CountedFrame) : Type 0 where
   pub burdened : close f.burdened + count < 2 ^ 128
   pub local : f.local + count < 2 ^ 128
 
--- the weights of the frame g, where the frame f returns to it, fit
-pub record FitsReturn (burdens : Burdens) (f g : CountedFrame) : Type 0 where
-  pub plain : close f.plain + close g.plain < 2 ^ 128
-  pub burdened : close f.burdened + close g.burdened + (burdens.on_continuation + burdens.on_return) < 2 ^ 128
+-- the weights of the frame g, where a frame returns to it, fit
+pub record FitsReturn (burdens : Burdens) (r : Returned) (g : CountedFrame) : Type 0 where
+  pub plain : r.plain + close g.plain < 2 ^ 128
+  pub burdened : r.burdened + close g.burdened + (burdens.on_continuation + burdens.on_return) < 2 ^ 128
 
 -- ---- the pass
 
@@ -194,7 +204,7 @@ open_seen kind at site func s = record s {
 
 -- the innermost frame f can return to the frame g
 pub record CanClose (burdens : Burdens) (f g : CountedFrame) (s : Seen) : Type 0 where
-  pub fits : FitsReturn burdens f g
+  pub fits : FitsReturn burdens (returned_of f) g
   pub before : f.before ≤ s.work
   pub row : Fits (plus (row_at s.table f.site) (row_of f s.work))
 

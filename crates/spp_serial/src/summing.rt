@@ -5,10 +5,11 @@ ghost use Rattle.spp_maxplus.specs.State.{taken as taken_of};
 ghost use Rattle.spp_serial.specs.Weights.{close as close_of};
 ghost use Rattle.spp_serial.specs.Passes.{
   state_of,
-  row_of,
   strand_frame,
   sync_frame,
-  returned_frame,
+  closed_of,
+  returned_of,
+  received,
   FitsStrand,
   FitsReturn,
   joins_at,
@@ -27,11 +28,11 @@ ghost use Rattle.spp_serial.specs.Passes.{
 };
 
 use crate::weights::Weights;
-use spp_dag::{FrameKind, Row};
+use spp_dag::FrameKind;
 use spp_maxplus::Burdens;
 use spp_path::{Choices, End, Join};
 use spp_piece::Figures;
-use spp_site::{Marks, Table};
+use spp_site::{ClosedFrame, Marks, Table};
 use std::alloc::{AllocError, Global};
 
 /// What one reading of a run's events tells.
@@ -43,6 +44,19 @@ pub(crate) struct FirstPass {
     pub(crate) dag: Table,
     /// What settles its path.
     pub(crate) choices: Choices,
+}
+
+/// What the return of a frame tells its parent.
+#[derive(Clone, Copy)]
+struct Returned {
+    /// How it was entered.
+    kind: FrameKind,
+    /// The position of the event that opened it.
+    at: u32,
+    /// The weight with which it closes, without burdens.
+    plain: u128,
+    /// And with the burdens.
+    burdened: u128,
 }
 
 /// An open frame.
@@ -96,27 +110,38 @@ impl CountedFrame {
         self.child = None;
     }
 
-    /// The return of that frame, which this one opened. Of two waiting children of the same weight the first is kept.
+    /// The return of a frame that this one opened. Of two waiting children of the same weight the first is kept.
     #[inline(always)]
-    fn receive(&mut self, child: &CountedFrame, burdens: Burdens)
-        requires { FitsReturn burdens child.now self.old }
-        ensures { self.new ≡ returned_frame burdens child.now self.old }
+    fn receive(&mut self, child: Returned, burdens: Burdens)
+        requires { FitsReturn burdens child self.old }
+        ensures { self.new ≡ received burdens child self.old }
     {
-        let plain = child.plain.close();
-        let burdened = child.burdened.close();
         match child.kind {
             FrameKind::Root => {}
             FrameKind::Called => {
-                self.plain = self.plain.after_call(plain);
-                self.burdened = self.burdened.after_call(burdened);
+                self.plain = self.plain.after_call(child.plain);
+                self.burdened = self.burdened.after_call(child.burdened);
             }
             FrameKind::Spawned => {
-                if self.child.is_none() || self.plain.child < self.plain.spine + plain {
+                if self.child.is_none() || self.plain.child < self.plain.spine + child.plain {
                     self.child = Some(child.at);
                 }
-                self.plain = self.plain.after_spawn(plain, Burdens::default());
-                self.burdened = self.burdened.after_spawn(burdened, burdens);
+                self.plain = self.plain.after_spawn(child.plain, Burdens::default());
+                self.burdened = self.burdened.after_spawn(child.burdened, burdens);
             }
+        }
+    }
+
+    /// What its return tells its parent.
+    #[inline(always)]
+    fn returned(&self) -> Returned
+        ensures { result ≡ returned_of self.now }
+    {
+        Returned {
+            kind: self.kind,
+            at: self.at,
+            plain: self.plain.close(),
+            burdened: self.burdened.close(),
         }
     }
 
@@ -131,23 +156,18 @@ impl CountedFrame {
         }
     }
 
-    /// The frame's whole row, its strands included, where it closes when `work` is the work so far.
+    /// The frame as the table counts it, its strands included, where it closes when `work` is the work so far.
     #[inline(always)]
-    fn row(&self, work: u128) -> Row
+    fn closed(&self, work: u128) -> ClosedFrame
         requires { self.now.before ≤ work }
-        ensures { result ≡ row_of self.now work }
+        ensures { result ≡ closed_of self.now work }
     {
-        let within = work - self.before;
-        let span = self.plain.close();
-        Row {
-            count: 1,
+        ClosedFrame {
             local: self.local,
-            site_count: if self.top_site { 1 } else { 0 },
-            site_work: if self.top_site { within } else { 0 },
-            site_span: if self.top_site { span } else { 0 },
-            caller_count: if self.top_caller { 1 } else { 0 },
-            caller_work: if self.top_caller { within } else { 0 },
-            caller_span: if self.top_caller { span } else { 0 },
+            work: work - self.before,
+            span: self.plain.close(),
+            top_site: self.top_site,
+            top_caller: self.top_caller,
         }
     }
 }
@@ -299,19 +319,19 @@ impl Summing {
         requires { CanReturn burdens (seen self.old) (seen self.old).frames }
         ensures { IfOk result (λ went. Returns burdens at (seen self.old) (seen self.old).frames went (seen self.new)) }
     {
-        if self.frames.len() < 2 {
+        let last = self.frames.len() - 1;
+        if last == 0 {
             return Ok(false);
         }
-        let Some(child) = self.frames.pop() else {
-            return Ok(false);
-        };
+        let child = &self.frames[last];
         note_join(&mut self.choices.joins, at, child.taken())?;
         note_end(&mut self.choices.ends, at, child.kind, child.at)?;
-        self.table.add(child.site, &child.row(self.work))?;
+        self.table.close(child.site, &child.closed(self.work))?;
         self.open_sites.remove_if(child.top_site, child.site);
         self.open_funcs.remove_if(child.top_func, child.func);
-        let last = self.frames.len() - 1;
-        self.frames[last].receive(&child, burdens);
+        let returned = child.returned();
+        self.frames.truncate(last);
+        self.frames[last - 1].receive(returned, burdens);
         Ok(true)
     }
 
@@ -328,7 +348,7 @@ impl Summing {
             ..
         } = self;
         note_join(&mut choices.joins, at, root.taken())?;
-        table.add_root(&root.row(work));
+        table.add_root(&root.closed(work).row());
         Ok(FirstPass {
             figures: Figures {
                 work,

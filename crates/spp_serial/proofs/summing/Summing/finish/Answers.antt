@@ -2,7 +2,7 @@ use Rattle.std.proofs.Common.{◌≡◌, ◌-◌, ◌≤◌, ℕ, List, ◌++◌
 use Rattle.spp_maxplus.specs.State.{taken}
 use Rattle.spp_dag.specs.declared.row.Row.{Row}
 use Rattle.spp_dag.specs.Shares.{plus}
-use Rattle.spp_site.specs.Rows.{Fits}
+use Rattle.spp_site.specs.Rows.{Fits, frame_row}
 use Rattle.spp_site.specs.Table.{Sums}
 use Rattle.spp_piece.specs.declared.figures.Figures.{Figures}
 use Rattle.spp_serial.specs.declared.summing.CountedFrame.{CountedFrame}
@@ -12,8 +12,8 @@ use Rattle.spp_serial.specs.Passes.{Seen, seen, state_of, row_of, joins_at, CanF
 use Rattle.spp_serial.proofs.Tops.{topped, some_open}
 use Rattle.spp_serial.proofs.summing.Summing.finish.Goals as goal
 
-pub row-requires : goal.row-requires
-row-requires c =
+pub closed-requires : goal.closed-requires
+closed-requires c =
     let s : Seen = seen c.args.self in
     let fs : List CountedFrame = c.args.self.frames.items in
     let t = topped fs (some_open _ fs c.requires) in
@@ -32,7 +32,7 @@ add_root-requires c =
     let read : CountedFrame = c.index.result.now in
     let same : read ≡ t.top = c.index.ensures ∙ ap (λ k. get_or fs k read) at ∙ t.get read in
     let can : (t.top.before ≤ s.work) × Fits (plus s.table.root (row_of t.top s.work)) = subst (λ l. CanFinish (record s { frames = l })) t.is c.requires in
-    subst (λ (r : Row). Fits (plus s.table.root r)) (sym (c.row.ensures ∙ ap (λ f. row_of f s.work) same)) can.1
+    subst (λ (r : Row). Fits (plus s.table.root r)) (sym (c.row.ensures ∙ ap frame_row c.closed.ensures ∙ ap (λ f. row_of f s.work) same)) can.1
 
 pub returns : goal.returns
 returns c =
@@ -49,7 +49,7 @@ returns c =
     } in
     subst (λ l. IsFinished c.args.at s l told) (sym t.is) (
       ap₂ (λ (v w : ℕ). let f : Figures = record { work = s.work; span = v; burdened = w } in f) (c.close.ensures ∙ ap (λ f. close f.plain) same) (c.close-2.ensures ∙ ap (λ f. close f.burdened) same),
-      c.add_root.ensures ∙ ap (λ r. let u : Sums = record s.table { root = plus s.table.root r } in u) (c.row.ensures ∙ ap (λ f. row_of f s.work) same),
+      c.add_root.ensures ∙ ap (λ r. let u : Sums = record s.table { root = plus s.table.root r } in u) (c.row.ensures ∙ ap frame_row c.closed.ensures ∙ ap (λ f. row_of f s.work) same),
       refl,
       c.in_ok-note_join.ensures ∙ ap (λ o. s.joins ++ joins_at c.args.at o) (c.taken.ensures ∙ ap (λ f. taken (state_of f)) same),
     )
