@@ -5,6 +5,7 @@ ghost use Rattle.std.specs.Prelude.{◌≡◌, ◌<◌, ◌≤◌, ◌&&◌, nat
 ghost use Rattle.spp_event.specs.declared.records.Event.{Event};
 ghost use Rattle.spp_frame.specs.Nesting.{AreEvents, IsWellFormed};
 ghost use Rattle.spp_dag.specs.Shares.{plus};
+ghost use Rattle.spp_site.specs.Rows.{frame_row};
 ghost use Rattle.spp_path.specs.Entered.{AreEntered};
 ghost use Rattle.spp_path.specs.Tables.{IsPathTable};
 ghost use Rattle.spp_path.specs.Rows.{
@@ -29,9 +30,8 @@ ghost use Rattle.spp_path.specs.Rows.{
   IsReturned,
 };
 
-use spp_dag::Row;
 use spp_event::{Event, Trace};
-use spp_site::{Marks, Table};
+use spp_site::{ClosedFrame, Marks, Table};
 use std::alloc::{AllocError, Global};
 
 /// An open frame that the path enters.
@@ -58,24 +58,20 @@ struct EnteredFrame {
 }
 
 impl EnteredFrame {
-    /// The frame's row, where it closes when `work` is the work so far, and `weight` that of the path so far.
+    /// The frame as the table counts it, where it closes when `work` is the work so far, and `weight` that of the path
+    /// so far.
     #[inline(always)]
-    fn row(&self, work: u128, weight: u128) -> Row
+    fn closed(&self, work: u128, weight: u128) -> ClosedFrame
         requires work { self.now.work_before ≤ work }
         requires weight { self.now.weight_before ≤ weight }
-        ensures { result ≡ entered_row self.now work weight }
+        ensures { frame_row result ≡ entered_row self.now work weight }
     {
-        let within = work - self.work_before;
-        let span = weight - self.weight_before;
-        Row {
-            count: 1,
+        ClosedFrame {
             local: self.local,
-            site_count: if self.top_site { 1 } else { 0 },
-            site_work: if self.top_site { within } else { 0 },
-            site_span: if self.top_site { span } else { 0 },
-            caller_count: if self.top_caller { 1 } else { 0 },
-            caller_work: if self.top_caller { within } else { 0 },
-            caller_span: if self.top_caller { span } else { 0 },
+            work: work - self.work_before,
+            span: weight - self.weight_before,
+            top_site: self.top_site,
+            top_caller: self.top_caller,
         }
     }
 }
@@ -253,7 +249,7 @@ impl PathRows {
     {
         let child = self.top;
         self.table
-            .add(child.site, &child.row(self.work, self.weight))?;
+            .close(child.site, &child.closed(self.work, self.weight))?;
         let Some(parent) = self.below.pop() else {
             unreachable!();
         };
@@ -268,7 +264,7 @@ impl PathRows {
         requires { CanFinish self.top (told self) }
         ensures { result ≡ record self.table { root = plus self.table.root (entered_row self.top self.work self.weight) } }
     {
-        let root = self.top.row(self.work, self.weight);
+        let root = self.top.closed(self.work, self.weight).row();
         let PathRows { mut table, .. } = self;
         table.add_root(&root);
         table
@@ -282,10 +278,7 @@ fn known_event(trace: &Trace<'_>, at: u32) -> Event
     requires within { at < length trace.now.records }
     ensures { IsRead trace.now at result }
 {
-    match trace.event_at(at) {
-        Ok(event) => event,
-        Err(_) => unreachable!(),
-    }
+    trace.known_event(at)
 }
 
 /// The rows of a run on its first greatest path. Its trace is known to be well-formed, and `entered` has a mark for
