@@ -3,3 +3,4 @@ pub mod Tables
 pub mod Passes
 pub mod Texts
 pub mod Weights
+pub mod Shares

@@ -1,0 +1,90 @@
+-- The accounts of the parts of a cut.
+use Rattle.std.proofs.Common.{◌≡◌, ℕ, suc, ◌+◌, ◌-◌, ◌<◌, ◌≤◌, List, [], ◌∷◌, ◌++◌, length, map, get_or, take, drop, Result, Ok, Err, IfErr, refl, sym, ap, subst, ◌∙◌, arith}
+use Rattle.std.specs.List.{All}
+use Rattle.std.specs.Result.{IsErrAnd}
+use Rattle.std.proofs.lemmas.List.{take_all, length-take-le, length-drop, map-append, take_more, drop-drop, drop_all}
+use Rattle.std.proofs.lemmas.List.Elements.{All-map}
+use Rattle.std.proofs.Math.Seq.{get_or-take, get_or-drop}
+use Rattle.spp_event.specs.declared.records.Event.{Event}
+use Rattle.spp_event.specs.Recordings.{Record, Recording}
+use Rattle.spp_cut.specs.Parts.{PartOf, records_in, Cover}
+use Rattle.spp_maxplus.specs.declared.state.Burdens.{Burdens}
+use Rattle.spp_dag.specs.Trace.{records}
+use Rattle.spp_dag.specs.Limits.{IsSmall}
+use Rattle.spp_piece.specs.declared.figures.Figures.{Figures}
+use Rattle.spp_piece.specs.Account.{Account, account_of}
+use Rattle.spp_piece.specs.Figures.{AreFigures}
+use Rattle.spp_piece.specs.Faults.{IsFaultOf}
+use Rattle.spp_piece.specs.declared.whole.FiguresFault.{FiguresFault}
+use Rattle.spp_piece.specs.declared.whole.FiguresFault.TheVariants.{Bad}
+use Rattle.spp_frame.specs.declared.Fault.{Fault}
+use Rattle.spp_frame.specs.Nesting as nesting
+use Rattle.spp_stack.specs.Parts.{AreAccounts, AreOfParts}
+
+-- the account of a part
+abbrev pub account_in : Burdens → PartOf → Account
+account_in burdens p = account_of burdens p.first (records_in p)
+
+-- of those of the parts before this one
+abbrev pub rest_of : List PartOf → List PartOf
+rest_of ps = take (length ps - 1) (drop 1 ps)
+
+-- one part more
+pub accounts_more : (b : Burdens) (ps : List PartOf) (i : ℕ) (p : PartOf) (xs ys : List Account) → i < length (rest_of ps) → p ≡ get_or (rest_of ps) i p
+    → xs ≡ map (account_in b) (take (i + 1) ps) → ys ≡ xs ++ account_in b p ∷ [] → ys ≡ map (account_in b) (take (i + 1 + 1) ps)
+accounts_more b ps i p xs ys lt is so_far more =
+    let within : length (rest_of ps) ≡ length ps - 1 = length-take-le (length ps - 1) (drop 1 ps) (omega (arith, length-drop 1 ps)) in
+    let at : get_or (rest_of ps) i p ≡ get_or ps (i + 1) p =
+    get_or-take (length ps - 1) (drop 1 ps) i p (omega arith) ∙ get_or-drop 1 ps i p ∙ ap (λ k. get_or ps k p) (let z : 1 + i ≡ i + 1 = omega arith in z) in
+    more ∙ ap (λ l. l ++ account_in b p ∷ []) so_far
+    ∙ ap (λ q. map (account_in b) (take (i + 1) ps) ++ account_in b q ∷ []) (is ∙ at)
+    ∙ sym (map-append (account_in b) (take (i + 1) ps) (get_or ps (i + 1) p ∷ []))
+    ∙ ap (map (account_in b)) (sym (take_more ps (i + 1) p (omega arith)))
+
+-- all parts
+pub accounts_all : (b : Burdens) (ps : List PartOf) (i : ℕ) (xs : List Account) → 0 < length ps → length (rest_of ps) ≤ i
+    → xs ≡ map (account_in b) (take (i + 1) ps) → xs ≡ map (account_in b) ps
+accounts_all b ps i xs some le so_far =
+    let within : length (rest_of ps) ≡ length ps - 1 = length-take-le (length ps - 1) (drop 1 ps) (omega (arith, length-drop 1 ps)) in
+    so_far ∙ ap (map (account_in b)) (take_all (i + 1) ps (omega arith))
+
+cover_le : (t : Recording) (number from end : ℕ) (ps : List PartOf) → Cover t number from ps end → from ≤ end
+cover_le t number from end [] h = let e : from ≡ end = h in omega arith
+cover_le t number from end (p ∷ ps) h =
+    let l = cover_le t (suc number) (from + p.count) end ps h.3 in
+    omega arith
+
+-- parts that cover the records from a position on have their accounts
+pub cover_accounts : (t : Recording) (b : Burdens) (number from : ℕ) (ps : List PartOf) → Cover t number from ps (length t.records)
+    → AreAccounts from (drop from t.records) (map (account_in b) ps)
+cover_accounts t b number from [] h = drop_all from t.records (let e : from ≡ length t.records = h in omega arith)
+cover_accounts t b number from (p ∷ ps) h =
+    let rs = drop from t.records in
+    let within = cover_le t (suc number) (from + p.count) (length t.records) ps h.3 in
+    let same : records_in p ≡ take p.count rs = ap (λ (u : Recording). take p.count (drop p.first u.records)) h.0 ∙ ap (λ n. take p.count (drop n t.records)) h.2 in
+    let long : length (take p.count rs) ≡ p.count = length-take-le p.count rs (omega (arith, length-drop from t.records)) in
+    let count : length (records_in p) ≡ p.count = ap length same ∙ long in
+    let next : from + p.count ≡ from + length (records_in p) = omega arith in (
+      ap (λ n. account_of b n (records_in p)) h.2 ∙ ap (account_of b from) (same ∙ ap (λ n. take n rs) (sym count)),
+      subst (λ l. AreAccounts (from + length (records_in p)) l (map (account_in b) ps)) (sym (drop-drop (length (records_in p)) from t.records))
+          (subst (λ n. AreAccounts n (drop n t.records) (map (account_in b) ps)) next (cover_accounts t b (suc number) (from + p.count) ps h.3)),
+    )
+
+-- the accounts of all parts are those of a trace that has figures
+pub are_of_parts : (t : Recording) (b : Burdens) (ps : List PartOf) (xs : List Account) (f : Figures) (es : List Event) → Cover t 0 0 ps (length t.records)
+    → xs ≡ map (account_in b) ps → AreFigures t.records b f → t.records ≡ records es → IsSmall es → AreOfParts es xs
+are_of_parts t b ps xs f es cover is figures events small = record {
+  well_formed = subst (λ rs. nesting.IsWellFormed rs) events figures.well_formed;
+  small = small;
+  are = subst (λ rs. AreAccounts 0 rs xs) events (subst (λ l. AreAccounts 0 t.records l) (sym is) (cover_accounts t b 0 0 ps cover));
+}
+
+-- each has the burdens
+pub accounts_burden : (b : Burdens) (ps : List PartOf) → All (λ (a : Account). a.burden ≡ b) (map (account_in b) ps)
+accounts_burden b ps = All-map (λ (a : Account). a.burden ≡ b) (account_in b) ps (λ k d lt. refl)
+
+-- where the first bad event is told
+pub told_bad : {X : Type 0} (rs : List Record) (fault : Fault) (x : Result X FiguresFault) → IsErrAnd x (λ e. e ≡ Bad fault) → nesting.IsFirstBad rs fault
+    → IfErr x (IsFaultOf rs)
+told_bad rs fault (Ok f) h bad = tt
+told_bad rs fault (Err e) h bad = subst (IsFaultOf rs) (sym h) bad

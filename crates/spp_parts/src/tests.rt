@@ -1,0 +1,254 @@
+//! Surveys, and the open frames where parts begin, which come of them.
+use crate::survey;
+use spp_cut::{Cut, cut_at, cut_even};
+use spp_dag::{EntryFrame, FrameKind};
+use spp_event::{Event, open_trace, record_of};
+use spp_frame::{Fault, Why};
+use spp_maxplus::{Burdens, State};
+use spp_piece::{Figures, FiguresFault};
+use spp_stack::{Entries, entries};
+use std::alloc::{AllocError, Global};
+use std::test::Fail;
+
+const SPAWN: Event = Event::Spawn { site: 0, func: 1 };
+
+const CALL: Event = Event::Call { site: 0, func: 1 };
+
+const RET: Event = Event::Ret;
+
+const SYNC: Event = Event::Sync;
+
+const ONE: Event = Event::Strand { count: 1 };
+
+/// Three nested calls, each with a strand of one instruction.
+const CALLS: [Event; 9] = [CALL, ONE, CALL, ONE, CALL, ONE, RET, RET, RET];
+
+/// A strand.
+fn s(count: u64) -> Event {
+    Event::Strand { count }
+}
+
+/// The bytes of a trace of these events, of the functions `main` and `f` and the site `A`.
+fn trace_of(alloc: Global, events: &[Event]) -> Result<Vec<u8>, AllocError> {
+    let count = u32::try_from(events.len()).unwrap_or(0);
+    let mut bytes = b"SPTRACE1\x00\x00\x00\x02\x00\x00\x00\x01\x00\x00\x00\x00".to_vec(alloc)?;
+    bytes.extend_from_slice(&count.to_be_bytes())?;
+    bytes.extend_from_slice(b"\x00\x04main\x00\x01f\x00\x01A")?;
+    for event in events {
+        bytes.extend_from_slice(&record_of(*event))?;
+    }
+    Ok(bytes)
+}
+
+/// A thousand nested calls, then a thousand strands of one instruction in the innermost frame, then all returns.
+fn thousand(alloc: Global) -> Result<Vec<Event>, AllocError> {
+    let mut events = Vec::new(alloc);
+    for event in [CALL, ONE, RET] {
+        for _ in 0..1000 {
+            events.push(event)?;
+        }
+    }
+    Ok(events)
+}
+
+/// What the figures of a cut trace are with a burden of 3; none where it has no part.
+fn figures_of(alloc: Global, cut: &Cut<'_, '_>) -> Option<Result<Figures, FiguresFault>> {
+    if cut.parts().is_empty() {
+        return None;
+    }
+    match survey(alloc, cut, Burdens::both(3)) {
+        Ok(found) => Some(Ok(found.whole)),
+        Err(fault) => Some(Err(fault)),
+    }
+}
+
+/// The open frames where the parts of a cut trace begin; none where it isn't well-formed or no memory was left.
+fn stacks_of(alloc: Global, cut: &Cut<'_, '_>) -> Option<Entries> {
+    let count = cut.parts().len();
+    if count == 0 || count > 65536 {
+        return None;
+    }
+    let found = survey(alloc, cut, Burdens::both(3)).ok()?;
+    entries(alloc, cut.trace().root(), &found.each).ok()
+}
+
+/// Up to ten frames where part `k` begins, the innermost first, with their number but the root and the work before.
+fn told_at(alloc: Global, stacks: &Entries, k: usize) -> Option<(Vec<EntryFrame>, u32, u128)> {
+    if k > stacks.parts() {
+        return None;
+    }
+    let entry = stacks.entry(k);
+    let (depth, work) = (entry.depth(), entry.work());
+    let mut frames = Vec::new(alloc);
+    let mut left = Some(entry);
+    for _ in 0..10 {
+        let Some(entry) = left else {
+            break;
+        };
+        frames.push(entry.innermost().frame).ok()?;
+        left = entry.below();
+    }
+    Some((frames, depth, work))
+}
+
+/// A state with this spine and no child.
+fn along(spine: u128) -> State {
+    State { spine, child: None }
+}
+
+fn root(state: State) -> EntryFrame {
+    EntryFrame {
+        kind: FrameKind::Root,
+        at: 0,
+        site: 0,
+        func: 0,
+        before: 0,
+        state,
+        top_site: true,
+        top_caller: true,
+    }
+}
+
+/// A frame of the site `A`.
+fn inner(
+    kind: FrameKind,
+    at: u32,
+    before: u128,
+    spine: u128,
+    top_site: bool,
+    top_caller: bool,
+) -> EntryFrame {
+    EntryFrame {
+        kind,
+        at,
+        site: 0,
+        func: 1,
+        before,
+        state: along(spine),
+        top_site,
+        top_caller,
+    }
+}
+
+/// Whether these are the frames, innermost first, where part `k` of the trace begins, of which so many aren't the root,
+/// and this the work before.
+fn begins_with(
+    alloc: Global,
+    stacks: &Entries,
+    k: usize,
+    frames: &[EntryFrame],
+    depth: u32,
+    work: u128,
+) -> bool {
+    match told_at(alloc, stacks, k) {
+        None => false,
+        Some(told) => told.0.as_slice() == frames && told.1 == depth && told.2 == work,
+    }
+}
+
+#[test]
+fn marks_are_judged_on_the_whole_trace(rt: HostRuntime) -> Result<(), Fail> {
+    let alloc = rt.alloc();
+    let bytes = trace_of(alloc, &CALLS)?;
+    let trace = open_trace(alloc, &bytes)?;
+    let cut = cut_at(alloc, &trace, &[1, 2, 3, 4, 5, 6, 7, 8])?;
+    let Some(stacks) = stacks_of(alloc, &cut) else {
+        return Err(AllocError.into());
+    };
+    let frames = [
+        inner(FrameKind::Called, 4, 2, 0, false, false),
+        inner(FrameKind::Called, 2, 1, 1, false, true),
+        inner(FrameKind::Called, 0, 0, 1, true, true),
+        root(along(0)),
+    ];
+    assert!(rt; begins_with(alloc, &stacks, 5, &frames, 3, 2));
+    Ok(())
+}
+
+#[test]
+fn a_frame_lives_on_in_later_parts(rt: HostRuntime) -> Result<(), Fail> {
+    let alloc = rt.alloc();
+    let bytes = trace_of(alloc, &[s(1), SPAWN, s(10), RET, s(4), SYNC, s(2)])?;
+    let trace = open_trace(alloc, &bytes)?;
+    let cut = cut_at(alloc, &trace, &[2, 4, 6])?;
+    let Some(stacks) = stacks_of(alloc, &cut) else {
+        return Err(AllocError.into());
+    };
+    let waiting = State {
+        spine: 1,
+        child: Some((11, 1)),
+    };
+    assert!(rt; begins_with(alloc, &stacks, 0, &[root(along(0))], 0, 0));
+    let child = inner(FrameKind::Spawned, 1, 1, 0, true, true);
+    assert!(rt; begins_with(alloc, &stacks, 1, &[child, root(along(1))], 1, 1));
+    assert!(rt; begins_with(alloc, &stacks, 2, &[root(waiting)], 0, 11));
+    assert!(rt; begins_with(alloc, &stacks, 3, &[root(along(11))], 0, 15));
+    assert!(rt; begins_with(alloc, &stacks, 4, &[root(along(13))], 0, 17));
+    Ok(())
+}
+
+#[test]
+fn stacks_share_their_frames(rt: HostRuntime) -> Result<(), Fail> {
+    let alloc = rt.alloc();
+    let bytes = trace_of(alloc, &thousand(alloc)?)?;
+    let trace = open_trace(alloc, &bytes)?;
+    let cut = cut_even(alloc, &trace, 3000)?;
+    let Some(stacks) = stacks_of(alloc, &cut) else {
+        return Err(AllocError.into());
+    };
+    assert!(rt; stacks.nodes().len() <= 4001);
+    let Some((frames, depth, work)) = told_at(alloc, &stacks, 1500) else {
+        return Err(AllocError.into());
+    };
+    let top = inner(FrameKind::Called, 999, 0, 500, false, false);
+    assert_eq!(rt; frames.first(), Some(&top));
+    assert_eq!(rt; depth, 1000);
+    assert_eq!(rt; work, 500);
+    Ok(())
+}
+
+/// What a run of these events comes to, in parts of one event.
+fn comes_to(
+    alloc: Global,
+    events: &[Event],
+    end: Result<Figures, FiguresFault>,
+) -> Result<bool, AllocError> {
+    let bytes = trace_of(alloc, events)?;
+    let Ok(trace) = open_trace(alloc, &bytes) else {
+        return Ok(false);
+    };
+    let parts = trace.count().clamp(1, 65536);
+    let cut = cut_even(alloc, &trace, parts)?;
+    Ok(figures_of(alloc, &cut) == Some(end))
+}
+
+fn figures(work: u128, span: u128, burdened: u128) -> Result<Figures, FiguresFault> {
+    Ok(Figures {
+        work,
+        span,
+        burdened,
+    })
+}
+
+fn fault(at: u32, why: Why) -> Result<Figures, FiguresFault> {
+    Err(FiguresFault::Bad(Fault { at, why }))
+}
+
+#[test]
+fn all_parts_come_to_the_figures(rt: HostRuntime) -> Result<(), Fail> {
+    let alloc = rt.alloc();
+    assert!(rt; comes_to(alloc, &[], figures(0, 0, 0))?);
+    assert!(rt; comes_to(alloc, &CALLS, figures(3, 3, 3))?);
+    let row = [s(1), SPAWN, s(10), RET, s(4), SYNC, s(2)];
+    assert!(rt; comes_to(alloc, &row, figures(17, 13, 16))?);
+    assert!(rt; comes_to(alloc, &thousand(alloc)?, figures(1000, 1000, 1000))?);
+    Ok(())
+}
+
+#[test]
+fn of_all_parts_the_first_bad_event_is_told(rt: HostRuntime) -> Result<(), Fail> {
+    let alloc = rt.alloc();
+    assert!(rt; comes_to(alloc, &[s(1), RET, s(2)], fault(1, Why::RootReturn))?);
+    assert!(rt; comes_to(alloc, &[CALL, s(1)], fault(2, Why::Unclosed { depth: 1 }))?);
+    Ok(())
+}
