@@ -11,3 +11,4 @@ pub mod Refused
 pub mod Answered
 pub mod Unique
 pub mod HeaderLaws
+mod Known
