@@ -11,4 +11,5 @@ pub mod Refused
 pub mod Answered
 pub mod Unique
 pub mod HeaderLaws
-mod Known
+pub mod Known
+mod Said

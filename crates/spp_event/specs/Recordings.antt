@@ -1,11 +1,11 @@
 -- What contracts see of an opened trace: its names, its root function and its records. How the records
 -- lie in the bytes is not part of it.
-use Rattle.std.specs.Prelude.{ℕ, ◌*◌, ◌<◌, ◌≤◌, ◌^◌, List, length, map, take, drop, slice_index_or, Result, Err}
+use Rattle.std.specs.Prelude.{ℕ, ◌*◌, ◌<◌, ◌≤◌, ◌^◌, List, length, map, take, drop, slice_index_or, Result, Err, IfOk}
 use Rattle.std.specs.List.{range_with_len}
 use Rattle.spp_event.specs.declared.records.Event.{Event}
 use Rattle.spp_event.specs.declared.records.EventFault.{EventFault}
 use Rattle.spp_event.specs.declared.records.EventFault.TheVariants.{Truncated}
-use Rattle.spp_event.specs.Records.{read_record}
+use Rattle.spp_event.specs.Records.{read_record, IsEventOf}
 
 -- an event, or the first fault of a record that spells none
 abbrev pub Record : Type 0
@@ -36,3 +36,7 @@ pub record InLimits (t : Recording) : Type 0 where
   pub sites : length t.sites ≤ 65536
   pub root : t.root < length t.funcs
   pub events : length t.records ≤ 2 ^ 28
+
+-- each record that isn't bad is an event of so many sites and functions
+abbrev pub AreEventsOf : ℕ → ℕ → List (Result Event EventFault) → Type 0
+AreEventsOf sites funcs records = (i : ℕ) → i < length records → IfOk (record_at records i) (IsEventOf sites funcs)

@@ -1,10 +1,10 @@
 //! An opened trace.
 
-ghost use Rattle.std.specs.Prelude.{◌≡◌, ◌+◌, ◌*◌, ◌<◌, length, slice_index_or, [], None, IfOk, IfSome, IsOk, Ok, Err};
+ghost use Rattle.std.specs.Prelude.{◌≡◌, ◌+◌, ◌*◌, ◌<◌, ℕ, length, slice_index, slice_index_or, [], None, IfOk, IfSome, IsOk, Ok, Err};
 ghost use Rattle.spp_event.specs.declared.records.EventFault.TheVariants.{Truncated};
 ghost use Rattle.spp_event.specs.Records.{IsEventOf};
 ghost use Rattle.spp_event.specs.Header.{HasGoodNames};
-ghost use Rattle.spp_event.specs.Recordings.{InLimits, record_at, place};
+ghost use Rattle.spp_event.specs.Recordings.{InLimits, AreEventsOf, record_at, place};
 
 use crate::records::{Event, EventFault, event_of, event_said};
 use std::marker::Model;
@@ -55,14 +55,21 @@ impl<'a> Model for Trace<'a> {
         IsSound (map (λ s. s.now) t.funcs.items) (map (λ s. s.now) t.sites.items) t.root t.count };
 }
 
+/// Bytes are numbers of 8 bits. Its contract is what it is for.
+fn are_bytes(bytes: &[u8])
+    ensures { (i : ℕ) → slice_index bytes.now i < 256 }
+{}
+
 impl<'a> Trace<'a> {
     /// How many events the trace has, bad ones among them: at most 2^28. Its clauses also give out what every opened
-    /// trace keeps: its limits, and that its names are good.
+    /// trace keeps: its limits, that its names are good, and that its events are of its sites and functions.
     pub fn count(&self) -> u32
         ensures count { result ≡ length self.now.records }
         ensures limits { InLimits self.now }
         ensures names { HasGoodNames self.now }
+        ensures events { AreEventsOf (length self.now.sites) (length self.now.funcs) self.now.records }
     {
+        are_bytes(self.body);
         self.count
     }
 

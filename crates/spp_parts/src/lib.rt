@@ -2,7 +2,6 @@
 #![tactic(auto)]
 
 mod found;
-mod strands;
 mod surveying;
 
 pub use found::Survey;

@@ -3,10 +3,10 @@ use Rattle.std.specs.List.{All}
 use Rattle.std.proofs.lemmas.List.{length-map}
 use Rattle.spp_event.specs.Recordings.{Recording}
 use Rattle.spp_cut.specs.Parts.{Cover}
-use Rattle.spp_dag.specs.Trace.{records}
 use Rattle.spp_piece.specs.Account.{Account}
 use Rattle.spp_piece.proofs.InParts.{Summed, summed_next, summed_all, told_ok, told_err, work_told}
 use Rattle.spp_parts.proofs.Accounts.{account_in, rest_of, accounts_more, accounts_all, are_of_parts, accounts_burden, told_bad}
+use Rattle.spp_parts.proofs.Known.{known_small}
 use Rattle.spp_parts.proofs.surveying.survey.Goals as goal
 
 pub join-requires-clause-neighbours : goal.join-requires-clause-neighbours
@@ -73,6 +73,8 @@ returns-clause-parts c es are =
     let some = subst (λ l. 0 < length l) (sym c.parts-parts.ensures.parts) c.requires in
     let told = subst (λ l. c.loop-part.each.items ≡ map (account_in c.args.burdens) (take (c.loop-part.part-index + 1) l)) (sym c.parts-parts.ensures.parts) c.loop-part.invariant.each in
     let is = accounts_all c.args.burdens ps c.loop-part.part-index c.loop-part.each.items some (omega (arith, c.loop-part-test.false)) told in
-    let small = c.strands_fit.ensures es (subst (λ (u : Recording). u.records ≡ records es) (sym c.trace.ensures) are) in
+    let u = c.trace.result.now in
+    let same : u.records ≡ t.records = ap (λ (v : Recording). v.records) c.trace.ensures in
+    let small = known_small u.records (length u.sites) (length u.funcs) es c.count-count.ensures.limits.events (same ∙ are) c.count-count.ensures.events in
     let cover = subst (λ l. Cover t 0 0 l (length t.records)) (sym c.parts-parts.ensures.parts) c.parts-parts.ensures.cut in
     are_of_parts t c.args.burdens ps c.loop-part.each.items c.in_ok-finish.field-0 es cover is figures are small
