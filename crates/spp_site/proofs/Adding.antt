@@ -1,5 +1,5 @@
 -- A row is added: to the row that its site has, or as a new one.
-use Rattle.std.proofs.Common.{◌≡◌, ℕ, ◌<◌, sym, ◌∙◌, ap, subst, List, [], ◌∷◌, ◌++◌, length, get_or, set, nat_eq}
+use Rattle.std.proofs.Common.{◌≡◌, ℕ, ◌+◌, ◌<◌, sym, ◌∙◌, ap, subst, List, [], ◌∷◌, ◌++◌, length, get_or, set, nat_eq}
 use Rattle.std.proofs.lemmas.List.{get_or_default}
 use Rattle.spp_dag.specs.declared.row.Row.{Row}
 use Rattle.spp_dag.specs.Shares.{zero_row, plus}
@@ -39,7 +39,7 @@ pushed root rows longer site row e =
     stored_added root rows longer site row (λ s. ap (λ r. row_in r s) e ∙ row_in-push rows (record { site = site; row = row }) s)
 
 pub placed : (index : List ℕ) (rows longer : List SiteRow) (site place : ℕ) (row : Row) → IsIndexed index rows → site < length index → HasNoRow rows site
-    → place ≡ length rows → longer ≡ rows ++ record { site = site; row = row } ∷ [] → IsIndexed (set index site place) longer
+    → place ≡ length rows + 1 → longer ≡ rows ++ record { site = site; row = row } ∷ [] → IsIndexed (set index site place) longer
 placed index rows longer site place row h within free last e =
     subst (λ i. IsIndexed i longer) (ap (set index site) (sym last))
-    (subst (λ r. IsIndexed (set index site (length rows)) r) (sym e) (pushed_indexed index rows h site row within free))
+    (subst (λ r. IsIndexed (set index site (length rows + 1)) r) (sym e) (pushed_indexed index rows h site row within free))

@@ -1,28 +1,37 @@
--- The index: it has the place of each row, so each site has one row at most, and there are no more rows than site numbers.
-use Rattle.std.proofs.Common.{◌≡◌, ℕ, suc, ◌+◌, ◌≤◌, ◌<◌, ◌^◌, arith, sym, ◌∙◌, ap, subst, inl, inr, List, [], ◌∷◌, ◌++◌, length, get_or, set, replicate, nat_eq, length-append}
-use Rattle.std.proofs.lemmas.Bool.{cases_lt, cases_eq, eq-eqb}
-use Rattle.std.proofs.lemmas.List.{get_or-set_same, get_or-set_other, get_or_append_left, length-set}
-use Rattle.std.proofs.lemmas.List.Folds.{list_any_at}
-use Rattle.std.proofs.lemmas.Map.Steps.{le-length_from_below}
-use Rattle.std.proofs.Math.Seq.{get_or-append_seam}
+-- The index: it has the place of each row, so each site has one row at most.
+use Rattle.std.proofs.Common.{◌≡◌, ℕ, zero, suc, ◌+◌, ◌-◌, ◌≤◌, ◌<◌, ◌^◌, arith, refl, sym, ◌∙◌, ap, subst, inl, inr, List, [], ◌∷◌, ◌++◌, length, get_or, set, replicate, length-append}
+use Rattle.std.proofs.lemmas.Bool.{cases_lt, cases_eq}
+use Rattle.std.proofs.lemmas.List.{get_or-set_same, get_or-set_other, get_or_append_left, get_or_past, length-set}
+use Rattle.std.proofs.Math.Seq.{get_or-append_seam, get_or-append_right}
 use Rattle.spp_dag.specs.declared.row.Row.{Row}
 use Rattle.spp_site.specs.declared.table.SiteRow.{SiteRow}
 use Rattle.spp_site.specs.Slots.{blank, HasNoRow, IsPlaceOf, IsIndexed}
 
 -- a site has one place at most
 pub one_place : (index : List ℕ) (rows : List SiteRow) → IsIndexed index rows → (s j k : ℕ) → IsPlaceOf rows s j → IsPlaceOf rows s k → j ≡ k
-one_place index rows h s j k a b = sym (h.placed j a.0) ∙ (ap (λ s. get_or index s 0) (a.1 ∙ sym b.1) ∙ h.placed k b.0)
+one_place index rows h s j k a b =
+    let z : j + 1 ≡ k + 1 = sym (h.placed j a.0) ∙ (ap (λ s. get_or index s 0) (a.1 ∙ sym b.1) ∙ h.placed k b.0) in
+    omega arith
 
--- there are no more rows than the index is long
-pub rows_fit : (index : List ℕ) (rows : List SiteRow) → IsIndexed index rows → length rows ≤ length index
-rows_fit index rows h =
-    le-length_from_below index (length rows)
-    (λ q l. list_any_at (nat_eq q) index (get_or rows q blank).site 0 (h.inside q l) (eq-eqb q (get_or index (get_or rows q blank).site 0) (sym (h.placed q l))))
+-- zeros behind an index change nothing that it says
+zeros : (n i : ℕ) → get_or {A = ℕ} (replicate n 0) i 0 ≡ 0
+zeros zero i = refl
+zeros (suc n) zero = refl
+zeros (suc n) (suc i) = zeros n i
+
+longer_says : (index : List ℕ) (n site : ℕ) → get_or (index ++ replicate n 0) site 0 ≡ get_or index site 0
+longer_says index n site = elim (cases_lt site (length index)) [
+  | inl l ↦ get_or_append_left index (replicate n 0) 0 site l
+  | inr l ↦ get_or-append_right index (replicate n 0) site 0 l ∙ zeros n (site - length index) ∙ sym (get_or_past index site 0 l)
+]
 
 -- a longer index serves
 pub grown_indexed : (index grown : List ℕ) (rows : List SiteRow) (n : ℕ) → IsIndexed index rows → grown ≡ index ++ replicate n 0 → length grown ≤ 2 ^ 32 → IsIndexed grown rows
 grown_indexed index grown rows n h e small = record {
   placed = λ k l. ap (λ i. get_or i (get_or rows k blank).site 0) e ∙ (get_or_append_left index (replicate n 0) 0 (get_or rows k blank).site (h.inside k l) ∙ h.placed k l);
+  exact = λ s more.
+      let same : get_or grown s 0 ≡ get_or index s 0 = ap (λ i. get_or i s 0) e ∙ longer_says index n s in
+      subst (λ p. IsPlaceOf rows s (p - 1)) (sym same) (h.exact s (omega arith));
   inside = λ k l.
       let a : (get_or rows k blank).site < length index = h.inside k l in
       let b : length grown ≡ length index + length (replicate {A = ℕ} n 0) = ap length e ∙ length-append index (replicate n 0) in
@@ -37,6 +46,7 @@ set_indexed index rows h site k row at =
     let n : length (set rows k (record { site = site; row = row })) ≡ length rows = length-set rows k (record { site = site; row = row }) in
     record {
       placed = λ j l. ap (λ s. get_or index s 0) (same_site j) ∙ h.placed j (omega (arith, n));
+      exact = λ s more. let p = h.exact s more in (omega (arith, n), same_site (get_or index s 0 - 1) ∙ p.1);
       inside = λ j l. subst (λ s. s < length index) (sym (same_site j)) (h.inside j (omega (arith, n)));
       small = h.small;
     }
@@ -64,29 +74,31 @@ module _ (index : List ℕ) (rows : List SiteRow) (h : IsIndexed index rows) (si
   new_site : (k : ℕ) → k ≡ length rows → (get_or longer k blank).site ≡ site
   new_site k e = ap (λ k. (get_or longer k blank).site) e ∙ ap (λ r. r.site) (get_or-append_seam rows (record { site = site; row = row }) [] blank)
 
-  pub pushed_indexed : IsIndexed (set index site (length rows)) longer
+  pub pushed_indexed : IsIndexed (set index site (length rows + 1)) longer
   pushed_indexed =
-      let n : length (set index site (length rows)) ≡ length index = length-set index site (length rows) in
+      let n : length (set index site (length rows + 1)) ≡ length index = length-set index site (length rows + 1) in
       record {
         placed = λ k l. elim (cases_lt k (length rows)) [
           | inl a ↦
-              ap (λ s. get_or (set index site (length rows)) s 0) (old_site k a)
-              ∙ (get_or-set_other index site (get_or rows k blank).site (length rows) 0 (free k a) ∙ h.placed k a)
+              ap (λ s. get_or (set index site (length rows + 1)) s 0) (old_site k a)
+              ∙ (get_or-set_other index site (get_or rows k blank).site (length rows + 1) 0 (free k a) ∙ h.placed k a)
           | inr a ↦
               let e : k ≡ length rows = omega (arith, new_length) in
-              ap (λ s. get_or (set index site (length rows)) s 0) (new_site k e) ∙ (get_or-set_same index site (length rows) 0 within ∙ sym e)
+              ap (λ s. get_or (set index site (length rows + 1)) s 0) (new_site k e) ∙ (get_or-set_same index site (length rows + 1) 0 within ∙ ap (λ n. n + 1) (sym e))
+        ];
+        exact = λ s more. elim (cases_eq s site) [
+          | inl e ↦
+              let now : get_or (set index site (length rows + 1)) s 0 ≡ length rows + 1 = ap (λ j. get_or (set index site (length rows + 1)) j 0) e ∙ get_or-set_same index site (length rows + 1) 0 within in
+              let last : get_or (set index site (length rows + 1)) s 0 - 1 ≡ length rows = omega arith in
+              subst (IsPlaceOf longer s) (sym last) (omega (arith, new_length), new_site (length rows) refl ∙ sym e)
+          | inr d ↦
+              let now : get_or (set index site (length rows + 1)) s 0 ≡ get_or index s 0 = get_or-set_other index site s (length rows + 1) 0 d in
+              let p = h.exact s (omega arith) in
+              subst (λ n. IsPlaceOf longer s (n - 1)) (sym now) (omega (arith, new_length), old_site (get_or index s 0 - 1) p.0 ∙ p.1)
         ];
         inside = λ k l. elim (cases_lt k (length rows)) [
-          | inl a ↦ subst (λ s. s < length (set index site (length rows))) (sym (old_site k a)) (let i = h.inside k a in omega arith)
-          | inr a ↦ subst (λ s. s < length (set index site (length rows))) (sym (new_site k (omega (arith, new_length)))) (omega arith)
+          | inl a ↦ subst (λ s. s < length (set index site (length rows + 1))) (sym (old_site k a)) (let i = h.inside k a in omega arith)
+          | inr a ↦ subst (λ s. s < length (set index site (length rows + 1))) (sym (new_site k (omega (arith, new_length)))) (omega arith)
         ];
         small = let i = h.small in omega arith;
       }
-
-  -- so the place of the new row is below the number of sites
-  pub place_fits : length rows < 2 ^ 32
-  place_fits =
-      let n : length (set index site (length rows)) ≡ length index = length-set index site (length rows) in
-      let all = rows_fit (set index site (length rows)) longer pushed_indexed in
-      let i = h.small in
-      omega (arith, new_length)

@@ -77,8 +77,8 @@ impl Marks {
     pub fn remove_if(&mut self, out: bool, x: u32)
         ensures { (y : ℕ) → is_marked self.new y ≡ without out x (is_marked self.old) y }
     {
-        if out {
-            self.remove(x);
+        if let Some(bit) = self.bits.get_mut(x as usize) {
+            *bit = *bit && !out;
         }
     }
 }

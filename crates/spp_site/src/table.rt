@@ -1,6 +1,7 @@
 //! A table, stored as the rows in the order in which their sites came, with an index from sites to places.
 
-ghost use Rattle.std.specs.Prelude.{◌≡◌, ℕ, ◌≤◌, ◌<◌, ◌^◌, ◌++◌, length, replicate, MatchOption, OnOk, OnErr, IfOk};
+ghost use Rattle.std.specs.Prelude.{◌≡◌, ℕ, ◌≤◌, ◌<◌, ◌^◌, ◌++◌, List, length, replicate, MatchOption, OnOk, OnErr, IfOk};
+ghost use Rattle.spp_site.specs.declared.table.SiteRow.{SiteRow as RowOfSite};
 ghost use Rattle.spp_dag.specs.Shares.{plus};
 ghost use Rattle.spp_site.specs.Rows.{Fits, frame_row};
 ghost use Rattle.spp_site.specs.Slots.{HasNoRow, IsPlaceOf, IsIndexed};
@@ -27,8 +28,8 @@ struct SiteRow {
 #[derive(Drop)]
 pub struct Table {
     root: Row,
-    /// The place of each site's row. Where a site has no row this is any number: the row that stands there, if one does,
-    /// is another site's.
+    /// The place of each site's row, counted from 1; 0 where a site has no row. So a row is found without a look at it:
+    /// a table of many sites doesn't fit into the processor's caches.
     index: Vec<u32>,
     rows: Vec<SiteRow>,
 }
@@ -78,7 +79,7 @@ impl Table {
     pub fn row(&self, site: u32) -> Row
         ensures { result ≡ row_at self.now site }
     {
-        match place_of(&self.index, &self.rows, site) {
+        match place_of(&self.index, site) {
             Some(place) => self.rows[place].row,
             None => Row::default(),
         }
@@ -99,12 +100,15 @@ impl Table {
         ensures stays { OnErr result (self.new ≡ self.old) }
         ensures no_zero_row { HasNoZeroRow self.new }
     {
-        if let Some(place) = place_of(&self.index, &self.rows, site) {
+        if let Some(place) = place_of(&self.index, site) {
             add_to(&mut self.rows[place].row, row);
             return Ok(());
         }
         reach(&mut self.index, site)?;
-        let place = self.rows.len() as u32;
+        let Ok(place) = u32::try_from(self.rows.len() + 1) else {
+            // As many rows as site numbers: more than half a terabyte.
+            return Err(AllocError);
+        };
         self.rows.push(SiteRow { site, row: *row })?;
         self.index[site as usize] = place;
         Ok(())
@@ -123,7 +127,7 @@ impl Table {
         ensures stays { OnErr result (self.new ≡ self.old) }
         ensures no_zero_row { HasNoZeroRow self.new }
     {
-        if let Some(place) = place_of(&self.index, &self.rows, site) {
+        if let Some(place) = place_of(&self.index, site) {
             frame.add_to(&mut self.rows[place].row);
             return Ok(());
         }
@@ -171,18 +175,12 @@ impl Table {
 
 /// The place of a site's row, or none where the site has no row.
 #[inline(always)]
-fn place_of(index: &[u32], rows: &[SiteRow], site: u32) -> Option<usize>
-    requires { IsIndexed index.now rows.now }
-    ensures { MatchOption result (HasNoRow rows.now site) (IsPlaceOf rows.now site) }
+fn place_of(index: &[u32], site: u32) -> Option<usize>
+    ensures { (rows : List RowOfSite) → IsIndexed index.now rows → MatchOption result (HasNoRow rows site) (IsPlaceOf rows site) }
 {
-    if site as usize >= index.len() {
-        return None;
-    }
-    let place = index[site as usize] as usize;
-    if place < rows.len() && rows[place].site == site {
-        Some(place)
-    } else {
-        None
+    match index.get(site as usize) {
+        None | Some(0) => None,
+        Some(place) => Some(*place as usize - 1),
     }
 }
 
