@@ -7,3 +7,4 @@ pub mod Running
 pub mod Places
 pub mod Summed
 pub mod Summing
+pub mod Tops

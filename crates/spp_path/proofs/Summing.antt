@@ -42,7 +42,7 @@ use Rattle.spp_path.specs.declared.rows.EnteredFrame.{EnteredFrame}
 use Rattle.spp_path.specs.declared.rows.PathRows.{PathRows}
 use Rattle.spp_path.specs.Entered.{AreEntered}
 use Rattle.spp_path.specs.Tables.{key_row, IsPathTable}
-use Rattle.spp_path.specs.Rows.{Told, told, entered_row, start_told, runs, enter_told, wait_told, CanAdd, CanSkip, CanReturn, CanFinish, IsRead, passed_told, CanPass}
+use Rattle.spp_path.specs.Rows.{Told, told, entered_row, start_told, runs_in, leave_told, OnTop, IsOpen, CanAdd, CanSkip, CanReturn, CanFinish, IsReturned, IsRead, passed_told, CanPass}
 use Rattle.spp_path.proofs.PathSpans.{passed, entered_span}
 use Rattle.spp_path.proofs.RowSums.{full_row, none_owed, closed_owed, Low, low_zero, low_plus, low_closed, low_fits}
 use Rattle.spp_path.proofs.Running.{running_first, marked}
@@ -165,6 +165,15 @@ module _ (es : List Event) (wf : IsWellFormed es) (root : ℕ) (span : ℕ → �
       by : (outs : List EntryFrame) (ks : List PathFrame) → AtPlace i outs ks t.open_sites t.open_funcs t.work t.weight t.table
           → CanSkip (tells outs ks t.open_sites t.open_funcs t.work t.weight t.table)
       by outs ks h = let l = h.place.level in omega arith
+
+  -- some entered frame is open
+  pub has_first : (i : ℕ) (t : Told) → SummedTo i t → (f : EnteredFrame) × HasFirst f t
+  has_first i t s = by s.outs s.ks s.is s.at
+    where
+      by : (outs : List EntryFrame) (ks : List PathFrame) → t ≡ tells outs ks t.open_sites t.open_funcs t.work t.weight t.table
+          → AtPlace i outs ks t.open_sites t.open_funcs t.work t.weight t.table → (f : EnteredFrame) × HasFirst f t
+      by outs [] e h = absurd h.place.open_frames
+      by outs (k ∷ ks) e h = (shows k, (map shows ks, ap (λ x. x.frames) e))
 
   -- a return never meets the root alone
   not_alone : (i : ℕ) (f : EntryFrame) (w : ℕ) → event_at es i ≡ Some Ret → i < length es → IsEntry es root i (f ∷ []) w → ⊥
@@ -426,10 +435,6 @@ pub is_read : (trace : Recording) (i : ℕ) (r : Record) (e : Event) → r ≡ r
     → IfOk r (λ (x : Event). IsEventOf (length trace.sites) (length trace.funcs) x) → r ≡ Ok e → IsRead trace i e
 is_read trace i r e said within is = (sym said ∙ is, subst (λ (x : Record). IfOk x (λ (y : Event). IsEventOf (length trace.sites) (length trace.funcs) y)) is within)
 
--- the pass has its innermost frame first
-abbrev pub top_in : (s : PathRows) → (fs : List EnteredFrame) × ((told s).frames ≡ s.top ∷ fs)
-top_in s = (reverse s.below.items, refl)
-
 -- each event has its mark
 pub marks_len : (trace : Recording) → nesting.IsWellFormed trace.records → (marks : List Bool) → ((es : List Event) → AreEvents trace.records es → AreEntered es marks) → length marks ≡ length trace.records
 marks_len trace wf marks are =
@@ -450,12 +455,28 @@ module _ (trace : Recording) (wf : nesting.IsWellFormed trace.records) (short : 
       let g = given trace wf in
       can_skip g.es g.wf trace.root g.span g.spans g.rest g.path i (omega arith) (told s) (at g.es g.are g.wf g.span g.spans g.rest g.path)
 
-  pub ready_return : i < length trace.records → IsRead trace i Ret → s.skipped ≡ 0 → CanReturn s.top (told s)
+  -- the innermost entered frame
+  first_in : (f : EnteredFrame) × HasFirst f (told s)
+  first_in =
+      let g = given trace wf in
+      has_first g.es g.wf trace.root g.span g.spans g.rest g.path i (told s) (at g.es g.are g.wf g.span g.spans g.rest g.path)
+
+  on_top : (P : EnteredFrame → Type 0) → P first_in.0 → OnTop P (told s).frames
+  on_top P h = subst (OnTop P) (sym first_in.1.1) h
+
+  from_top : (P : EnteredFrame → Type 0) → OnTop P (told s).frames → P first_in.0
+  from_top P h = subst (OnTop P) first_in.1.1 h
+
+  pub ready_open : IsOpen (told s)
+  ready_open = on_top (λ f. Unit {0}) tt
+
+  pub ready_return : i < length trace.records → IsRead trace i Ret → s.skipped ≡ 0 → OnTop (λ f. CanReturn f (told s)) (told s).frames
   ready_return l r z =
       let g = given trace wf in
       let n = events_len g.es g.are in
-      can_return g.es g.wf trace.root g.span g.spans g.rest g.path i (event_is trace.records g.es i Ret g.are l r.0) (omega arith) (omega arith) s.top (told s) (top_in s)
-      (at g.es g.are g.wf g.span g.spans g.rest g.path) z
+      on_top (λ f. CanReturn f (told s))
+      (can_return g.es g.wf trace.root g.span g.spans g.rest g.path i (event_is trace.records g.es i Ret g.are l r.0) (omega arith) (omega arith) first_in.0 (told s) first_in.1
+      (at g.es g.are g.wf g.span g.spans g.rest g.path) z)
 
   next_to : (new : PathRows) → ((es : List Event) → AreEvents trace.records es → (wf : IsWellFormed es) (span : ℕ → ℕ) (spans : AreSpans es span) (rest : List ℕ) (path : IsPath es unburdened 0 (length es) rest) → Summed es wf trace.root span spans rest path (suc i) (told new))
       → SummedIn trace (i + 1) (told new)
@@ -486,12 +507,13 @@ module _ (trace : Recording) (wf : nesting.IsWellFormed trace.records) (short : 
       spawn_next es wf trace.root span spans rest path i (slice_index_or marks i false) site func is
       (marked es wf rest path marks (are_marks es are) i (omega arith) (ap spawns is)) (told s) (told new) (at es are wf span spans rest path) d)
 
-  pub next_return : (new : PathRows) → i < length trace.records → IsRead trace i Ret → ReturnDone s.top (told s) (told new) → Kept trace (i + 1) new
+  pub next_return : (new : PathRows) → i < length trace.records → IsRead trace i Ret
+      → (s.skipped ≡ 0 → OnTop (λ f. IsReturned f (told s) (told new)) (told s).frames) × (0 < s.skipped → told new ≡ leave_told (told s)) → Kept trace (i + 1) new
   next_return new l r d =
       let can = ready_return l r in
       next_to new (λ es are wf span spans rest path.
-      return_next es wf trace.root span spans rest path i (event_is trace.records es i Ret are l r.0) (omega arith) s.top (told s) (told new) (top_in s) (at es are wf span spans rest path)
-      (λ z. (can z).deep) d)
+      return_next es wf trace.root span spans rest path i (event_is trace.records es i Ret are l r.0) (omega arith) first_in.0 (told s) (told new) first_in.1 (at es are wf span spans rest path)
+      (λ z. (from_top (λ f. CanReturn f (told s)) (can z)).deep) (λ z. from_top (λ f. IsReturned f (told s) (told new)) (d.0 z), d.1))
 
   -- within a frame that the path doesn't enter
   pub ready_pass : (e : Event) → i < length trace.records → IsRead trace i e → CanPass e (told s)
@@ -508,22 +530,23 @@ module _ (trace : Recording) (wf : nesting.IsWellFormed trace.records) (short : 
 
   pub next_pass : (marks : List Bool) → ((es : List Event) → AreEvents trace.records es → AreEntered es marks) → (e : Event) (new : PathRows) → i < length trace.records → IsRead trace i e
       → 0 < s.skipped → told new ≡ passed_told e (told s) → Kept trace (i + 1) new
-  next_pass marks are (Strand n) new l r more h = next_strand n new l r (λ runs. absurd (skips s.top.running more runs), λ _. h)
-  next_pass marks are (Call site func) new l r more h = next_call site func new l r (λ runs. absurd (skips s.top.running more runs), λ _. h)
+  next_pass marks are (Strand n) new l r more h = next_strand n new l r (λ runs. absurd (skips (runs_in (told s).frames) more runs), λ _. h)
+  next_pass marks are (Call site func) new l r more h = next_call site func new l r (λ runs. absurd (skips (runs_in (told s).frames) more runs), λ _. h)
   next_pass marks are (Spawn site func) new l r more h =
       next_spawn marks are site func new l r (λ enters. absurd (skips (slice_index_or marks i false) more enters), λ _. h)
   next_pass marks are Ret new l r more h = next_return new l r (λ none. absurd (omega arith), λ _. h)
   next_pass marks are Sync new l r more h = next_sync new l r (λ none. absurd (omega arith), λ _. h)
 
-  pub ready_finish : i ≡ length trace.records → CanFinish s.top (told s)
+  pub ready_finish : i ≡ length trace.records → OnTop (λ f. CanFinish f (told s)) (told s).frames
   ready_finish last =
       let g = given trace wf in
       let n = events_len g.es g.are in
-      can_finish g.es g.wf trace.root g.span g.spans g.rest g.path (omega arith) s.top (told s) (top_in s)
-      (subst (λ k. Summed g.es g.wf trace.root g.span g.spans g.rest g.path k (told s)) (last ∙ n) (at g.es g.are g.wf g.span g.spans g.rest g.path))
+      on_top (λ f. CanFinish f (told s))
+      (can_finish g.es g.wf trace.root g.span g.spans g.rest g.path (omega arith) first_in.0 (told s) first_in.1
+      (subst (λ k. Summed g.es g.wf trace.root g.span g.spans g.rest g.path k (told s)) (last ∙ n) (at g.es g.are g.wf g.span g.spans g.rest g.path)))
 
-  pub finished_in : i ≡ length trace.records → IsPathTable trace (record s.table { root = plus s.table.root (entered_row s.top s.work s.weight) })
-  finished_in last =
+  finished_first : i ≡ length trace.records → IsPathTable trace (record s.table { root = plus s.table.root (entered_row first_in.0 s.work s.weight) })
+  finished_first last =
       let g = given trace wf in
       let n = events_len g.es g.are in (
         wf,
@@ -536,9 +559,14 @@ module _ (trace : Recording) (wf : nesting.IsWellFormed trace.records) (short : 
             (
               g.rest,
               g.path,
-              finished g.es g.wf trace.root g.span g.spans g.rest g.path s.top (told s) (top_in s)
+              finished g.es g.wf trace.root g.span g.spans g.rest g.path first_in.0 (told s) first_in.1
                   (subst (λ k. Summed g.es g.wf trace.root g.span g.spans g.rest g.path k (told s)) (last ∙ n) (at g.es g.are g.wf g.span g.spans g.rest g.path)),
             ),
           ),
         ),
       )
+
+  pub finished_in : i ≡ length trace.records → (t : Sums)
+      → OnTop (λ f. t ≡ record s.table { root = plus s.table.root (entered_row f s.work s.weight) }) (told s).frames → IsPathTable trace t
+  finished_in last t e =
+      subst (λ t. IsPathTable trace t) (sym (from_top (λ f. t ≡ record s.table { root = plus s.table.root (entered_row f s.work s.weight) }) e)) (finished_first last)

@@ -26,7 +26,7 @@ pub record Told : Type 0 where
 
 abbrev pub told : PathRows → Told
 told s = record {
-  frames = s.top ∷ reverse s.below.items;
+  frames = reverse s.frames.items;
   skipped = s.skipped;
   open_sites = is_marked s.open_sites;
   open_funcs = is_marked s.open_funcs;
@@ -34,6 +34,15 @@ told s = record {
   weight = s.weight;
   table = s.table;
 }
+
+-- the innermost entered frame is as P says; there is one
+abbrev pub OnTop : (EnteredFrame → Type 0) → List EnteredFrame → Type 0
+OnTop P [] = ⊥
+OnTop P (f ∷ fs) = P f
+
+-- some entered frame is open
+abbrev pub IsOpen : Told → Type 0
+IsOpen t = OnTop (λ f. Unit {0}) t.frames
 
 -- the row of a frame, which closes when these are the work and the weight of the path so far
 abbrev pub entered_row : EnteredFrame → ℕ → ℕ → Row
@@ -109,9 +118,12 @@ abbrev pub set_running : Bool → List EnteredFrame → List EnteredFrame
 set_running b [] = []
 set_running b (f ∷ fs) = record f { running = b } ∷ fs
 
+abbrev pub running_told : Bool → Told → Told
+running_told b t = record t { frames = set_running b t.frames }
+
 -- the innermost entered frame has waited for its children
 abbrev pub sync_told : Told → Told
-sync_told t = record t { frames = set_running true t.frames }
+sync_told t = running_told true t
 
 -- ---- a call, and a spawn
 
@@ -144,7 +156,7 @@ enter_told site func t = record t {
 
 -- the innermost frame doesn't run on while the path is in its child
 abbrev pub wait_told : Told → Told
-wait_told t = record t { frames = set_running false t.frames }
+wait_told t = running_told false t
 
 -- a frame is open that the path doesn't enter
 abbrev pub skip_told : Told → Told

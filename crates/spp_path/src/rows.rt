@@ -21,6 +21,9 @@ ghost use Rattle.spp_path.specs.Rows.{
   sync_told,
   leave_told,
   passed_told,
+  OnTop,
+  IsOpen,
+  running_told,
   IsRead,
   CanPass,
   CanAdd,
@@ -79,10 +82,9 @@ impl EnteredFrame {
 /// The pass, between two events.
 #[derive(Drop)]
 struct PathRows {
-    /// The innermost open frame that the path enters.
-    top: EnteredFrame,
-    /// The entered frames below it, the root first.
-    below: Vec<EnteredFrame>,
+    /// The open frames that the path enters, the root first. They are changed where they lie, since to move one costs
+    /// more than all else.
+    frames: Vec<EnteredFrame>,
     /// How many frames are open that the path doesn't enter. All of them lie within the innermost entered frame.
     skipped: u32,
     /// The sites by which the open frames that the path enters were entered.
@@ -104,19 +106,20 @@ impl PathRows {
     {
         let mut open_funcs = Marks::new(alloc);
         open_funcs.add(root)?;
+        let mut frames = Vec::new(alloc);
+        frames.push(EnteredFrame {
+            site: 0,
+            func: root,
+            top_site: true,
+            top_caller: true,
+            top_func: true,
+            running: true,
+            work_before: 0,
+            weight_before: 0,
+            local: 0,
+        })?;
         Ok(PathRows {
-            top: EnteredFrame {
-                site: 0,
-                func: root,
-                top_site: true,
-                top_caller: true,
-                top_func: true,
-                running: true,
-                work_before: 0,
-                weight_before: 0,
-                local: 0,
-            },
-            below: Vec::new(alloc),
+            frames,
             skipped: 0,
             open_sites: Marks::new(alloc),
             open_funcs,
@@ -129,15 +132,27 @@ impl PathRows {
     /// Whether the innermost open frame is entered, and runs on along the path.
     #[inline(always)]
     fn runs(&self) -> bool
+        requires { IsOpen (told self.now) }
         ensures { result ≡ runs (told self.now) }
     {
-        self.skipped == 0 && self.top.running
+        self.skipped == 0 && self.frames[self.frames.len() - 1].running
+    }
+
+    /// Whether the innermost entered frame runs on from now.
+    #[inline(always)]
+    fn set_running(&mut self, running: bool)
+        requires { IsOpen (told self.old) }
+        ensures { told self.new ≡ running_told running (told self.old) }
+    {
+        let last = self.frames.len() - 1;
+        self.frames[last].running = running;
     }
 
     /// A strand of that many instructions.
     #[inline(always)]
     fn strand(&mut self, count: u64)
-        requires { CanAdd count (told self.old) }
+        requires open { IsOpen (told self.old) }
+        requires fits { CanAdd count (told self.old) }
         ensures on_path { runs (told self.old) ≡ true → told self.new ≡ strand_told count (told self.old) }
         ensures beside { runs (told self.old) ≡ false → told self.new ≡ beside_told count (told self.old) }
     {
@@ -145,7 +160,8 @@ impl PathRows {
         self.work += count;
         if self.runs() {
             self.weight += count;
-            self.top.local += count;
+            let last = self.frames.len() - 1;
+            self.frames[last].local += count;
         }
     }
 
@@ -167,21 +183,21 @@ impl PathRows {
     /// Opens a frame that the path enters, from the innermost one.
     #[inline(always)]
     fn enter(&mut self, site: u32, func: u32) -> Result<(), AllocError>
+        requires { IsOpen (told self.old) }
         ensures { OnOk result (told self.new ≡ enter_told site func (told self.old)) }
     {
         let frame = EnteredFrame {
             site,
             func,
             top_site: !self.open_sites.has(site),
-            top_caller: self.top.top_func,
+            top_caller: self.frames[self.frames.len() - 1].top_func,
             top_func: !self.open_funcs.has(func),
             running: true,
             work_before: self.work,
             weight_before: self.weight,
             local: 0,
         };
-        self.below.push(self.top)?;
-        self.top = frame;
+        self.frames.push(frame)?;
         self.open_sites.add(site)?;
         self.open_funcs.add(func)?;
         Ok(())
@@ -190,7 +206,8 @@ impl PathRows {
     /// A call.
     #[inline(always)]
     fn call(&mut self, site: u32, func: u32) -> Result<(), AllocError>
-        requires { CanSkip (told self.old) }
+        requires open { IsOpen (told self.old) }
+        requires room { CanSkip (told self.old) }
         ensures enters { OnOk result (runs (told self.old) ≡ true → told self.new ≡ enter_told site func (told self.old)) }
         ensures skips { OnOk result (runs (told self.old) ≡ false → told self.new ≡ skip_told (told self.old)) }
     {
@@ -204,12 +221,13 @@ impl PathRows {
     /// A spawn of a child that the path enters, or doesn't.
     #[inline(always)]
     fn spawn(&mut self, entered: bool, site: u32, func: u32) -> Result<(), AllocError>
-        requires { CanSkip (told self.old) }
+        requires open { IsOpen (told self.old) }
+        requires room { CanSkip (told self.old) }
         ensures enters { OnOk result ((nat_eq self.old.skipped 0 && entered) ≡ true → told self.new ≡ enter_told site func (wait_told (told self.old))) }
         ensures skips { OnOk result ((nat_eq self.old.skipped 0 && entered) ≡ false → told self.new ≡ skip_told (told self.old)) }
     {
         if self.skipped == 0 && entered {
-            self.top.running = false;
+            self.set_running(false);
             return self.enter(site, func);
         }
         self.skipped += 1;
@@ -219,19 +237,20 @@ impl PathRows {
     /// A sync.
     #[inline(always)]
     fn sync(&mut self)
+        requires { IsOpen (told self.old) }
         ensures waited { self.old.skipped ≡ 0 → told self.new ≡ sync_told (told self.old) }
         ensures skipped { 0 < self.old.skipped → told self.new ≡ told self.old }
     {
         if self.skipped == 0 {
-            self.top.running = true;
+            self.set_running(true);
         }
     }
 
     /// A return of a frame that isn't the root.
     #[inline(always)]
     fn ret(&mut self) -> Result<(), AllocError>
-        requires { self.old.skipped ≡ 0 → CanReturn self.old.top (told self.old) }
-        ensures returned { OnOk result (self.old.skipped ≡ 0 → IsReturned self.old.top (told self.old) (told self.new)) }
+        requires { self.old.skipped ≡ 0 → OnTop (λ f. CanReturn f (told self.old)) (told self.old).frames }
+        ensures returned { OnOk result (self.old.skipped ≡ 0 → OnTop (λ f. IsReturned f (told self.old) (told self.new)) (told self.old).frames) }
         ensures skipped { OnOk result (0 < self.old.skipped → told self.new ≡ leave_told (told self.old)) }
     {
         if self.skipped > 0 {
@@ -244,29 +263,32 @@ impl PathRows {
     /// The return of the innermost entered frame, which isn't the root.
     #[inline(always)]
     fn close(&mut self) -> Result<(), AllocError>
-        requires { CanReturn self.old.top (told self.old) }
-        ensures { OnOk result (IsReturned self.old.top (told self.old) (told self.new)) }
+        requires { OnTop (λ f. CanReturn f (told self.old)) (told self.old).frames }
+        ensures { OnOk result (OnTop (λ f. IsReturned f (told self.old) (told self.new)) (told self.old).frames) }
     {
-        let child = self.top;
+        let last = self.frames.len() - 1;
+        let child = &self.frames[last];
         self.table
             .close(child.site, &child.closed(self.work, self.weight))?;
-        let Some(parent) = self.below.pop() else {
-            unreachable!();
-        };
-        self.top = parent;
         self.open_sites.remove_if(child.top_site, child.site);
         self.open_funcs.remove_if(child.top_func, child.func);
+        self.frames.truncate(last);
         Ok(())
     }
 
     /// The table, where the last open frame, the root, closes.
     fn finish(self) -> Table
-        requires { CanFinish self.top (told self) }
-        ensures { result ≡ record self.table { root = plus self.table.root (entered_row self.top self.work self.weight) } }
+        requires { OnTop (λ f. CanFinish f (told self)) (told self).frames }
+        ensures { OnTop (λ f. result ≡ record self.table { root = plus self.table.root (entered_row f self.work self.weight) }) (told self).frames }
     {
-        let root = self.top.closed(self.work, self.weight).row();
-        let PathRows { mut table, .. } = self;
-        table.add_root(&root);
+        let root = self.frames[self.frames.len() - 1];
+        let PathRows {
+            mut table,
+            work,
+            weight,
+            ..
+        } = self;
+        table.add_root(&root.closed(work, weight).row());
         table
     }
 }

@@ -5,7 +5,7 @@ use Rattle.spp_event.specs.Recordings.{Recording, record_at}
 use Rattle.spp_path.specs.declared.rows.PathRows.{PathRows}
 use Rattle.spp_path.specs.Rows.{told, start_told}
 use Rattle.spp_path.specs.Tables.{IsPathTable}
-use Rattle.spp_path.proofs.Summing.{Kept, start_in, marks_len, ready_add, ready_skip, ready_return, ready_pass, next_pass, next_strand, next_sync, next_call, next_spawn, next_return, ready_finish, finished_in}
+use Rattle.spp_path.proofs.Summing.{Kept, start_in, marks_len, ready_open, ready_add, ready_skip, ready_return, ready_pass, next_pass, next_strand, next_sync, next_call, next_spawn, next_return, ready_finish, finished_in}
 use Rattle.spp_path.proofs.rows.path_table.Goals as goal
 use Rattle.spp_path.proofs.rows.path_table.Goals.{in-Strand, in-Call+in_ok-call-in-Call, in-Spawn+in_ok-spawn-in-Spawn, in-Ret+in_ok-ret-in-Ret, in-Sync}
 
@@ -30,14 +30,20 @@ strand-requires c =
     let trace : Recording = c.args.trace.now in
     let lt : c.loop-at.at < length trace.records = omega (arith, c.count-count.ensures.count) in
     let short = c.count-count.ensures.limits.events in
-    ready_add trace c.requires.formed short c.loop-at.at c.loop-at.rows c.loop-at.invariant.kept c.in-Strand.count lt c.in-Strand.ensures
+    record {
+      «open» = ready_open trace c.requires.formed short c.loop-at.at c.loop-at.rows c.loop-at.invariant.kept;
+      fits = ready_add trace c.requires.formed short c.loop-at.at c.loop-at.rows c.loop-at.invariant.kept c.in-Strand.count lt c.in-Strand.ensures;
+    }
 
 pub call-requires : goal.call-requires
 call-requires c =
     let trace : Recording = c.args.trace.now in
     let lt : c.loop-at.at < length trace.records = omega (arith, c.count-count.ensures.count) in
     let short = c.count-count.ensures.limits.events in
-    ready_skip trace c.requires.formed short c.loop-at.at c.loop-at.rows c.loop-at.invariant.kept lt
+    record {
+      «open» = ready_open trace c.requires.formed short c.loop-at.at c.loop-at.rows c.loop-at.invariant.kept;
+      room = ready_skip trace c.requires.formed short c.loop-at.at c.loop-at.rows c.loop-at.invariant.kept lt;
+    }
 
 pub bounds-entered-at : goal.bounds-entered-at
 bounds-entered-at c =
@@ -50,7 +56,10 @@ spawn-requires c =
     let trace : Recording = c.args.trace.now in
     let lt : c.loop-at.at < length trace.records = omega (arith, c.count-count.ensures.count) in
     let short = c.count-count.ensures.limits.events in
-    ready_skip trace c.requires.formed short c.loop-at.at c.loop-at.rows c.loop-at.invariant.kept lt
+    record {
+      «open» = ready_open trace c.requires.formed short c.loop-at.at c.loop-at.rows c.loop-at.invariant.kept;
+      room = ready_skip trace c.requires.formed short c.loop-at.at c.loop-at.rows c.loop-at.invariant.kept lt;
+    }
 
 pub ret-requires : goal.ret-requires
 ret-requires c =
@@ -95,12 +104,14 @@ finish-requires c =
     let end : c.loop-at.at ≡ length trace.records = omega (arith, c.count-count.ensures.count) in
     ready_finish trace c.requires.formed c.count-count.ensures.limits.events c.loop-at.at c.loop-at.rows c.loop-at.invariant.kept end
 
+pub sync-requires : goal.sync-requires
+sync-requires c = ready_open c.args.trace.now c.requires.formed c.count-count.ensures.limits.events c.loop-at.at c.loop-at.rows c.loop-at.invariant.kept
+
 pub returns : goal.returns
 returns c =
     let trace : Recording = c.args.trace.now in
     let end : c.loop-at.at ≡ length trace.records = omega (arith, c.count-count.ensures.count) in
-    subst (λ t. IsPathTable trace t) (sym c.finish.ensures)
-    (finished_in trace c.requires.formed c.count-count.ensures.limits.events c.loop-at.at c.loop-at.rows c.loop-at.invariant.kept end)
+    finished_in trace c.requires.formed c.count-count.ensures.limits.events c.loop-at.at c.loop-at.rows c.loop-at.invariant.kept end c.finish.result c.finish.ensures
 
 pub loop-at-preserved-then-rows-gt0 : goal.loop-at-preserved-then-rows-gt0
 loop-at-preserved-then-rows-gt0 c =
