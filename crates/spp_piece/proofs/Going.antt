@@ -1,5 +1,5 @@
 -- A later piece goes on where a summary ends.
-use Rattle.std.proofs.Common.{◌≡◌, ℕ, ◌+◌, ◌-◌, ◌≤◌, List, [], ◌∷◌, ◌++◌, map, reverse, Option, Some, None, refl, sym, ◌∙◌, ap, ap₂, arith}
+use Rattle.std.proofs.Common.{◌≡◌, ℕ, ◌+◌, ◌-◌, ◌≤◌, List, [], ◌∷◌, ◌++◌, map, Option, Some, None, refl, sym, ◌∙◌, ap, ap₂, arith}
 use Rattle.spp_maxplus.specs.declared.state.Burdens.{Burdens}
 use Rattle.spp_event.specs.declared.records.EventFault.{EventFault}
 use Rattle.spp_piece.specs.declared.opens.Open.{Open}
@@ -9,8 +9,8 @@ use Rattle.spp_piece.specs.declared.pieces.Frame.{Frame}
 use Rattle.spp_piece.specs.declared.pieces.Unmatched.{Unmatched}
 use Rattle.spp_piece.specs.Pair.{act, then, idle, fed, strand, after_strand}
 use Rattle.spp_piece.specs.Machine.{Ops}
-use Rattle.spp_piece.specs.Summary.{Sum, later, along_by, summary_ops, play_returns, play_frames, play_fault}
-use Rattle.spp_piece.specs.Bound.{cost, worst, load, load_returns}
+use Rattle.spp_piece.specs.Summary.{Sum, later, along_by, summary_ops, play_frames, play_fault}
+use Rattle.spp_piece.specs.Bound.{cost, worst, load}
 use Rattle.spp_piece.specs.Pile.{with_work}
 use Rattle.spp_piece.specs.Told.{kept_of, past, with_kept, frames_of, outside, told, AreLaid}
 use Rattle.spp_piece.specs.Joining.{raised, run_on, before_on}
@@ -18,7 +18,6 @@ use Rattle.spp_piece.proofs.Piles.{sum}
 use Rattle.spp_piece.proofs.Bounds.{cost-then, cost-fed, height-act, load_push}
 use Rattle.spp_piece.proofs.Chains.{frames-chained, outside-chained}
 use Rattle.spp_piece.proofs.Joins.{summary_laws}
-use Rattle.spp_piece.proofs.Play.{Laws}
 
 module _ (burden : Burdens) where
   abbrev o : Ops Sum

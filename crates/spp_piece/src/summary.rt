@@ -12,7 +12,7 @@ ghost use Rattle.spp_event.specs.Recordings.{Record};
 ghost use Rattle.spp_frame.specs.Nesting.{IsFirstBad};
 ghost use Rattle.spp_cut.specs.Parts.{records_in};
 ghost use Rattle.spp_piece.specs.Figures.{AreFigures};
-ghost use Rattle.spp_piece.specs.Bound.{cost, worst, AreCounted};
+ghost use Rattle.spp_piece.specs.Bound.{cost, worst};
 
 use crate::figures::Figures;
 use crate::frames::FrameReader;
@@ -209,8 +209,8 @@ impl Summary {
     pub fn finish(&self) -> Result<Figures, Fault>
         requires { self.now.first ≡ 0 }
         ensures value { result ≡ figures_of self.now.events (action self.now.burden self.now.sum (Ok at_start)) }
-        ensures figures { IfOk result (λ f. (rs : List Record) → AreCounted rs → self.now ≡ account_of self.now.burden 0 rs → AreFigures rs self.now.burden f) }
-        ensures fault { IfErr result (λ f. (rs : List Record) → AreCounted rs → self.now ≡ account_of self.now.burden 0 rs → IsFirstBad rs f) }
+        ensures figures { IfOk result (λ f. (rs : List Record) → self.now ≡ account_of self.now.burden 0 rs → AreFigures rs self.now.burden f) }
+        ensures fault { IfErr result (λ f. (rs : List Record) → self.now ≡ account_of self.now.burden 0 rs → IsFirstBad rs f) }
     {
         // Its invariant tells that burdens are small.
         let _burden = self.burden;

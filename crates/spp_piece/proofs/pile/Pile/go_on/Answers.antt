@@ -1,4 +1,4 @@
-use Rattle.std.proofs.Common.{◌≡◌, ◌+◌, reverse, sym, ap, ◌∙◌, arith}
+use Rattle.std.proofs.Common.{◌+◌, reverse, sym, ap, ◌∙◌, arith}
 use Rattle.std.proofs.lemmas.List.{length-reverse}
 use Rattle.spp_piece.specs.Bound.{cost, load_returns}
 use Rattle.spp_piece.specs.Pair.{then}

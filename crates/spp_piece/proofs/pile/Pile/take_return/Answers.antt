@@ -4,7 +4,7 @@ use Rattle.spp_piece.specs.Bound.{cost, load}
 use Rattle.spp_piece.specs.Pair.{act, then, idle, fed, strand, after_strand}
 use Rattle.spp_piece.specs.Pile.{seen, with_work}
 use Rattle.spp_piece.specs.Summary.{Sum, summary_ops}
-use Rattle.spp_piece.specs.Told.{kept_of, past, with_kept, frames_of, outside, told}
+use Rattle.spp_piece.specs.Told.{kept_of, with_kept, frames_of, outside, told}
 use Rattle.spp_piece.proofs.Lists.{reverse_push}
 use Rattle.spp_piece.proofs.Bounds.{cost-then}
 use Rattle.spp_piece.proofs.Laid.{none_of}

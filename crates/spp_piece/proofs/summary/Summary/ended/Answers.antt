@@ -1,4 +1,4 @@
-use Rattle.std.proofs.Common.{length, reverse, ◌+◌, ◌≤◌, ◌^◌, get_or, Result, Ok, Err, ap, sym, ◌∙◌, arith}
+use Rattle.std.proofs.Common.{length, reverse, ◌+◌, get_or, Result, Ok, Err, ap, sym, ◌∙◌, arith}
 use Rattle.std.proofs.lemmas.List.{length-reverse}
 use Rattle.spp_frame.specs.declared.Fault.{Fault}
 use Rattle.spp_frame.specs.declared.Why.TheVariants.{RootReturn, Unclosed}
