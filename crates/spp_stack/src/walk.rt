@@ -13,7 +13,7 @@ ghost use Rattle.spp_stack.specs.Walk.{Stands, IsKept, AreKept, moved, Unmarked}
 
 use crate::marks::Marks;
 use crate::node::Node;
-use crate::reading::{open_frames, return_at, return_count};
+use crate::reading::open_frames;
 use spp_dag::{EntryFrame, FrameKind};
 use spp_maxplus::{Burdens, Seg, State};
 use spp_piece::{Frame, Kind, Summary};
@@ -211,8 +211,9 @@ impl Walk {
         ensures nodes { self.new.nodes ≡ self.old.nodes }
         ensures work { self.new.work ≡ self.old.work }
     {
-        for k in 0..return_count(summary) {
-            self.along(&return_at(summary, k).segs.plain);
+        let mut returns = summary.returns();
+        while let Some(unmatched) = returns.next() {
+            self.along(&unmatched.segs.plain);
             self.close();
         }
     }
