@@ -1,7 +1,7 @@
-use Rattle.std.proofs.Common.{◌≡◌, ◌+◌, [], ap, arith, refl, sym, subst, ◌∙◌}
+use Rattle.std.proofs.Common.{◌+◌, ap, arith, refl, sym, subst, ◌∙◌}
 use Rattle.spp_piece.specs.Summary.{play_returns}
 use Rattle.spp_stack.specs.declared.walk.Walk.{Walk}
-use Rattle.spp_stack.specs.Machine.{Now, entry_ops, IsOpen, peaks, rises}
+use Rattle.spp_stack.specs.Machine.{entry_ops, peaks, rises}
 use Rattle.spp_stack.specs.Walk.{Stands}
 use Rattle.spp_stack.proofs.Passing.{return_step}
 use Rattle.spp_stack.proofs.walk.Walk.close_all.Goals as goal
