@@ -34,6 +34,10 @@ pub load_push : (burden : Burdens) (rs : List Unmatched) (r : Unmatched) → loa
 load_push burden [] r = omega arith
 load_push burden (s ∷ rs) r = omega (arith, load_push burden rs r)
 
+pub load-append : (burden : Burdens) (rs qs : List Unmatched) → load_returns burden (rs ++ qs) ≡ load_returns burden rs + load_returns burden qs
+load-append burden [] qs = omega arith
+load-append burden (r ∷ rs) qs = omega (arith, load-append burden rs qs)
+
 module _ (burden : Burdens) where
   abbrev o : Ops Sum
   o = summary_ops burden

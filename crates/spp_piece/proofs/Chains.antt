@@ -3,7 +3,6 @@ use Rattle.std.proofs.Common.{◌≡◌, ℕ, ◌+◌, ◌-◌, ◌≤◌, ◌<�
 use Rattle.std.proofs.lemmas.List.{reverse-append}
 use Rattle.spp_piece.specs.declared.opens.Open.{Open}
 use Rattle.spp_piece.specs.declared.pieces.States.{States}
-use Rattle.spp_piece.specs.declared.pieces.Frame.{Frame}
 use Rattle.spp_piece.specs.Summary.{later}
 use Rattle.spp_piece.specs.Told.{kept_of, past, HasKept, frame_of, frames_of, outside, AreLaid}
 use Rattle.spp_piece.specs.Joining.{raised, run_on, before_on}

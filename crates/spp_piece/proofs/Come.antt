@@ -1,7 +1,7 @@
 -- How far the machine has come in the records of a trace, whatever they count; and what a run over all of them comes to:
 -- the figures, or the first bad event.
-use Rattle.std.proofs.Common.{◌≡◌, ℕ, zero, suc, ◌+◌, ◌-◌, ◌<◌, ◌≤◌, cond, List, [], ◌∷◌, ◌++◌, length, take, drop, Option, Some, None, Result, Ok, Err, IfOk, IfErr, refl, sym, ap, subst, ◌∙◌, arith, length-take}
-use Rattle.std.proofs.lemmas.List.{length-map, length-drop, map-append, take_all, take_more}
+use Rattle.std.proofs.Common.{◌≡◌, ℕ, zero, suc, ◌+◌, ◌-◌, ◌<◌, ◌≤◌, cond, List, [], ◌∷◌, ◌++◌, length, take, drop, Option, Some, None, Result, Ok, Err, IfOk, IfErr, refl, sym, ap, subst, ◌∙◌, arith}
+use Rattle.std.proofs.lemmas.List.{length-drop, map-append, take_all, take_more}
 use Rattle.spp_event.specs.declared.records.Event.{Event}
 use Rattle.spp_event.specs.declared.records.Event.TheVariants.{Strand, Call, Spawn, Ret, Sync}
 use Rattle.spp_event.specs.declared.records.EventFault.TheVariants.{Truncated}
@@ -16,8 +16,6 @@ use Rattle.spp_dag.specs.declared.stack.OpenFrame.{OpenFrame}
 use Rattle.spp_dag.specs.Trace.{records}
 use Rattle.spp_dag.specs.Dag.{IsSpan}
 use Rattle.spp_dag.specs.Stack.{advance, run as run_events, root_frame}
-use Rattle.spp_dag.specs.Laws.{run_on}
-use Rattle.spp_dag.proofs.Pieces.{run-append}
 use Rattle.spp_dag.proofs.Stacks.{machine_gives_spans}
 use Rattle.spp_piece.specs.declared.pieces.Frame.{Frame}
 use Rattle.spp_piece.specs.declared.pieces.States.{States}
@@ -29,6 +27,7 @@ use Rattle.spp_piece.specs.Ends.{figures_of}
 use Rattle.spp_piece.specs.Account.{at_start}
 use Rattle.spp_piece.specs.Model.{open_frames, open_root}
 use Rattle.spp_piece.proofs.MachineSteps.{step, stops}
+use Rattle.spp_piece.proofs.Reached.{length_seen, ran_more}
 
 -- before the record at `at` the open frames are fs, and the work so far is w; none of the records before is bad
 record Come (rs : List Record) (burdens : Burdens) (root at w : ℕ) (fs : List OpenFrame) : Type 0 where
@@ -48,22 +47,6 @@ come_none rs burdens root = record {
   level = refl;
   far = record { good = λ i l. absurd (let z : i < 0 = l in omega arith); depth = refl; work = refl };
 }
-
-length_seen : (rs : List Record) (at : ℕ) (seen : List Event) → at ≤ length rs → take at rs ≡ records seen → length seen ≡ at
-length_seen rs at seen l read =
-    let a : length (take at rs) ≡ at = simp length-take (omega arith) in
-    let b : length (records seen) ≡ length seen = length-map seen (λ e. Ok e) in
-    let c : length (take at rs) ≡ length (records seen) = ap (λ (x : List Record). length x) read in
-    omega arith
-
--- the run over one more event
-ran_more : (burdens : Burdens) (root at : ℕ) (seen : List Event) (e : Event) (fs gs : List OpenFrame) → length seen ≡ at
-    → run_events burdens 0 seen (root_frame root ∷ []) ≡ Some fs → advance burdens at e fs ≡ Some gs
-    → run_events burdens 0 (seen ++ e ∷ []) (root_frame root ∷ []) ≡ Some gs
-ran_more burdens root at seen e fs gs l ran adv =
-    let here : advance burdens (0 + length seen) e fs ≡ Some gs = subst (λ (k : ℕ). advance burdens k e fs ≡ Some gs) (omega arith) adv in
-    run-append burdens 0 seen (e ∷ []) (root_frame root ∷ []) ∙ ap (λ (o : Option (List OpenFrame)). run_on burdens (0 + length seen) (e ∷ []) o) ran
-    ∙ rw (here, run_events) refl
 
 -- one more record, at which the machine goes on
 come_more : (rs : List Record) (burdens : Burdens) (root at w v : ℕ) (e : Event) (fs gs : List OpenFrame)

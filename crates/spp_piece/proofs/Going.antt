@@ -1,5 +1,6 @@
 -- A later piece goes on where a summary ends.
-use Rattle.std.proofs.Common.{◌≡◌, ℕ, ◌+◌, ◌-◌, ◌≤◌, List, [], ◌∷◌, ◌++◌, map, reverse, Option, Some, None, refl, sym, ◌∙◌, ap, ap₂, arith}
+use Rattle.std.proofs.Common.{◌≡◌, ℕ, ◌+◌, ◌-◌, ◌≤◌, List, [], ◌∷◌, ◌++◌, map, Option, Some, None, refl, sym, ◌∙◌, ap, ap₂, arith}
+use Rattle.std.proofs.lemmas.List.{append-nil, append_assoc}
 use Rattle.spp_maxplus.specs.declared.state.Burdens.{Burdens}
 use Rattle.spp_event.specs.declared.records.EventFault.{EventFault}
 use Rattle.spp_piece.specs.declared.opens.Open.{Open}
@@ -10,15 +11,16 @@ use Rattle.spp_piece.specs.declared.pieces.Unmatched.{Unmatched}
 use Rattle.spp_piece.specs.Pair.{act, then, idle, fed, strand, after_strand}
 use Rattle.spp_piece.specs.Machine.{Ops}
 use Rattle.spp_piece.specs.Summary.{Sum, later, along_by, summary_ops, play_returns, play_frames, play_fault}
+use Rattle.spp_piece.specs.Returns.{return_of}
 use Rattle.spp_piece.specs.Bound.{cost, worst, load, load_returns}
 use Rattle.spp_piece.specs.Pile.{with_work}
 use Rattle.spp_piece.specs.Told.{kept_of, past, with_kept, frames_of, outside, told, AreLaid}
 use Rattle.spp_piece.specs.Joining.{raised, run_on, before_on}
 use Rattle.spp_piece.proofs.Piles.{sum}
-use Rattle.spp_piece.proofs.Bounds.{cost-then, cost-fed, height-act, load_push}
+use Rattle.spp_piece.proofs.Bounds.{cost-then, cost-fed, height-act, load_push, load-append}
+use Rattle.spp_piece.proofs.Pairs.{idle_then}
 use Rattle.spp_piece.proofs.Chains.{frames-chained, outside-chained}
 use Rattle.spp_piece.proofs.Joins.{summary_laws}
-use Rattle.spp_piece.proofs.Play.{Laws}
 
 module _ (burden : Burdens) where
   abbrev o : Ops Sum
@@ -43,41 +45,54 @@ module _ (burden : Burdens) where
   child_parts rs m f fs w v n at (Some p) g e = absurd (cc)
 
   -- of a frame that is kept
-  pub child_returned : (rs : List Unmatched) (m : Segs) (since run before : ℕ) (c : Open) (os : List Open) (ss : List States) (q : Option (ℕ × EventFault)) (a b r : Segs) (at n : ℕ) → q ≡ None
-      → r ≡ fed burden (with_kept before c (act (then a b) (after_strand (run - c.counted) (kept_of c.kept ss))))
-      → o.along r (with_work n (told rs m since os (past c.kept ss) c.gap (before - c.gap) q)) ≡ o.ret at (o.along b (o.along a (with_work n (told rs m since (c ∷ os) ss run before q))))
-  child_returned rs m since run before c os ss q a b r at n e er =
+  pub child_returned : (rs : List Unmatched) (m : Segs) (since run before : ℕ) (c : Open) (os : List Open) (ss : List States) (q : Option (ℕ × EventFault)) (g r : Segs) (at n : ℕ) → q ≡ None
+      → r ≡ fed burden (with_kept before c (act g (after_strand (run - c.counted) (kept_of c.kept ss))))
+      → o.along r (with_work n (told rs m since os (past c.kept ss) c.gap (before - c.gap) q)) ≡ o.ret at (o.along g (with_work n (told rs m since (c ∷ os) ss run before q)))
+  child_returned rs m since run before c os ss q g r at n e er =
       let s : Sum = told rs m since os (past c.kept ss) c.gap (before - c.gap) q in
       let t : Sum = told rs m since (c ∷ os) ss run before q in
       ap (λ r. o.along r (with_work n s)) er
-      ∙ child_parts s.returns s.middle (with_kept before c (after_strand (run - c.counted) (kept_of c.kept ss))) s.frames t.work s.work n at q (then a b) e
-      ∙ ap (o.ret at) (sym (along-twice a b (with_work n t)))
+      ∙ child_parts s.returns s.middle (with_kept before c (after_strand (run - c.counted) (kept_of c.kept ss))) s.frames t.work s.work n at q g e
 
-  pub child_load : (rs : List Unmatched) (m : Segs) (since run before : ℕ) (c : Open) (os : List Open) (ss : List States) (q : Option (ℕ × EventFault)) (a b r : Segs)
-      → r ≡ fed burden (with_kept before c (act (then a b) (after_strand (run - c.counted) (kept_of c.kept ss))))
-      → load burden (told rs m since os (past c.kept ss) c.gap (before - c.gap) q) + cost r ≤ load burden (told rs m since (c ∷ os) ss run before q) + cost a + (cost b + worst burden)
-  child_load rs m since run before c os ss q a b r er =
+  pub child_load : (rs : List Unmatched) (m : Segs) (since run before : ℕ) (c : Open) (os : List Open) (ss : List States) (q : Option (ℕ × EventFault)) (g r : Segs)
+      → r ≡ fed burden (with_kept before c (act g (after_strand (run - c.counted) (kept_of c.kept ss))))
+      → load burden (told rs m since os (past c.kept ss) c.gap (before - c.gap) q) + cost r ≤ load burden (told rs m since (c ∷ os) ss run before q) + cost g + worst burden
+  child_load rs m since run before c os ss q g r er =
       let x = after_strand (run - c.counted) (kept_of c.kept ss) in
-      omega (arith, ap cost er, cost-fed burden (with_kept before c (act (then a b) x)), height-act (then a b) x, cost-then a b)
+      omega (arith, ap cost er, cost-fed burden (with_kept before c (act g x)), height-act g x)
 
   none_parts : (rs : List Unmatched) (m : Segs) (fs : List Frame) (w n at : ℕ) (q : Option (ℕ × EventFault)) (g : Segs) → q ≡ None → fs ≡ [] → with_work n (sum (rs ++ record { segs = then m g; at = at } ∷ []) idle fs w q) ≡ o.ret at (o.along g (with_work n (sum rs m fs w q)))
   none_parts rs m [] w n at None g e f = refl
   none_parts rs m [] w n at (Some p) g e f = absurd (cc)
   none_parts rs m (x ∷ fs) w n at q g e f = absurd (cc)
 
-  -- of one that was opened before the piece
-  pub none_returned : (s t : Sum) (a b : Segs) (at n : ℕ) → s.fault ≡ None → s.frames ≡ []
-      → t ≡ record s { returns = s.returns ++ record { segs = then s.middle (then a b); at = at } ∷ []; middle = idle }
-      → o.along idle (with_work n t) ≡ o.ret at (o.along b (o.along a (with_work n s)))
-  none_returned s t a b at n e f et =
-      (summary_laws burden).idle (with_work n t) ∙ ap (with_work n) et
-      ∙ none_parts s.returns s.middle s.frames s.work n at s.fault (then a b) e f
-      ∙ ap (o.ret at) (sym (along-twice a b (with_work n s)))
+  -- with no frame open all returns are those of the later piece
+  rest_parts : (rs rest : List Unmatched) (w : ℕ) → play_returns o rest (sum rs idle [] w None) ≡ sum (rs ++ rest) idle [] w None
+  rest_parts rs [] w = ap (λ rs. sum rs idle [] w None) (sym (append-nil rs))
+  rest_parts rs (r ∷ rest) w =
+      ap (λ g. play_returns o rest (sum (rs ++ return_of g r.at ∷ []) idle [] w None)) (idle_then r.segs)
+      ∙ rest_parts (rs ++ r ∷ []) rest w ∙ ap (λ rs. sum rs idle [] w None) (append_assoc rs (r ∷ []) rest)
 
-  pub none_load : (s t : Sum) (a b : Segs) (at : ℕ) → t ≡ record s { returns = s.returns ++ record { segs = then s.middle (then a b); at = at } ∷ []; middle = idle }
-      → load burden t + cost idle ≤ load burden s + cost a + (cost b + worst burden)
-  none_load s t a b at et =
-      omega (arith, ap (load burden) et, load_push burden s.returns (record { segs = then s.middle (then a b); at = at }), cost-then s.middle (then a b), cost-then a b)
+  rest_returned : (s : Sum) (rest : List Unmatched) (n : ℕ) → s.fault ≡ None → s.frames ≡ [] → s.middle ≡ idle → play_returns o rest (with_work n s) ≡ with_work n (record s { returns = s.returns ++ rest })
+  rest_returned s rest n e f h =
+      let is = ap₂ (λ fs m. sum s.returns m fs n s.fault) f h ∙ ap (λ q. sum s.returns idle [] n q) e in
+      let all = ap₂ (λ fs m. sum (s.returns ++ rest) m fs n s.fault) f h ∙ ap (λ q. sum (s.returns ++ rest) idle [] n q) e in
+      ap (play_returns o rest) is ∙ rest_parts s.returns rest n ∙ sym all
+
+  -- of one that was opened before the piece, and the others after it
+  pub all_returned : (s t : Sum) (g : Segs) (at n : ℕ) (rest : List Unmatched) → s.fault ≡ None → s.frames ≡ []
+      → t ≡ record s { returns = (s.returns ++ return_of (then s.middle g) at ∷ []) ++ rest; middle = idle }
+      → o.along idle (with_work n t) ≡ play_returns o rest (o.ret at (o.along g (with_work n s)))
+  all_returned s t g at n rest e f et =
+      let u : Sum = record s { returns = s.returns ++ return_of (then s.middle g) at ∷ []; middle = idle } in
+      (summary_laws burden).idle (with_work n t) ∙ ap (with_work n) et ∙ sym (rest_returned u rest n e f refl)
+      ∙ ap (play_returns o rest) (none_parts s.returns s.middle s.frames s.work n at s.fault g e f)
+
+  pub all_load : (s t : Sum) (g : Segs) (at : ℕ) (rest : List Unmatched) → t ≡ record s { returns = (s.returns ++ return_of (then s.middle g) at ∷ []) ++ rest; middle = idle }
+      → load burden t + cost idle ≤ load burden s + cost g + worst burden + load_returns burden rest
+  all_load s t g at rest et =
+      let x = return_of (then s.middle g) at in
+      omega (arith, ap (load burden) et, load-append burden (s.returns ++ x ∷ []) rest, load_push burden s.returns x, cost-then s.middle g)
 
   -- ---- the frames, and the end
 

@@ -90,7 +90,7 @@ summed_all t b ps i a le s =
 -- ---- a summary of all records
 
 -- it comes to the figures, or to the first bad event
-account_told : (b : Burdens) (rs : List Record) (a : Account) → a ≡ account_of b 0 rs
+pub account_told : (b : Burdens) (rs : List Record) (a : Account) → a ≡ account_of b 0 rs
     → IfOk (figures_of a.events (action a.burden a.sum (Ok at_start))) (AreFigures rs b) × IfErr (figures_of a.events (action a.burden a.sum (Ok at_start))) (IsFirstBad rs)
 account_told b rs a is =
     let ran = ap (figures_of (length rs)) (action_summary b 0 rs (Ok at_start)) in

@@ -1,5 +1,5 @@
 -- What an event does to a summary while it is read.
-use Rattle.std.proofs.Common.{◌≡◌, ℕ, ◌+◌, ◌-◌, ◌≤◌, Bool, true, false, List, [], ◌∷◌, length, reverse, get_or, set, take, Option, Some, None, subst, ◌<◌, ◌^◌, refl, sym, ◌∙◌, ap, ap₂, add_assoc, add-zero, arith}
+use Rattle.std.proofs.Common.{◌≡◌, ℕ, ◌+◌, ◌-◌, ◌≤◌, Bool, true, false, List, [], ◌∷◌, length, reverse, get_or, set, take, Option, Some, None, subst, ◌<◌, ◌^◌, refl, sym, ◌∙◌, ap, ap₂, add_assoc, arith}
 use Rattle.spp_maxplus.specs.declared.state.Burdens.{Burdens}
 use Rattle.spp_event.specs.declared.records.EventFault.{EventFault}
 use Rattle.spp_piece.specs.declared.pieces.Kind.{Kind}
@@ -9,8 +9,7 @@ use Rattle.spp_piece.specs.declared.pieces.States.{States}
 use Rattle.spp_piece.specs.declared.pieces.Frame.{Frame}
 use Rattle.spp_piece.specs.declared.pieces.Unmatched.{Unmatched}
 use Rattle.spp_piece.specs.declared.opens.Open.{Open}
-use Rattle.spp_piece.specs.Pair.{act, then, strand, sync, start, after_strand, after_sync, after_return, after_return_by, fed}
-use Rattle.spp_piece.specs.Stack.{with_states}
+use Rattle.spp_piece.specs.Pair.{act, then, strand, sync, start, after_strand, after_sync, after_return, after_return_by}
 use Rattle.spp_piece.specs.Summary.{Sum, along_by, ret_by, working}
 use Rattle.spp_piece.specs.declared.changes.Weights.{Weights}
 use Rattle.spp_maxplus.specs.Candidate.{greatest}

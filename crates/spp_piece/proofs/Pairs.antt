@@ -25,6 +25,9 @@ act-then a b x = states _ _ _ _ (one.act-then a.plain b.plain x.plain) (one.act-
 pub then_idle : (a : Segs) → then a idle ≡ a
 then_idle a = segs _ _ _ _ (one.then_idle a.plain) (one.then_idle a.burdened)
 
+pub idle_then : (a : Segs) → then idle a ≡ a
+idle_then a = segs _ _ _ _ (one.idle_then a.plain) (one.idle_then a.burdened)
+
 pub then_assoc : (a b c : Segs) → then (then a b) c ≡ then a (then b c)
 then_assoc a b c = segs _ _ _ _ (one.then_assoc a.plain b.plain c.plain) (one.then_assoc a.burdened b.burdened c.burdened)
 

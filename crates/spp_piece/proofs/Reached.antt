@@ -49,7 +49,7 @@ reached_none rs burdens root = record {
   small = omega arith;
 }
 
-length_seen : (rs : List Record) (at : ℕ) (seen : List Event) → at ≤ length rs → take at rs ≡ records seen → length seen ≡ at
+pub length_seen : (rs : List Record) (at : ℕ) (seen : List Event) → at ≤ length rs → take at rs ≡ records seen → length seen ≡ at
 length_seen rs at seen l read =
     let a : length (take at rs) ≡ at = simp length-take (omega arith) in
     let b : length (records seen) ≡ length seen = length-map seen (λ e. Ok e) in
@@ -57,7 +57,7 @@ length_seen rs at seen l read =
     omega arith
 
 -- the run over one more event
-ran_more : (burdens : Burdens) (root at : ℕ) (seen : List Event) (e : Event) (fs gs : List OpenFrame) → length seen ≡ at
+pub ran_more : (burdens : Burdens) (root at : ℕ) (seen : List Event) (e : Event) (fs gs : List OpenFrame) → length seen ≡ at
     → run burdens 0 seen (root_frame root ∷ []) ≡ Some fs → advance burdens at e fs ≡ Some gs
     → run burdens 0 (seen ++ e ∷ []) (root_frame root ∷ []) ≡ Some gs
 ran_more burdens root at seen e fs gs l ran adv =

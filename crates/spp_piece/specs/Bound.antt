@@ -1,5 +1,5 @@
 -- How large the weights of a summary can become.
-use Rattle.std.specs.Prelude.{ℕ, ◌+◌, ◌-◌, ◌*◌, ◌^◌, ◌≤◌, ◌<◌, max, List, [], ◌∷◌, length, slice_index_or, Result, Ok, Err}
+use Rattle.std.specs.Prelude.{ℕ, ◌+◌, ◌-◌, ◌*◌, ◌^◌, ◌≤◌, ◌<◌, max, List, [], ◌∷◌, length, Result, Ok, Err}
 use Rattle.spp_maxplus.specs.declared.state.Burdens.{Burdens}
 use Rattle.spp_event.specs.declared.records.Event.{Event}
 use Rattle.spp_event.specs.declared.records.Event.TheVariants.{Strand, Call, Spawn, Ret, Sync}
@@ -55,7 +55,3 @@ IsCount (Ok (Spawn site func)) = Unit {0}
 IsCount (Ok Ret) = Unit {0}
 IsCount (Ok Sync) = Unit {0}
 IsCount (Err why) = Unit {0}
-
--- so are all strands' counts
-abbrev pub AreCounted : List (Result Event EventFault) → Type 0
-AreCounted rs = (k : ℕ) (r : Result Event EventFault) → k < length rs → IsCount (slice_index_or rs k r)

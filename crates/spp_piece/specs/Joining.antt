@@ -1,5 +1,5 @@
 -- Two summaries as they are kept, one after the other.
-use Rattle.std.specs.Prelude.{◌≡◌, ℕ, ◌+◌, ◌-◌, ◌≤◌, ◌<◌, ◌^◌, min, take, reverse, Bool, true, false, List, [], ◌∷◌, length, vec_len, vec_capacity}
+use Rattle.std.specs.Prelude.{◌≡◌, ℕ, ◌+◌, ◌-◌, ◌≤◌, ◌<◌, ◌^◌, min, take, reverse, List, [], ◌∷◌, length}
 use Rattle.std.specs.VecDeque.{deque_len, deque_capacity}
 use Rattle.spp_piece.specs.declared.opens.Open.{Open}
 use Rattle.spp_piece.specs.declared.pieces.States.{States}
@@ -43,11 +43,12 @@ pub record SamePile (p q : Pile) : Type 0 where
 
 -- the frames that are left of the earlier one once those have returned
 abbrev pub left_of : Pile → Pile → ℕ
-left_of p q = deque_len p.opens - vec_len q.returns
+left_of p q = deque_len p.opens - length q.returns.items
 
 -- room for the join in that one of the two which has more frames
 pub record HasRoom (p q : Pile) : Type 0 where
-  pub returns : vec_len p.returns + (vec_len q.returns - deque_len p.opens) ≤ vec_capacity p.returns
+  pub returns : length p.returns.items + (length q.returns.items - deque_len p.opens) ≤ p.returns.room
+  pub kept : deque_len p.opens < length q.returns.items → p.returns.kept + 1 + q.returns.kept ≤ p.returns.kept_room
   pub one : deque_len p.states < deque_capacity p.states
   pub left_opens : deque_len q.opens ≤ left_of p q → left_of p q + deque_len q.opens ≤ deque_capacity p.opens
   pub left_states : deque_len q.opens ≤ left_of p q → deque_len p.states + 1 + deque_len q.states ≤ deque_capacity p.states

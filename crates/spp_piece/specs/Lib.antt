@@ -8,6 +8,7 @@ pub mod Bound
 pub mod Pile
 pub mod Joining
 pub mod Told
+pub mod Returns
 pub mod Reading
 pub mod Account
 pub mod Stored

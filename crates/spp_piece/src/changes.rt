@@ -1,10 +1,11 @@
 //! What events do to the states of a frame, and to what is known of a piece, where they lie.
 
-ghost use Rattle.std.specs.Prelude.{◌≡◌, ◌+◌, ◌<◌, ◌^◌, Some};
+ghost use Rattle.std.specs.Prelude.{◌≡◌, ◌+◌, ◌<◌, ◌^◌, Some, IfSome};
 ghost use Rattle.spp_maxplus.specs.Candidate.{better, greatest as greatest_of};
 ghost use Rattle.spp_maxplus.specs.Seg.{synced, then as then_seg};
 ghost use Rattle.spp_piece.specs.Pair.{after_strand, after_sync, after_return_by, strand as both_strand, sync as both_sync, then as both_then, fed_by};
 ghost use Rattle.spp_piece.specs.Told.{weights_of};
+ghost use Rattle.spp_piece.specs.Returns.{added};
 
 use crate::pieces::{Kind, Segs, States};
 use spp_maxplus::{Burdens, Seg};
@@ -117,6 +118,34 @@ impl Segs {
     {
         self.plain.add += count;
         self.burdened.add += count;
+    }
+
+    /// So much of called children.
+    #[inline(always)]
+    pub(crate) fn gain(&mut self, weights: Weights)
+        requires plain { self.old.plain.add + weights.plain < 2 ^ 128 }
+        requires burdened { self.old.burdened.add + weights.burdened < 2 ^ 128 }
+        ensures { self.new ≡ both_then self.old (added weights) }
+    {
+        self.plain.add += weights.plain;
+        self.burdened.add += weights.burdened;
+    }
+
+    /// Its instructions where it does just what a strand of them does.
+    #[inline(always)]
+    pub(crate) fn as_strand(&self) -> Option<u128>
+        ensures { IfSome result (λ n. self.now ≡ both_strand n) }
+    {
+        if self.plain.head.is_some() || self.plain.offer.is_some() {
+            return None;
+        }
+        if self.burdened.head.is_some() || self.burdened.offer.is_some() {
+            return None;
+        }
+        if self.plain.add != self.burdened.add {
+            return None;
+        }
+        Some(self.plain.add)
     }
 
     /// A sync.

@@ -1,15 +1,17 @@
 //! A summary as it is kept: what each step of a join does to it.
-ghost use Rattle.std.specs.Prelude.{◌≡◌, ◌+◌, ◌*◌, ◌<◌, ◌≤◌, ◌^◌, ◌-◌, ℕ, Bool, true, false, List, [], ◌∷◌, ◌++◌, length, reverse, IfOk, OnErr, OnOk, IsOk, Some, None, vec_len, vec_capacity};
+ghost use Rattle.std.specs.Prelude.{◌≡◌, ◌+◌, ◌*◌, ◌<◌, ◌≤◌, ◌^◌, ◌-◌, ℕ, Bool, true, false, List, [], ◌∷◌, ◌++◌, length, reverse, IfOk, OnErr, OnOk, IsOk, Some, None};
 ghost use Rattle.std.specs.VecDeque.{deque_len, deque_capacity};
 ghost use Rattle.spp_piece.specs.Bound.{worst, cost, height, load, load_returns};
 ghost use Rattle.spp_piece.specs.Pair.{act, idle, then as both_then, after_strand, fed as fed_to};
-ghost use Rattle.spp_piece.specs.Pile.{seen, open_load, with_work, IsLaid};
+ghost use Rattle.spp_piece.specs.Pile.{seen, seen_with, open_load, with_work, IsLaid};
 ghost use Rattle.spp_piece.specs.Joining.{raised, run_on, before_on, went, left_of, SamePile, HasRoom};
-ghost use Rattle.spp_piece.specs.Told.{kept_of, past, with_kept, HasKept, outside as outside_of};
+ghost use Rattle.spp_piece.specs.Told.{kept_of, past, with_kept, HasKept, AreLaid, outside as outside_of};
 ghost use Rattle.spp_piece.specs.Summary.{along_by, summary_ops, play_returns, joined};
 
+use crate::course::Course;
 use crate::opens::Open;
-use crate::pieces::{Segs, States, Unmatched};
+use crate::pieces::{Segs, States};
+use crate::returns::Returns;
 use spp_event::EventFault;
 use spp_maxplus::Burdens;
 use std::alloc::{AllocError, Global};
@@ -19,7 +21,7 @@ use std::collections::VecDeque;
 #[derive(Drop)]
 pub(crate) struct Pile {
     /// The unmatched returns, in order.
-    pub(crate) returns: Vec<Unmatched>,
+    pub(crate) returns: Returns,
     /// The open frames, the outermost first.
     pub(crate) opens: VecDeque<Open>,
     /// The states of those frames that have kept ones, in the same order.
@@ -87,20 +89,30 @@ fn take_kept(states: &mut VecDeque<States>, kept: bool) -> States
     }
 }
 
-/// What the return of a frame does to the one below, where that work has run since it was opened, and then these
-/// events.
-fn fed(states: &mut VecDeque<States>, child: &Open, run: u128, burden: Burdens, segs: &Segs) -> Segs
+/// What the return of a frame does to the one below, in the place of what is still to be done to the frame, where that
+/// work has run since it was opened.
+#[inline(always)]
+fn feed(
+    states: &mut VecDeque<States>,
+    child: &Open,
+    run: u128,
+    burden: Burdens,
+    pending: &mut Course,
+)
     requires counted { child.now.counted ≤ run }
-    requires load { height (after_strand (run - child.now.counted) (kept_of child.now.kept (reverse states.old.items))) + cost segs.now + worst burden < 2 ^ 127 }
-    ensures value { (before : ℕ) → result ≡ fed_to burden (with_kept before child.now (act segs.now (after_strand (run - child.now.counted) (kept_of child.now.kept (reverse states.old.items))))) }
+    requires load { height (after_strand (run - child.now.counted) (kept_of child.now.kept (reverse states.old.items))) + cost pending.old + worst burden < 2 ^ 127 }
+    ensures value { (before : ℕ) → pending.new ≡ fed_to burden (with_kept before child.now (act pending.old (after_strand (run - child.now.counted) (kept_of child.now.kept (reverse states.old.items))))) }
     ensures states { reverse states.new.items ≡ past child.now.kept (reverse states.old.items) }
     ensures capacity { deque_capacity states.new ≡ deque_capacity states.old }
     ensures len { deque_len states.new ≤ deque_len states.old }
 {
+    if pending.pass(run, child) {
+        return;
+    }
     let mut now = take_kept(states, child.kept);
     now.run(run - child.counted);
-    let now = segs.apply(now);
-    Segs::fed(burden, &child.frame(0, now))
+    let now = pending.segs().apply(now);
+    *pending = Course::fed(burden, &child.frame(0, now));
 }
 
 /// From now on the states of the innermost frame are kept.
@@ -121,64 +133,66 @@ fn keep(states: &mut VecDeque<States>, top: &mut Open)
 impl Pile {
     /// Returns of a later piece, for all of which there is room. Gives what is still to be done to the frame that is
     /// then the innermost; the work is that where it was opened last.
-    fn return_all(&mut self, burden: Burdens, returns: &[Unmatched]) -> Segs
+    fn return_all(&mut self, burden: Burdens, returns: &Returns) -> Course
         requires sound { self.old.fault ≡ None }
         requires laid { IsLaid self.old }
         requires work { self.old.before + self.old.run < 2 ^ 127 }
-        requires room { vec_len self.old.returns + (length returns.now - deque_len self.old.opens) ≤ vec_capacity self.old.returns }
-        requires load { load burden (seen self.old) + load_returns burden returns.now < 2 ^ 127 }
-        ensures value { (summary_ops burden).along result (with_work (self.old.before + self.old.run) (seen self.new)) ≡ play_returns (summary_ops burden) returns.now (seen self.old) }
-        ensures load { load burden (seen self.new) + cost result ≤ load burden (seen self.old) + load_returns burden returns.now }
+        requires room { length self.old.returns.items + (length returns.now.items - deque_len self.old.opens) ≤ self.old.returns.room }
+        requires kept { deque_len self.old.opens < length returns.now.items → self.old.returns.kept + 1 + returns.now.kept ≤ self.old.returns.kept_room }
+        requires load { load burden (seen self.old) + load_returns burden returns.now.items < 2 ^ 127 }
+        ensures value { (summary_ops burden).along result (with_work (self.old.before + self.old.run) (seen self.new)) ≡ play_returns (summary_ops burden) returns.now.items (seen self.old) }
+        ensures load { load burden (seen self.new) + cost result ≤ load burden (seen self.old) + load_returns burden returns.now.items }
         ensures laid { IsLaid self.new }
         ensures fault { self.new.fault ≡ None }
         ensures before { self.new.before + self.new.run ≤ self.old.before + self.old.run }
         ensures opens_capacity { deque_capacity self.new.opens ≡ deque_capacity self.old.opens }
-        ensures opens_len { deque_len self.new.opens ≡ deque_len self.old.opens - length returns.now }
+        ensures opens_len { deque_len self.new.opens ≡ deque_len self.old.opens - length returns.now.items }
         ensures states_capacity { deque_capacity self.new.states ≡ deque_capacity self.old.states }
         ensures states_len { deque_len self.new.states ≤ deque_len self.old.states }
     {
-        let mut pending = Segs::idle();
-        for unmatched in returns {
-            pending = self.take_return(burden, pending, unmatched);
+        let mut pending = Course::idle();
+        let mut left = returns.iter();
+        while let Some(unmatched) = left.next() {
+            pending.follow(&unmatched);
+            let Some(child) = self.opens.pop_back() else {
+                self.unmatched(&pending.segs(), unmatched.at());
+                self.returns.append(&left);
+                return Course::idle();
+            };
+            self.close(burden, &child, &mut pending);
         }
         pending
     }
 
-    /// One of them, where that is still to be done to the innermost frame.
-    fn take_return(&mut self, burden: Burdens, pending: Segs, unmatched: &Unmatched) -> Segs
+    /// The return of a frame that is open no longer, after what is still to be done to it. Then that is what is to be
+    /// done to the frame below it.
+    #[inline(always)]
+    fn close(&mut self, burden: Burdens, child: &Open, pending: &mut Course)
         requires sound { self.old.fault ≡ None }
-        requires laid { IsLaid self.old }
+        requires laid { AreLaid self.old.run self.old.before (child.now ∷ reverse self.old.opens.items) (reverse self.old.states.items) self.old.since }
         requires work { self.old.before + self.old.run < 2 ^ 127 }
-        requires room { deque_len self.old.opens ≡ 0 → vec_len self.old.returns < vec_capacity self.old.returns }
-        requires load { load burden (seen self.old) + cost pending + (cost unmatched.now.segs + worst burden) < 2 ^ 127 }
-        ensures value { (work : ℕ) → (summary_ops burden).along result (with_work work (seen self.new)) ≡ (summary_ops burden).ret unmatched.now.at ((summary_ops burden).along unmatched.now.segs ((summary_ops burden).along pending (with_work work (seen self.old)))) }
-        ensures load { load burden (seen self.new) + cost result ≤ load burden (seen self.old) + cost pending + (cost unmatched.now.segs + worst burden) }
+        requires load { load burden (seen_with child.now self.old) + cost pending.old + worst burden < 2 ^ 127 }
+        ensures value { (at work : ℕ) → (summary_ops burden).along pending.new (with_work work (seen self.new)) ≡ (summary_ops burden).ret at ((summary_ops burden).along pending.old (with_work work (seen_with child.now self.old))) }
+        ensures load { load burden (seen self.new) + cost pending.new ≤ load burden (seen_with child.now self.old) + cost pending.old + worst burden }
         ensures laid { IsLaid self.new }
         ensures fault { self.new.fault ≡ None }
         ensures work { self.new.before + self.new.run ≤ self.old.before + self.old.run }
-        ensures returns_capacity { vec_capacity self.new.returns ≡ vec_capacity self.old.returns }
-        ensures returns_len { vec_len self.new.returns ≡ vec_len self.old.returns + (1 - deque_len self.old.opens) }
-        ensures opens_capacity { deque_capacity self.new.opens ≡ deque_capacity self.old.opens }
-        ensures opens_len { deque_len self.new.opens ≡ deque_len self.old.opens - 1 }
+        ensures returns { self.new.returns ≡ self.old.returns }
+        ensures opens { self.new.opens ≡ self.old.opens }
         ensures states_capacity { deque_capacity self.new.states ≡ deque_capacity self.old.states }
         ensures states_len { deque_len self.new.states ≤ deque_len self.old.states }
     {
-        let segs = pending.then(unmatched.segs);
-        let Some(child) = self.opens.pop_back() else {
-            self.unmatched(&segs, unmatched.at);
-            return Segs::idle();
-        };
-        let next = fed(&mut self.states, &child, self.run, burden, &segs);
+        feed(&mut self.states, child, self.run, burden, pending);
         self.run = child.gap;
         self.before -= child.gap;
-        next
     }
 
     /// A return with no frame open, after these events, for which there is room.
     fn unmatched(&mut self, segs: &Segs, at: u32)
         requires none { self.old.opens.items ≡ [] }
         requires laid { IsLaid self.old }
-        requires room { vec_len self.old.returns < vec_capacity self.old.returns }
+        requires room { length self.old.returns.items < self.old.returns.room }
+        requires kept { self.old.returns.kept < self.old.returns.kept_room }
         requires load { cost (seen self.old).middle + cost segs.now < 2 ^ 127 }
         ensures returns { self.new.returns.items ≡ self.old.returns.items ++ record { segs = both_then (seen self.old).middle segs.now; at = at } ∷ [] }
         ensures value { seen self.new ≡ record (seen self.old) { returns = self.new.returns.items; middle = idle } }
@@ -188,14 +202,12 @@ impl Pile {
         ensures before { self.new.before ≡ self.old.before }
         ensures opens { self.new.opens ≡ self.old.opens }
         ensures states { self.new.states ≡ self.old.states }
-        ensures returns_len { vec_len self.new.returns ≡ vec_len self.old.returns + 1 }
-        ensures returns_capacity { vec_capacity self.new.returns ≡ vec_capacity self.old.returns }
+        ensures kept { self.new.returns.kept ≤ self.old.returns.kept + 1 }
+        ensures room { self.new.returns.room ≡ self.old.returns.room }
+        ensures kept_room { self.new.returns.kept_room ≡ self.old.returns.kept_room }
     {
         self.middle.run(self.run - self.since);
-        self.returns.push_reserved(Unmatched {
-            segs: self.middle.then(*segs),
-            at,
-        });
+        self.returns.push_reserved(&self.middle.then(*segs), at);
         self.middle = Segs::idle();
         self.since = self.run;
     }
@@ -273,8 +285,7 @@ impl Pile {
         ensures room { OnOk result (HasRoom self.new right.new) }
     {
         let rest = self.opens.len().saturating_sub(right.returns.len());
-        let unmatched = right.returns.len().saturating_sub(self.opens.len());
-        self.returns.reserve(unmatched)?;
+        self.returns.make_room(self.opens.len(), &right.returns)?;
         self.states.reserve(1)?;
         if right.opens.len() <= rest {
             let all = rest + right.opens.len();
@@ -307,9 +318,9 @@ impl Pile {
         ensures states_len { deque_len self.new.states ≤ deque_len self.old.states + 1 }
     {
         let end = self.before + self.run + right.outside();
-        let pending = self.return_all(burden, right.returns.as_slice());
+        let pending = self.return_all(burden, &right.returns);
         let next = end - self.before;
-        self.settle(&pending.then(right.middle()), next);
+        self.settle(&pending.segs().then(right.middle()), next);
     }
 
     /// This piece and a later one, for the join with which there is room.
@@ -359,7 +370,7 @@ impl Pile {
         ensures { IfOk result (λ p. SamePile self.now p) }
     {
         Ok(Pile {
-            returns: self.returns.to_vec(alloc)?,
+            returns: self.returns.copy(alloc)?,
             opens: copied(alloc, &self.opens)?,
             states: copied(alloc, &self.states)?,
             middle: self.middle,

@@ -12,8 +12,9 @@ ghost use Rattle.spp_piece.specs.Summary.{along_by, ret_by, pushed, working, sum
 ghost use Rattle.spp_piece.specs.Machine.{event, entered as entered_at};
 
 use crate::opens::{Open, keep, leave};
-use crate::pieces::{Kind, Segs, States, Unmatched};
+use crate::pieces::{Kind, Segs, States};
 use crate::pile::Pile;
+use crate::returns::Returns;
 use spp_cut::Part;
 use spp_event::{Event, EventFault};
 use spp_maxplus::Burdens;
@@ -25,7 +26,7 @@ use std::collections::VecDeque;
 #[derive(Drop)]
 pub(crate) struct Reading {
     /// The unmatched returns, in order.
-    pub(crate) returns: Vec<Unmatched>,
+    pub(crate) returns: Returns,
     /// The open frames, the outermost first.
     pub(crate) opens: Vec<Open>,
     /// The states of those frames that have kept ones, in the same order.
@@ -51,7 +52,7 @@ impl Reading {
         ensures laid { IsLaid result }
     {
         Reading {
-            returns: Vec::new(alloc),
+            returns: Returns::new(alloc),
             opens: Vec::new(alloc),
             states: Vec::new(alloc),
             middle: Segs::idle(),
@@ -134,10 +135,7 @@ impl Reading {
         ensures fault { self.new.fault ≡ self.old.fault }
     {
         self.middle.run(self.run - self.since);
-        self.returns.push(Unmatched {
-            segs: self.middle,
-            at,
-        })?;
+        self.returns.push(&self.middle, at)?;
         self.middle = Segs::idle();
         self.since = self.run;
         Ok(())

@@ -12,13 +12,14 @@ ghost use Rattle.spp_event.specs.Recordings.{Record};
 ghost use Rattle.spp_frame.specs.Nesting.{IsFirstBad};
 ghost use Rattle.spp_cut.specs.Parts.{records_in};
 ghost use Rattle.spp_piece.specs.Figures.{AreFigures};
-ghost use Rattle.spp_piece.specs.Bound.{cost, worst, AreCounted};
+ghost use Rattle.spp_piece.specs.Bound.{cost, worst};
 
 use crate::figures::Figures;
 use crate::frames::FrameReader;
-use crate::pieces::{Segs, States, Unmatched};
+use crate::pieces::{Segs, States};
 use crate::pile::Pile;
 use crate::reading::Reading;
+use crate::returns::ReturnReader;
 use spp_cut::Part;
 use spp_event::EventFault;
 use spp_frame::{Fault, Why};
@@ -149,11 +150,18 @@ impl Summary {
         self.pile.before + self.pile.run
     }
 
-    /// The returns whose frames were opened before the range, in order.
-    pub fn returns(&self) -> &[Unmatched]
-        ensures { result.now ≡ self.now.sum.returns }
+    /// The number of returns whose frames were opened before the range.
+    pub fn return_count(&self) -> usize
+        ensures { result ≡ length self.now.sum.returns }
     {
-        self.pile.returns.as_slice()
+        self.pile.returns.len()
+    }
+
+    /// The returns whose frames were opened before the range, the first one first.
+    pub fn returns(&self) -> ReturnReader<'_>
+        ensures { result ≡ self.now.sum.returns }
+    {
+        ReturnReader::new(&self.pile.returns)
     }
 
     /// What the events after the last unmatched return do to the frame that is then the innermost.
@@ -209,8 +217,8 @@ impl Summary {
     pub fn finish(&self) -> Result<Figures, Fault>
         requires { self.now.first ≡ 0 }
         ensures value { result ≡ figures_of self.now.events (action self.now.burden self.now.sum (Ok at_start)) }
-        ensures figures { IfOk result (λ f. (rs : List Record) → AreCounted rs → self.now ≡ account_of self.now.burden 0 rs → AreFigures rs self.now.burden f) }
-        ensures fault { IfErr result (λ f. (rs : List Record) → AreCounted rs → self.now ≡ account_of self.now.burden 0 rs → IsFirstBad rs f) }
+        ensures figures { IfOk result (λ f. (rs : List Record) → self.now ≡ account_of self.now.burden 0 rs → AreFigures rs self.now.burden f) }
+        ensures fault { IfErr result (λ f. (rs : List Record) → self.now ≡ account_of self.now.burden 0 rs → IsFirstBad rs f) }
     {
         // Its invariant tells that burdens are small.
         let _burden = self.burden;
@@ -222,9 +230,9 @@ impl Summary {
         requires { self.now.first ≡ 0 }
         ensures { result ≡ figures_of self.now.events (action self.now.burden self.now.sum (Ok at_start)) }
     {
-        if let [unmatched, ..] = self.pile.returns.as_slice() {
+        if let Some(unmatched) = self.pile.returns.iter().next() {
             return Err(Fault {
-                at: unmatched.at,
+                at: unmatched.at(),
                 why: Why::RootReturn,
             });
         }

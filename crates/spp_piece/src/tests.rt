@@ -159,7 +159,7 @@ fn parts_are_told_apart_and_together(rt: HostRuntime) -> Result<(), Fail> {
         return Err(AllocError.into());
     };
     assert_eq!(rt; front.work(), 3);
-    assert!(rt; front.returns().is_empty());
+    assert_eq!(rt; front.return_count(), 0);
     assert_eq!(rt; front.middle(), Segs::idle());
     assert_eq!(rt; front.frame_count(), 2);
     let mut frames = front.frames();
@@ -167,21 +167,22 @@ fn parts_are_told_apart_and_together(rt: HostRuntime) -> Result<(), Fail> {
     assert_eq!(rt; frames.next(), Some(spawned(0, 0)));
     assert_eq!(rt; frames.next(), None);
     assert_eq!(rt; back.work(), 3);
-    let returns = [
-        Unmatched {
-            segs: Segs::idle(),
-            at: 3,
-        },
-        Unmatched {
-            segs: Segs::strand(1),
-            at: 5,
-        },
-    ];
-    assert_eq!(rt; back.returns(), returns.as_slice());
+    let mut returns = back.returns();
+    let first = Unmatched {
+        segs: Segs::idle(),
+        at: 3,
+    };
+    assert_eq!(rt; returns.next(), Some(first));
+    let second = Unmatched {
+        segs: Segs::strand(1),
+        at: 5,
+    };
+    assert_eq!(rt; returns.next(), Some(second));
+    assert_eq!(rt; returns.next(), None);
     assert_eq!(rt; back.middle(), Segs::strand(2));
     assert_eq!(rt; back.frame_count(), 0);
     assert_eq!(rt; both.work(), 6);
-    assert!(rt; both.returns().is_empty() && both.frame_count() == 0);
+    assert!(rt; both.return_count() == 0 && both.frame_count() == 0);
     let end = States {
         plain: State {
             spine: 2,

@@ -5,3 +5,4 @@ pub mod Passing
 pub mod Actions
 pub mod Following
 pub mod Gone
+mod Linked

@@ -1,6 +1,6 @@
 -- The returns and the frames of a part, one by one.
-use Rattle.std.proofs.Common.{◌≡◌, ℕ, ◌+◌, ◌<◌, ◌≤◌, List, [], ◌∷◌, length, get_or, take, drop, reverse, None, sym, ap, subst, ◌∙◌, arith}
-use Rattle.std.proofs.lemmas.List.{drop_more, take_more, take_all, length-reverse, reverse-reverse}
+use Rattle.std.proofs.Common.{◌≡◌, ℕ, ◌+◌, ◌<◌, ◌≤◌, List, [], ◌∷◌, length, get_or, take, reverse, None, sym, ap, subst, ◌∙◌, arith}
+use Rattle.std.proofs.lemmas.List.{take_more, take_all, length-reverse, reverse-reverse}
 use Rattle.spp_maxplus.specs.declared.seg.Seg.{Seg}
 use Rattle.spp_maxplus.specs.declared.state.State.{State}
 use Rattle.spp_maxplus.specs.Seg.{rise, peak, along, spawned}
@@ -61,20 +61,19 @@ pub record Reached (w : Walk) (rest : List Unmatched) (end : Now) (bound : ℕ) 
   pub is : play_returns entry_ops rest at ≡ end
   pub load : peaks at.frames + rises rest ≤ bound
 
-pub record Step (w : Walk) (rs : List Unmatched) (k : ℕ) (r : Unmatched) (end : Now) (bound : ℕ) : Type 0 where
+pub record Step (w : Walk) (r : Unmatched) (rest : List Unmatched) (end : Now) (bound : ℕ) : Type 0 where
   pub mid : Now
   pub peak : peak w.top.frame.state + rise r.segs.plain ≤ bound
   pub stands : Stands (moved r.segs.plain w) mid
   pub goes : IsOpen (ret_by mid.frames mid.work).frames
   pub load : peaks mid.frames ≤ bound
-  pub next : (v : Walk) → Stands v (ret_by mid.frames mid.work) → Reached v (drop (k + 1) rs) end bound
+  pub next : (v : Walk) → Stands v (ret_by mid.frames mid.work) → Reached v rest end bound
 
-pub return_step : (w : Walk) (rs : List Unmatched) (k : ℕ) (r : Unmatched) (end : Now) (bound : ℕ) → Reached w (drop k rs) end bound
-    → IsOpen end.frames → k < length rs → r ≡ get_or rs k r → Step w rs k r end bound
-return_step w rs k r end bound h goes lt is =
-    let e : drop k rs ≡ r ∷ drop (k + 1) rs = drop_more rs k r lt ∙ ap (λ q. q ∷ drop (k + 1) rs) (sym is) in
-    let load : peaks h.at.frames + rises (r ∷ drop (k + 1) rs) ≤ bound = subst (λ l. peaks h.at.frames + rises l ≤ bound) e h.load in
-    let same : play_returns entry_ops (r ∷ drop (k + 1) rs) h.at ≡ end = subst (λ l. play_returns entry_ops l h.at ≡ end) e h.is in
+pub return_step : (w : Walk) (rs : List Unmatched) (r : Unmatched) (rest : List Unmatched) (end : Now) (bound : ℕ) → rs ≡ r ∷ rest → Reached w rs end bound
+    → IsOpen end.frames → Step w r rest end bound
+return_step w rs r rest end bound e h goes =
+    let load : peaks h.at.frames + rises (r ∷ rest) ≤ bound = subst (λ l. peaks h.at.frames + rises l ≤ bound) e h.load in
+    let same : play_returns entry_ops (r ∷ rest) h.at ≡ end = subst (λ l. play_returns entry_ops l h.at ≡ end) e h.is in
     let mid = along_by h.at.frames r.segs.plain h.at.work in
     let up = along_load h.at.frames r.segs.plain h.at.work in
     let down = ret_load mid.frames mid.work in
@@ -82,7 +81,7 @@ return_step w rs k r end bound h goes lt is =
       mid = mid;
       peak = omega (arith, top_peak w h.at h.stands);
       stands = moved_stands w r.segs.plain h.at h.stands;
-      goes = open_before (drop (k + 1) rs) (ret_by mid.frames mid.work) (subst (λ (z : Now). IsOpen z.frames) (sym same) goes);
+      goes = open_before rest (ret_by mid.frames mid.work) (subst (λ (z : Now). IsOpen z.frames) (sym same) goes);
       load = omega arith;
       next = λ v s. record { at = ret_by mid.frames mid.work; stands = s; is = same; load = omega arith };
     }

@@ -1,5 +1,5 @@
 -- What the steps of the walk do to the stack that stands.
-use Rattle.std.proofs.Common.{◌≡◌, ℕ, ◌+◌, ◌-◌, ◌<◌, ◌≤◌, Bool, true, not, ◌||◌, nat_eq, List, [], ◌∷◌, ◌++◌, length, get_or, Some, refl, sym, ap, subst, ◌∙◌, arith}
+use Rattle.std.proofs.Common.{cond, ◌≡◌, ℕ, ◌+◌, ◌-◌, ◌<◌, ◌≤◌, Bool, true, not, ◌||◌, nat_eq, List, [], ◌∷◌, ◌++◌, length, get_or, Some, refl, sym, ap, subst, ◌∙◌, arith}
 use Rattle.std.specs.Prelude.{slice_get}
 use Rattle.std.proofs.lemmas.Option.{slice_get_read}
 use Rattle.spp_maxplus.specs.declared.seg.Seg.{Seg}
@@ -16,12 +16,11 @@ use Rattle.spp_piece.specs.declared.pieces.Kind.TheVariants.{Called, Spawned}
 use Rattle.spp_piece.specs.Model.{kind_of}
 use Rattle.spp_stack.specs.declared.node.Node.{Node}
 use Rattle.spp_stack.specs.declared.walk.Walk.{Walk}
-use Rattle.spp_stack.specs.declared.marks.Marks.{Marks}
 use Rattle.spp_stack.specs.Marks.{is_marked}
-use Rattle.spp_stack.specs.Chain.{IsNodeOf, IsUnder, IsChain, IsTree, IsMarked}
+use Rattle.spp_stack.specs.Chain.{IsNodeOf, IsUnder, IsChain, IsLink, AreLinks, IsTree, AreLinked, IsMarked, opens_site}
 use Rattle.spp_stack.specs.Machine.{Now, entered, along_by, push_by, ret_by, worked_by, IsOpen, peaks}
 use Rattle.spp_stack.specs.Walk.{HoldsAll, Stands, IsKept, IsCleared, Unmarked, moved}
-use Rattle.spp_stack.proofs.Chains.{chain_more, tree_more, under_more, chain_depth, link}
+use Rattle.spp_stack.proofs.Chains.{chain_more, links_more, tree_more, linked_more, under_more, under_either, chain_depth, link}
 use Rattle.spp_stack.proofs.Marked.{marks_added, marks_removed}
 
 -- ---- the innermost frame's state changes
@@ -41,10 +40,12 @@ moved_stands w g x s = by x.frames s.frames
         };
         under = h.under;
         rest = h.rest;
+        links = record { site = h.links.site; func = h.links.func; site_under = h.links.site_under; func_under = h.links.func_under };
         sites = h.sites;
         funcs = h.funcs;
       };
       tree = s.tree;
+      linked = s.linked;
       work = s.work;
     }
 
@@ -62,6 +63,7 @@ pub kept_stands : (w v : Walk) → v.nodes.items ≡ w.nodes.items ++ w.top ∷ 
 kept_stands w v nodes top sites funcs work long x s = record {
   frames = by x.frames s.frames;
   tree = subst (λ l. IsTree l) (sym nodes) (tree_more w.nodes.items w.top s.tree (under x.frames s.frames));
+  linked = subst (λ l. AreLinked l) (sym nodes) (linked_more w.nodes.items w.top s.linked (links x.frames s.frames));
   work = work ∙ s.work;
 }
   where
@@ -69,14 +71,20 @@ kept_stands w v nodes top sites funcs work long x s = record {
     under [] h = absurd h
     under (f ∷ fs) h = h.under
 
+    links : (fs : List EntryFrame) → HoldsAll w fs → AreLinks w.nodes.items (length w.nodes.items) w.top
+    links [] h = absurd h
+    links (f ∷ fs) h = h.links
+
     by : (fs : List EntryFrame) → HoldsAll w fs → HoldsAll v fs
     by [] h = absurd h
     by (f ∷ fs) h = record {
       top = subst (λ (t : Node). IsNodeOf t f fs) (sym top) h.top;
       under = subst (λ (t : Node). IsUnder (length v.nodes.items) t.below) (sym top) (under_more (length w.nodes.items) (length v.nodes.items) w.top.below (omega arith) h.under);
       rest = subst (λ (t : Node). IsChain v.nodes.items t.below fs) (sym top) (subst (λ l. IsChain l w.top.below fs) (sym nodes) (chain_more w.nodes.items w.top w.top.below fs h.rest));
-      sites = λ y. ap (λ (m : Marks). is_marked m.bits.items y) sites ∙ h.sites y;
-      funcs = λ y. ap (λ (m : Marks). is_marked m.bits.items y) funcs ∙ h.funcs y;
+      links = subst (λ (t : Node). AreLinks v.nodes.items (length v.nodes.items) t) (sym top)
+          (subst (λ l. AreLinks l (length v.nodes.items) w.top) (sym nodes) (links_more w.nodes.items w.top (length w.nodes.items) (length v.nodes.items) w.top (omega arith) h.links));
+      sites = λ y. ap (λ (m : List Bool). is_marked m y) sites ∙ h.sites y;
+      funcs = λ y. ap (λ (m : List Bool). is_marked m y) funcs ∙ h.funcs y;
     }
 
 pub depth_fits : (w : Walk) (x : Now) → IsKept w → Stands w x → w.top.depth + 1 ≤ length w.nodes.items
@@ -110,7 +118,7 @@ made w x = record {
   func = x.func;
   before = w.work + x.before;
   state = x.states.plain;
-  top_site = not (is_marked w.sites.bits.items x.site);
+  top_site = not (is_marked w.sites x.site);
   top_caller = w.top.top_func;
 }
 
@@ -122,11 +130,13 @@ pub record Entered (w v : Walk) (x : Frame) : Type 0 where
   pub last : below + 1 ≡ length w.nodes.items
   pub is_below : v.top.below ≡ Some below
   pub depth : v.top.depth ≡ w.top.depth + 1
-  pub top_func : v.top.top_func ≡ not (is_marked w.funcs.bits.items x.func)
-  pub site : is_marked v.sites.bits.items x.site ≡ true
-  pub sites : (y : ℕ) → (y ≡ x.site → ⊥) → is_marked v.sites.bits.items y ≡ is_marked w.sites.bits.items y
-  pub func : is_marked v.funcs.bits.items x.func ≡ true
-  pub funcs : (y : ℕ) → (y ≡ x.func → ⊥) → is_marked v.funcs.bits.items y ≡ is_marked w.funcs.bits.items y
+  pub top_func : v.top.top_func ≡ not (is_marked w.funcs x.func)
+  pub site_link : v.top.site_link ≡ cond (opens_site w.top) (Some below) w.top.site_link
+  pub func_link : v.top.func_link ≡ cond w.top.top_func (Some below) w.top.func_link
+  pub site : is_marked v.sites x.site ≡ true
+  pub sites : (y : ℕ) → (y ≡ x.site → ⊥) → is_marked v.sites y ≡ is_marked w.sites y
+  pub func : is_marked v.funcs x.func ≡ true
+  pub funcs : (y : ℕ) → (y ≡ x.func → ⊥) → is_marked v.funcs y ≡ is_marked w.funcs y
 
 pub entered_stands : (w v : Walk) (x : Frame) → IsKept w → Entered w v x → (n : Now) → Stands w n → Stands v (push_by n.frames x n.work)
 entered_stands w v x kept e n s = by n.frames s.frames
@@ -136,7 +146,7 @@ entered_stands w v x kept e n s = by n.frames s.frames
     by (f ∷ fs) h =
         let all = f ∷ fs in
         let new = entered x (f ∷ fs) f fs n.work in
-        let site : not (is_marked w.sites.bits.items x.site) ≡ not (has_site (f ∷ fs) x.site) = ap not (h.sites x.site) in
+        let site : not (is_marked w.sites x.site) ≡ not (has_site (f ∷ fs) x.site) = ap not (h.sites x.site) in
         let caller : w.top.top_func ≡ not (has_func fs f.func) = h.top.top_func in
         let work : w.work + x.before ≡ n.work + x.before = ap (λ k. k + x.before) s.work in
         let frame : v.top.frame ≡ new = e.frame ∙ cc in
@@ -154,11 +164,18 @@ entered_stands w v x kept e n s = by n.frames s.frames
             };
             under = subst (λ o. IsUnder (length v.nodes.items) o) (sym e.is_below) (subst (λ (u : _). e.below < length u) (ap (λ z. z.items) (sym e.nodes)) down);
             rest = subst (λ o. IsChain v.nodes.items o (f ∷ fs)) (sym e.is_below) (subst (λ u. IsChain u (Some e.below) (f ∷ fs)) (ap (λ z. z.items) (sym e.nodes)) chain);
-            sites = λ y. marks_added x.site (is_marked w.sites.bits.items) (is_marked v.sites.bits.items) (has_site (f ∷ fs)) e.site e.sites h.sites y
+            links = subst (λ u. AreLinks u (length u) v.top) (ap (λ z. z.items) (sym e.nodes)) (record {
+              site = subst (λ o. IsLink opens_site (λ m. m.site_link) w.nodes.items o v.top.site_link) (sym e.is_below) (w.top, get, e.site_link);
+              func = subst (λ o. IsLink (λ m. m.top_func) (λ m. m.func_link) w.nodes.items o v.top.func_link) (sym e.is_below) (w.top, get, e.func_link);
+              site_under = subst (λ o. IsUnder (length w.nodes.items) o) (sym e.site_link) (under_either (opens_site w.top) e.below (length w.nodes.items) w.top.site_link down h.links.site_under);
+              func_under = subst (λ o. IsUnder (length w.nodes.items) o) (sym e.func_link) (under_either w.top.top_func e.below (length w.nodes.items) w.top.func_link down h.links.func_under);
+            });
+            sites = λ y. marks_added x.site (is_marked w.sites) (is_marked v.sites) (has_site (f ∷ fs)) e.site e.sites h.sites y
                 ∙ ap (λ b. b || has_site (f ∷ fs) y) (sym (key_kind x.kind x.site y));
-            funcs = λ y. marks_added x.func (is_marked w.funcs.bits.items) (is_marked v.funcs.bits.items) (has_func (f ∷ fs)) e.func e.funcs h.funcs y;
+            funcs = λ y. marks_added x.func (is_marked w.funcs) (is_marked v.funcs) (has_func (f ∷ fs)) e.func e.funcs h.funcs y;
           };
           tree = subst (λ u. IsTree u) (ap (λ z. z.items) (sym e.nodes)) s.tree;
+          linked = subst (λ u. AreLinked u) (ap (λ z. z.items) (sym e.nodes)) s.linked;
           work = e.work ∙ s.work;
         }
 
@@ -184,6 +201,8 @@ pub record Closed (w u v : Walk) : Type 0 where
   pub under : v.top.below ≡ node.below
   pub depth : v.top.depth ≡ node.depth
   pub top_func : v.top.top_func ≡ node.top_func
+  pub site_link : v.top.site_link ≡ node.site_link
+  pub func_link : v.top.func_link ≡ node.func_link
   pub frame : v.top.frame ≡ record node.frame { state = after_child unburdened w.top.frame.kind w.top.frame.at (close w.top.frame.state) node.frame.state }
 
 pub closed_stands : (w u v : Walk) → Closed w u v → (x : Now) → Stands w x → IsOpen (ret_by x.frames x.work).frames → Stands v (ret_by x.frames x.work)
@@ -194,7 +213,9 @@ closed_stands w u v e x s = by x.frames s.frames
     by (f ∷ []) h goes = absurd goes
     by (f ∷ g ∷ fs) h goes =
         let down : e.below < length w.nodes.items = subst (λ o. IsUnder (length w.nodes.items) o) e.is_below h.under in
-        let l = link w.nodes.items w.top.below e.below g fs e.node e.is_below (slice_get_read w.nodes.items _ e.below e.node refl down e.got) h.rest in
+        let get = slice_get_read w.nodes.items _ e.below e.node refl down e.got in
+        let l = link w.nodes.items w.top.below e.below g fs e.node e.is_below get h.rest in
+        let links = s.linked e.below e.node get in
         let is : w.top.frame ≡ f = h.top.frame in
         let parent : e.node.frame ≡ g = l.is.frame in
         let items : w.nodes.items ≡ v.nodes.items = ap (λ z. z.items) (sym e.nodes) in
@@ -212,16 +233,23 @@ closed_stands w u v e x s = by x.frames s.frames
             };
             under = subst (λ o. IsUnder (length v.nodes.items) o) (sym e.under) (subst (λ u. IsUnder (length u) e.node.below) items (under_more e.below (length w.nodes.items) e.node.below (omega arith) l.under));
             rest = subst (λ o. IsChain v.nodes.items o fs) (sym e.under) (subst (λ u. IsChain u e.node.below fs) items l.rest);
-            sites = λ y. ap (λ (m : Marks). is_marked m.bits.items y) e.sites
-                ∙ marks_removed f.top_site f.site w.sites.bits.items u.sites.bits.items (has_site (g ∷ fs)) marked.0
-                (subst (λ (z : EntryFrame). IsCleared z.top_site z.site w.sites.bits.items u.sites.bits.items) is e.cleared.sites)
+            links = subst (λ u. AreLinks u (length u) v.top) items (record {
+              site = subst (λ o. IsLink opens_site (λ m. m.site_link) w.nodes.items o v.top.site_link) (sym e.under) (subst (λ o. IsLink opens_site (λ m. m.site_link) w.nodes.items e.node.below o) (sym e.site_link) links.site);
+              func = subst (λ o. IsLink (λ m. m.top_func) (λ m. m.func_link) w.nodes.items o v.top.func_link) (sym e.under) (subst (λ o. IsLink (λ m. m.top_func) (λ m. m.func_link) w.nodes.items e.node.below o) (sym e.func_link) links.func);
+              site_under = subst (λ o. IsUnder (length w.nodes.items) o) (sym e.site_link) (under_more e.below (length w.nodes.items) e.node.site_link (omega arith) links.site_under);
+              func_under = subst (λ o. IsUnder (length w.nodes.items) o) (sym e.func_link) (under_more e.below (length w.nodes.items) e.node.func_link (omega arith) links.func_under);
+            });
+            sites = λ y. ap (λ (m : List Bool). is_marked m y) e.sites
+                ∙ marks_removed f.top_site f.site w.sites u.sites (has_site (g ∷ fs)) marked.0
+                (subst (λ (z : EntryFrame). IsCleared z.top_site z.site w.sites u.sites) is e.cleared.sites)
                 (λ z. h.sites z ∙ ap (λ b. b || has_site (g ∷ fs) z) (marked.1 z)) y;
-            funcs = λ y. ap (λ (m : Marks). is_marked m.bits.items y) e.funcs
-                ∙ marks_removed w.top.top_func f.func w.funcs.bits.items u.funcs.bits.items (has_func (g ∷ fs)) h.top.top_func
-                (subst (λ (z : EntryFrame). IsCleared w.top.top_func z.func w.funcs.bits.items u.funcs.bits.items) is e.cleared.funcs)
+            funcs = λ y. ap (λ (m : List Bool). is_marked m y) e.funcs
+                ∙ marks_removed w.top.top_func f.func w.funcs u.funcs (has_func (g ∷ fs)) h.top.top_func
+                (subst (λ (z : EntryFrame). IsCleared w.top.top_func z.func w.funcs u.funcs) is e.cleared.funcs)
                 h.funcs y;
           };
           tree = subst (λ u. IsTree u) items s.tree;
+          linked = subst (λ u. AreLinked u) items s.linked;
           work = e.work ∙ s.work;
         }
 
@@ -241,9 +269,11 @@ worked_stands w v n nodes top sites funcs work x s = by x.frames s.frames
         top = subst (λ (t : Node). IsNodeOf t f fs) (sym top) h.top;
         under = subst (λ (t : Node). IsUnder (length v.nodes.items) t.below) (sym top) (subst (λ l. IsUnder (length l) w.top.below) same h.under);
         rest = subst (λ (t : Node). IsChain v.nodes.items t.below fs) (sym top) (subst (λ l. IsChain l w.top.below fs) same h.rest);
-        sites = λ y. ap (λ (m : Marks). is_marked m.bits.items y) sites ∙ h.sites y;
-        funcs = λ y. ap (λ (m : Marks). is_marked m.bits.items y) funcs ∙ h.funcs y;
+        links = subst (λ (t : Node). AreLinks v.nodes.items (length v.nodes.items) t) (sym top) (subst (λ l. AreLinks l (length l) w.top) same h.links);
+        sites = λ y. ap (λ (m : List Bool). is_marked m y) sites ∙ h.sites y;
+        funcs = λ y. ap (λ (m : List Bool). is_marked m y) funcs ∙ h.funcs y;
       };
       tree = subst (λ l. IsTree l) same s.tree;
+      linked = subst (λ l. AreLinked l) same s.linked;
       work = work ∙ ap (λ k. k + n) s.work;
     }

@@ -1,5 +1,5 @@
 -- Stacks of open frames that share their frames as nodes.
-use Rattle.std.specs.Prelude.{◌≡◌, ℕ, ◌<◌, Bool, not, List, [], ◌∷◌, length, slice_get, Option, Some, None}
+use Rattle.std.specs.Prelude.{◌≡◌, ℕ, ◌<◌, Bool, false, not, cond, List, [], ◌∷◌, length, slice_get, Option, Some, None}
 use Rattle.spp_dag.specs.declared.stack.EntryFrame.{EntryFrame}
 use Rattle.spp_dag.specs.declared.stack.FrameKind.{FrameKind}
 use Rattle.spp_dag.specs.declared.stack.FrameKind.TheVariants.{Root, Called, Spawned}
@@ -41,15 +41,43 @@ pub record Stacks : Type 0 where
   pub nodes : List Node
   pub starts : List Start
 
+-- Whether the frame is the lowest that was entered by its site. The root was entered by none.
+abbrev pub enters : FrameKind → Bool → Bool
+enters Root top = false
+enters Called top = top
+enters Spawned top = top
+
+abbrev pub opens_site : Node → Bool
+opens_site node = enters node.frame.kind node.frame.top_site
+
+-- The link of a node over that one, to the nearest node with a mark: to that one where it has the mark, else where its own
+-- link goes. There is none over no node.
+abbrev pub IsLink : (Node → Bool) → (Node → Option ℕ) → List Node → Option ℕ → Option ℕ → Type 0
+IsLink mark link_of nodes None link = link ≡ None
+IsLink mark link_of nodes (Some below) link =
+    (node : Node) × (slice_get nodes below ≡ Some node) × (link ≡ cond (mark node) (Some below) (link_of node))
+
+-- both links of the node, to nodes with lesser numbers than this
+pub record AreLinks (nodes : List Node) (n : ℕ) (node : Node) : Type 0 where
+  pub site : IsLink opens_site (λ m. m.site_link) nodes node.below node.site_link
+  pub func : IsLink (λ m. m.top_func) (λ m. m.func_link) nodes node.below node.func_link
+  pub site_under : IsUnder n node.site_link
+  pub func_under : IsUnder n node.func_link
+
 -- nodes below come before those above
 abbrev pub IsTree : List Node → Type 0
 IsTree nodes = (n : ℕ) (node : Node) → slice_get nodes n ≡ Some node → IsUnder n node.below
 
--- there is a start; the nodes of the starts are there, and those below come before those above
+-- each node has its links
+abbrev pub AreLinked : List Node → Type 0
+AreLinked nodes = (n : ℕ) (node : Node) → slice_get nodes n ≡ Some node → AreLinks nodes n node
+
+-- there is a start; the nodes of the starts are there; those below come before those above; links are right
 pub record AreSound (s : Stacks) : Type 0 where
   pub some : 0 < length s.starts
   pub tops : (k : ℕ) (start : Start) → slice_get s.starts k ≡ Some start → start.top < length s.nodes
   pub tree : IsTree s.nodes
+  pub linked : AreLinked s.nodes
 
 -- these are the frames of start k, the innermost first, and that is the work before it
 pub record IsStart (s : Stacks) (k : ℕ) (frames : List EntryFrame) (before : ℕ) : Type 0 where
@@ -68,7 +96,8 @@ pub record StackOf : Type 0 where
 abbrev pub HasFrames : StackOf → List EntryFrame → Type 0
 HasFrames s frames = IsChain s.nodes (Some s.top) frames
 
--- its node is there, and nodes below come before those above
+-- its node is there; nodes below come before those above; links are right
 pub record IsSoundStack (s : StackOf) : Type 0 where
   pub top : s.top < length s.nodes
   pub tree : IsTree s.nodes
+  pub linked : AreLinked s.nodes

@@ -5,7 +5,7 @@ use Rattle.spp_dag.specs.Steps.{has_site, has_func}
 use Rattle.spp_stack.specs.declared.node.Node.{Node}
 use Rattle.spp_stack.specs.declared.walk.Walk.{Walk}
 use Rattle.spp_stack.specs.Marks.{is_marked}
-use Rattle.spp_stack.specs.Chain.{IsNodeOf, IsUnder, IsChain, IsTree}
+use Rattle.spp_stack.specs.Chain.{IsNodeOf, IsUnder, IsChain, AreLinks, IsTree, AreLinked}
 use Rattle.spp_stack.specs.Machine.{Now}
 use Rattle.spp_maxplus.specs.declared.seg.Seg.{Seg}
 use Rattle.spp_maxplus.specs.Seg.{act}
@@ -15,8 +15,9 @@ pub record Holds (w : Walk) (f : EntryFrame) (fs : List EntryFrame) : Type 0 whe
   pub top : IsNodeOf w.top f fs
   pub under : IsUnder (length w.nodes.items) w.top.below
   pub rest : IsChain w.nodes.items w.top.below fs
-  pub sites : (x : ℕ) → is_marked w.sites.bits.items x ≡ has_site (f ∷ fs) x
-  pub funcs : (x : ℕ) → is_marked w.funcs.bits.items x ≡ has_func (f ∷ fs) x
+  pub links : AreLinks w.nodes.items (length w.nodes.items) w.top
+  pub sites : (x : ℕ) → is_marked w.sites x ≡ has_site (f ∷ fs) x
+  pub funcs : (x : ℕ) → is_marked w.funcs x ≡ has_func (f ∷ fs) x
 
 abbrev pub HoldsAll : Walk → List EntryFrame → Type 0
 HoldsAll w [] = ⊥
@@ -25,6 +26,7 @@ HoldsAll w (f ∷ fs) = Holds w f fs
 pub record Stands (w : Walk) (x : Now) : Type 0 where
   pub frames : HoldsAll w x.frames
   pub tree : IsTree w.nodes.items
+  pub linked : AreLinked w.nodes.items
   pub work : w.work ≡ x.work
 
 -- the last node is the innermost frame's
@@ -49,5 +51,5 @@ pub record Unmarked (w v : Walk) : Type 0 where
   pub nodes : v.nodes ≡ w.nodes
   pub top : v.top ≡ w.top
   pub work : v.work ≡ w.work
-  pub sites : IsCleared w.top.frame.top_site w.top.frame.site w.sites.bits.items v.sites.bits.items
-  pub funcs : IsCleared w.top.top_func w.top.frame.func w.funcs.bits.items v.funcs.bits.items
+  pub sites : IsCleared w.top.frame.top_site w.top.frame.site w.sites v.sites
+  pub funcs : IsCleared w.top.top_func w.top.frame.func w.funcs v.funcs

@@ -1,26 +1,11 @@
 //! How a summary is read.
 
-ghost use Rattle.std.specs.Prelude.{◌≡◌, ◌<◌, ◌^◌, length, reverse, slice_index_or, IfOk};
+ghost use Rattle.std.specs.Prelude.{◌≡◌, ◌<◌, ◌^◌, reverse, IfOk};
 ghost use Rattle.spp_piece.specs.Bound.{worst};
 
 use spp_maxplus::Burdens;
-use spp_piece::{Frame, Summary, Unmatched};
+use spp_piece::{Frame, Summary};
 use std::alloc::{AllocError, Global};
-
-/// How many frames that were opened before the part it closes.
-pub(crate) fn return_count(summary: &Summary) -> usize
-    ensures { result ≡ length summary.now.sum.returns }
-{
-    summary.returns().len()
-}
-
-/// The return at `k` of these, in order.
-pub(crate) fn return_at(summary: &Summary, k: usize) -> Unmatched
-    requires { k < length summary.now.sum.returns }
-    ensures { result ≡ slice_index_or summary.now.sum.returns k result }
-{
-    summary.returns()[k]
-}
 
 /// The frames that it leaves open, the outermost first. It takes time and memory linear in their number.
 pub(crate) fn open_frames(alloc: Global, summary: &Summary) -> Result<Vec<Frame>, AllocError>

@@ -1,10 +1,14 @@
 //! The stacks where the parts of a trace begin.
 
-ghost use Rattle.std.specs.Prelude.{◌≡◌, ℕ, ◌+◌, ◌<◌, [], ◌∷◌, List, length, slice_get, IfSome, Some, None};
+ghost use Rattle.std.specs.Prelude.{◌≡◌, ℕ, ◌+◌, ◌<◌, ◌||◌, [], ◌∷◌, List, length, slice_get, IfSome, OnOk, Some, None};
+ghost use Rattle.spp_dag.specs.Steps.{has_site, has_func};
+ghost use Rattle.spp_stack.specs.Marks.{is_marked};
 ghost use Rattle.spp_dag.specs.declared.stack.EntryFrame.{EntryFrame as FrameValue};
 ghost use Rattle.spp_stack.specs.Chain.{IsStart, IsNodeOf, HasFrames};
 
+use crate::marks::Marks;
 use crate::node::Node;
+use std::alloc::AllocError;
 use std::marker::Model;
 
 /// Where a part begins, or where the trace ends.
@@ -93,6 +97,56 @@ impl<'e> Entry<'e> {
                 work: self.work,
             }),
         }
+    }
+}
+
+impl<'e> Entry<'e> {
+    /// Puts into the sets the sites by which the frames were entered, but not the root's, and the functions that they
+    /// run. It visits each site and each function once, however many frames there are; besides the sets may grow.
+    ///
+    /// # Errors
+    ///
+    /// Where a growth was refused.
+    pub fn mark(&self, sites: &mut Marks, funcs: &mut Marks) -> Result<(), AllocError>
+        ensures sites { OnOk result ((fs : List FrameValue) → HasFrames self.now fs → (x : ℕ) → is_marked sites.new x ≡ (is_marked sites.old x || has_site fs x)) }
+        ensures funcs { OnOk result ((fs : List FrameValue) → HasFrames self.now fs → (x : ℕ) → is_marked funcs.new x ≡ (is_marked funcs.old x || has_func fs x)) }
+    {
+        self.mark_sites(sites)?;
+        self.mark_funcs(funcs)
+    }
+
+    /// The node of that number.
+    fn node(&self, number: u32) -> &'e Node
+        requires { number < length self.now.nodes }
+        ensures { slice_get self.now.nodes number ≡ Some result.now }
+    {
+        &self.nodes[number as usize]
+    }
+
+    /// The sites among them.
+    fn mark_sites(&self, sites: &mut Marks) -> Result<(), AllocError>
+        ensures { OnOk result ((fs : List FrameValue) → HasFrames self.now fs → (x : ℕ) → is_marked sites.new x ≡ (is_marked sites.old x || has_site fs x)) }
+    {
+        let mut next = Some(self.top);
+        while let Some(number) = next {
+            let node = self.node(number);
+            sites.add_if(node.opens_site(), node.frame.site)?;
+            next = node.site_link;
+        }
+        Ok(())
+    }
+
+    /// The functions among them.
+    fn mark_funcs(&self, funcs: &mut Marks) -> Result<(), AllocError>
+        ensures { OnOk result ((fs : List FrameValue) → HasFrames self.now fs → (x : ℕ) → is_marked funcs.new x ≡ (is_marked funcs.old x || has_func fs x)) }
+    {
+        let mut next = Some(self.top);
+        while let Some(number) = next {
+            let node = self.node(number);
+            funcs.add_if(node.top_func, node.frame.func)?;
+            next = node.func_link;
+        }
+        Ok(())
     }
 }
 

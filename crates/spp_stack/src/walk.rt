@@ -1,6 +1,6 @@
 //! The stack of open frames while the parts are gone through.
 
-ghost use Rattle.std.specs.Prelude.{◌≡◌, ℕ, ◌+◌, ◌<◌, ◌≤◌, ◌^◌, ◌++◌, [], ◌∷◌, length, reverse, IfOk, OnOk, None};
+ghost use Rattle.std.specs.Prelude.{◌≡◌, ℕ, ◌+◌, ◌<◌, ◌≤◌, ◌^◌, ◌++◌, [], ◌∷◌, length, reverse, cond, IfOk, OnOk, Some, None};
 ghost use Rattle.spp_maxplus.specs.State.{unburdened};
 ghost use Rattle.spp_maxplus.specs.Seg.{peak, rise};
 ghost use Rattle.spp_dag.specs.Stack.{after_child as child_returned};
@@ -13,7 +13,7 @@ ghost use Rattle.spp_stack.specs.Walk.{Stands, IsKept, AreKept, moved, Unmarked}
 
 use crate::marks::Marks;
 use crate::node::Node;
-use crate::reading::{open_frames, return_at, return_count};
+use crate::reading::open_frames;
 use spp_dag::{EntryFrame, FrameKind};
 use spp_maxplus::{Burdens, Seg, State};
 use spp_piece::{Frame, Kind, Summary};
@@ -36,6 +36,8 @@ pub(crate) struct Walk {
 fn root_node(root: u32) -> Node
     ensures node { IsNodeOf result (root_entry root) [] }
     ensures below { result.below ≡ None }
+    ensures site_link { result.site_link ≡ None }
+    ensures func_link { result.func_link ≡ None }
 {
     Node {
         frame: EntryFrame {
@@ -51,6 +53,8 @@ fn root_node(root: u32) -> Node
         below: None,
         depth: 0,
         top_func: true,
+        site_link: None,
+        func_link: None,
     }
 }
 
@@ -74,6 +78,13 @@ fn after_child(kind: FrameKind, at: u32, weight: u128, parent: State) -> State
         FrameKind::Called => parent.after_call(weight),
         FrameKind::Spawned => parent.after_spawn(at, weight, Burdens::default()),
     }
+}
+
+/// The link of a node over one that is marked or not, from that one's own.
+fn nearest(marked: bool, number: u32, link: Option<u32>) -> Option<u32>
+    ensures { result ≡ cond marked (Some number) link }
+{
+    if marked { Some(number) } else { link }
 }
 
 impl Walk {
@@ -166,6 +177,8 @@ impl Walk {
         ensures nodes { self.new.nodes ≡ self.old.nodes }
         ensures work { self.new.work ≡ self.old.work }
     {
+        let last = self.last();
+        let top = self.top;
         let node = Node {
             frame: EntryFrame {
                 kind: kind_of(frame.kind),
@@ -177,9 +190,11 @@ impl Walk {
                 top_site: !self.sites.has(frame.site),
                 top_caller: self.top.top_func,
             },
-            below: Some(self.last()),
-            depth: self.top.depth + 1,
+            below: Some(last),
+            depth: top.depth + 1,
             top_func: !self.funcs.has(frame.func),
+            site_link: nearest(top.opens_site(), last, top.site_link),
+            func_link: nearest(top.top_func, last, top.func_link),
         };
         self.sites.add(frame.site)?;
         self.funcs.add(frame.func)?;
@@ -211,8 +226,9 @@ impl Walk {
         ensures nodes { self.new.nodes ≡ self.old.nodes }
         ensures work { self.new.work ≡ self.old.work }
     {
-        for k in 0..return_count(summary) {
-            self.along(&return_at(summary, k).segs.plain);
+        let mut returns = summary.returns();
+        while let Some(unmatched) = returns.next() {
+            self.along(&unmatched.segs.plain);
             self.close();
         }
     }

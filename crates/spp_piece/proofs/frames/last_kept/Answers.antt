@@ -1,4 +1,4 @@
-use Rattle.std.proofs.Common.{◌≡◌, ◌<◌, ◌-◌, ◌∷◌, reverse, take, get_or, true, sym, ap₂, ◌∙◌, arith}
+use Rattle.std.proofs.Common.{◌<◌, sym, ap₂, ◌∙◌, arith}
 use Rattle.spp_piece.specs.Told.{kept_of, past}
 use Rattle.spp_piece.proofs.Lists.{reverse_take}
 use Rattle.spp_piece.proofs.frames.last_kept.Goals as goal

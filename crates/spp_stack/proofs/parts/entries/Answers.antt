@@ -92,3 +92,15 @@ loop-summary-preserved c =
       tops = λ k t e. tops_more c.loop-summary.starts.items (record { top = c.last.result; work = c.pass.new.self.work }) (length c.loop-summary.walk.nodes.items) (length c.pass.new.self.nodes.items)
           (omega (arith, c.in_ok-pass.ensures.count)) (omega (arith, c.last.ensures)) c.loop-summary.invariant.tops k t (subst (λ l. slice_get l k ≡ Some t) c.in_ok-push-2.ensures.items e);
     }
+
+pub invariant_of-result : goal.invariant_of-result
+invariant_of-result c =
+    let p = c.requires.parts in
+    let g = c.loop-summary.invariant.gone p.0 p.1 in
+    let s = g.stands in
+    record {
+      some = omega (arith, c.loop-summary.invariant.starts);
+      tops = c.loop-summary.invariant.tops;
+      tree = s.tree;
+      linked = s.linked;
+    }

@@ -1,4 +1,4 @@
-use Rattle.std.proofs.Common.{◌≡◌, ◌<◌, ◌^◌, length, take, reverse, sym, ap, ap₂, subst, ◌∙◌, arith, refl}
+use Rattle.std.proofs.Common.{◌≡◌, ◌<◌, ◌^◌, take, reverse, sym, ap, subst, arith}
 use Rattle.std.proofs.lemmas.List.{take_all}
 use Rattle.spp_piece.specs.Bound.{load_frames}
 use Rattle.spp_piece.specs.Told.{frames_of, AreLaid}

@@ -1,9 +1,9 @@
-use Rattle.std.proofs.Common.{◌≡◌, ◌+◌, reverse, sym, ap, ◌∙◌, arith}
+use Rattle.std.proofs.Common.{◌+◌, reverse, sym, ap, ap₂, ◌∙◌, arith}
 use Rattle.std.proofs.lemmas.List.{length-reverse}
-use Rattle.spp_piece.specs.Bound.{cost, load_returns}
+use Rattle.spp_piece.specs.Bound.{cost}
 use Rattle.spp_piece.specs.Pair.{then}
 use Rattle.spp_piece.specs.Pile.{seen, with_work}
-use Rattle.spp_piece.specs.Summary.{summary_ops, play_returns}
+use Rattle.spp_piece.specs.Summary.{summary_ops}
 use Rattle.spp_piece.proofs.Bounds.{cost-then}
 use Rattle.spp_piece.proofs.Chains.{few_kept}
 use Rattle.spp_piece.proofs.Laid.{outside_within}
@@ -17,7 +17,7 @@ overflow_add-end-2 c =
 
 pub settle-requires-clause-load : goal.settle-requires-clause-load
 settle-requires-clause-load c =
-    omega (arith, c.return_all-pending.ensures.load, ap cost c.then.ensures, cost-then c.return_all-pending.result c.middle.result, ap cost c.middle.ensures, ap (load_returns c.args.burden) c.as_slice.ensures.value, c.requires.load)
+    omega (arith, c.return_all-pending.ensures.load, ap cost c.then.ensures, ap cost c.segs.ensures, cost-then c.segs.result c.middle.result, ap cost c.middle.ensures, c.requires.load)
 
 pub returns-clause-value : goal.returns-clause-value
 returns-clause-value c =
@@ -29,9 +29,9 @@ returns-clause-value c =
     let a = c.return_all-pending.result in
     ap (with_work w) c.settle.ensures.value
     ∙ with-along c.args.burden s w c.then.result c.return_all-pending.ensures.fault
-    ∙ ap (λ g. o.along g (with_work w s)) (c.then.ensures ∙ ap (then a) c.middle.ensures)
+    ∙ ap (λ g. o.along g (with_work w s)) (c.then.ensures ∙ ap₂ then c.segs.ensures c.middle.ensures)
     ∙ sym (along-twice c.args.burden a (seen r).middle (with_work w s))
-    ∙ ap (o.along (seen r).middle) (c.return_all-pending.ensures.value ∙ ap (λ rs. play_returns o rs (seen p)) c.as_slice.ensures.value)
+    ∙ ap (o.along (seen r).middle) c.return_all-pending.ensures.value
 
 pub returns-clause-few : goal.returns-clause-few
 returns-clause-few c =

@@ -1,11 +1,11 @@
-use Rattle.std.proofs.Common.{◌≡◌, ◌-◌, ◌+◌, ◌<◌, ◌∷◌, true, length, reverse, sym, ap, ◌∙◌, arith, refl}
+use Rattle.std.proofs.Common.{◌≡◌, ◌-◌, ◌<◌, ◌∷◌, true, length, reverse, sym, ap, ◌∙◌, arith, refl}
 use Rattle.std.specs.VecDeque.{deque_len}
 use Rattle.std.proofs.lemmas.List.{length-reverse}
 use Rattle.spp_piece.specs.declared.opens.Open.{Open}
 use Rattle.spp_piece.specs.Bound.{cost}
 use Rattle.spp_piece.specs.Pair.{act, after_strand}
 use Rattle.spp_piece.specs.Told.{kept_of, past}
-use Rattle.spp_piece.proofs.Laid.{ends_at, settle_ends, settle_fits, Fits}
+use Rattle.spp_piece.proofs.Laid.{ends_at, settle_ends, settle_fits}
 use Rattle.spp_piece.proofs.pile.Pile.settle.Goals as goal
 
 pub run-requires-2 : goal.run-requires-2

@@ -1,7 +1,6 @@
-use Rattle.std.proofs.Common.{◌≡◌, ℕ, ◌-◌, ◌+◌, ◌<◌, ◌∷◌, length, reverse, vec_len, true, sym, ap, ap₂, subst, ◌∙◌, arith, refl}
+use Rattle.std.proofs.Common.{◌≡◌, ℕ, ◌-◌, ◌+◌, ◌<◌, ◌∷◌, length, reverse, vec_len, true, sym, ap, ◌∙◌, arith, refl}
 use Rattle.std.proofs.lemmas.List.{length-reverse}
 use Rattle.spp_piece.specs.declared.changes.Weights.{Weights}
-use Rattle.spp_piece.specs.declared.pieces.States.{States}
 use Rattle.spp_piece.specs.declared.opens.Open.{Open}
 use Rattle.spp_piece.specs.Pair.{after_strand, after_return, after_return_by}
 use Rattle.spp_piece.specs.Bound.{worst}

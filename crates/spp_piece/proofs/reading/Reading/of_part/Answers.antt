@@ -1,4 +1,4 @@
-use Rattle.std.proofs.Common.{◌≡◌, ◌+◌, ◌<◌, length, get_or, drop, Ok, Err, sym, ap, ◌∙◌, arith, refl}
+use Rattle.std.proofs.Common.{◌≡◌, ◌+◌, ◌<◌, get_or, drop, Ok, Err, sym, ap, ◌∙◌, arith, refl}
 use Rattle.std.proofs.lemmas.List.{at_drop_all}
 use Rattle.spp_event.specs.declared.records.EventFault.TheVariants.{Truncated}
 use Rattle.spp_event.specs.Recordings.{Recording, record_at}

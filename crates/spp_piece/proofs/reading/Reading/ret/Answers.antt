@@ -1,4 +1,4 @@
-use Rattle.std.proofs.Common.{◌≡◌, ◌++◌, [], ◌∷◌, reverse, OnOk, sym, ap, subst, ◌∙◌, arith}
+use Rattle.std.proofs.Common.{◌≡◌, [], ◌∷◌, reverse, OnOk, sym, ap, subst, ◌∙◌, arith}
 use Rattle.spp_piece.specs.Summary.{ret_by}
 use Rattle.spp_piece.specs.Reading.{so_far}
 use Rattle.spp_piece.specs.Told.{told, frames_of}

@@ -1,4 +1,4 @@
-use Rattle.std.proofs.Common.{◌≡◌, ℕ, ◌-◌, ◌+◌, vec_len, arith, refl}
+use Rattle.std.proofs.Common.{ℕ, ◌-◌, ◌+◌, vec_len, arith, refl}
 use Rattle.spp_maxplus.specs.declared.state.Burdens.{Burdens}
 use Rattle.spp_piece.specs.Pair.{free, start}
 use Rattle.spp_piece.specs.declared.opens.Open.{Open}

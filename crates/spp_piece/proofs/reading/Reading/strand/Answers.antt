@@ -1,4 +1,4 @@
-use Rattle.std.proofs.Common.{◌≡◌, ◌+◌, ◌∙◌, ap, reverse, arith}
+use Rattle.std.proofs.Common.{◌+◌, ◌∙◌, ap, reverse, arith}
 use Rattle.spp_piece.specs.Told.{told}
 use Rattle.spp_piece.proofs.Laid.{strand_told, laid_later}
 use Rattle.spp_piece.proofs.reading.Reading.strand.Goals as goal

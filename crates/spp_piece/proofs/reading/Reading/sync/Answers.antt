@@ -1,8 +1,6 @@
-use Rattle.std.proofs.Common.{◌≡◌, ◌-◌, length, reverse, ap, subst, ◌∙◌, arith, refl}
+use Rattle.std.proofs.Common.{ap, ◌∙◌, arith, refl}
 use Rattle.spp_piece.specs.declared.opens.Open.{Open}
-use Rattle.spp_piece.specs.Pair.{after_strand, after_sync, sync}
-use Rattle.spp_piece.specs.Summary.{along_by}
-use Rattle.spp_piece.specs.Told.{told, frames_of, AreLaid}
+use Rattle.spp_piece.specs.Pair.{after_sync}
 use Rattle.spp_piece.proofs.Laid.{ends_at, top_kept, sync_ends}
 use Rattle.spp_piece.proofs.reading.Reading.sync.Goals as goal
 

@@ -1,4 +1,4 @@
-use Rattle.std.proofs.Common.{length, reverse, ◌+◌, ◌≤◌, ◌^◌, get_or, Result, Ok, Err, ap, sym, ◌∙◌, arith}
+use Rattle.std.proofs.Common.{◌∷◌, ◌≡◌, length, reverse, ◌+◌, get_or, Result, Ok, Err, ap, sym, ◌∙◌, arith}
 use Rattle.std.proofs.lemmas.List.{length-reverse}
 use Rattle.spp_frame.specs.declared.Fault.{Fault}
 use Rattle.spp_frame.specs.declared.Why.TheVariants.{RootReturn, Unclosed}
@@ -7,6 +7,7 @@ use Rattle.spp_piece.specs.Account.{Account, at_start}
 use Rattle.spp_piece.specs.Action.{action}
 use Rattle.spp_piece.specs.Ends.{figures_of}
 use Rattle.spp_piece.specs.Pile.{seen}
+use Rattle.spp_piece.specs.Returns.{unmatched_of}
 use Rattle.spp_piece.proofs.Chains.{frames_count}
 use Rattle.spp_piece.proofs.Steps.{no_return}
 use Rattle.spp_piece.proofs.Finish.{root_return, bad_record, unclosed}
@@ -15,20 +16,22 @@ use Rattle.spp_piece.proofs.summary.Summary.ended.Goals as goal
 abbrev finished : Account → Result Figures Fault
 finished a = figures_of a.events (action a.burden a.sum (Ok at_start))
 
-pub returns-in-len1-up : goal.returns-in-len1-up
-returns-in-len1-up c =
-    let s = c.self.inside in
-    let p = s.pile in
-    let e = c.as_slice.ensures.value in
-    ap (λ us. Err (record { at = (get_or us 0 no_return).at; why = RootReturn })) e
-    ∙ sym (root_return s.burden s.events p.returns.items (seen p).middle (seen p).frames (p.before + p.run) p.fault no_return (omega (arith, ap length e, c.in-len1-up.len_at_least)))
-    ∙ ap finished c.self.view_is
-
 pub returns-in-Some : goal.returns-in-Some
 returns-in-Some c =
     let s = c.self.inside in
     let p = s.pile in
-    sym (bad_record s.burden s.events p.returns.items (seen p).middle (seen p).frames (p.before + p.run) p.fault (c.in-Some.at, c.in-Some.why) (omega (arith, ap length c.as_slice.ensures.value, c.in_default.len_below)) c.in-Some.is)
+    let r = unmatched_of c.in-Some.unmatched in
+    let e : p.returns.items ≡ r ∷ c.next.new.self.items = sym c.iter.ensures.items ∙ c.in-Some.ensures.some in
+    ap (λ n. Err (record { at = n; why = RootReturn })) (c.at.ensures ∙ ap (λ us. (get_or us 0 no_return).at) (sym e))
+    ∙ sym (root_return s.burden s.events p.returns.items (seen p).middle (seen p).frames (p.before + p.run) p.fault no_return (omega (arith, ap length e)))
+    ∙ ap finished c.self.view_is
+
+pub returns-in-Some-fault : goal.returns-in-Some-fault
+returns-in-Some-fault c =
+    let s = c.self.inside in
+    let p = s.pile in
+    let none = sym c.iter.ensures.items ∙ c.next.ensures.none c.in_default.is in
+    sym (bad_record s.burden s.events p.returns.items (seen p).middle (seen p).frames (p.before + p.run) p.fault (c.in-Some-fault.at, c.in-Some-fault.why) (omega (arith, ap length none)) c.in-Some-fault.is)
     ∙ ap finished c.self.view_is
 
 pub returns-then-depth-gt0 : goal.returns-then-depth-gt0
@@ -38,8 +41,9 @@ returns-then-depth-gt0 c =
     let n = length-reverse p.opens.items in
     let f = frames_count p.run p.before (reverse p.opens.items) (reverse p.states.items) in
     let k = p.opens.ok.0 in
+    let none = sym c.iter.ensures.items ∙ c.next.ensures.none c.in_default.is in
     ap (λ d. Err (record { at = s.events; why = Unclosed d })) (omega (arith, n, f, k, c.len-depth.ensures))
-    ∙ sym (unclosed s.burden s.events p.returns.items (seen p).middle (seen p).frames (p.before + p.run) p.fault (omega (arith, ap length c.as_slice.ensures.value, c.in_default.len_below)) c.in_default-fault.is (omega (arith, n, f, k, c.len-depth.ensures, c.if-depth-gt0.true)))
+    ∙ sym (unclosed s.burden s.events p.returns.items (seen p).middle (seen p).frames (p.before + p.run) p.fault (omega (arith, ap length none)) c.in_default-fault.is (omega (arith, n, f, k, c.len-depth.ensures, c.if-depth-gt0.true)))
     ∙ ap finished c.self.view_is
 
 pub overflow_cast-result : goal.overflow_cast-result

@@ -1,4 +1,4 @@
-use Rattle.std.proofs.Common.{◌≡◌, length, reverse, ap, ◌∙◌, arith}
+use Rattle.std.proofs.Common.{length, reverse, ap, arith}
 use Rattle.std.proofs.lemmas.List.{length-reverse}
 use Rattle.spp_piece.specs.Account.{Account}
 use Rattle.spp_piece.proofs.Chains.{frames_count}

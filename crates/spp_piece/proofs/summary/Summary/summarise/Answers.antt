@@ -1,6 +1,5 @@
-use Rattle.std.proofs.Common.{◌≡◌, Ok, ap, ◌∙◌}
+use Rattle.std.proofs.Common.{Ok, ap, ◌∙◌}
 use Rattle.spp_cut.specs.Parts.{records_in}
-use Rattle.spp_piece.specs.Stack.{run}
 use Rattle.spp_piece.specs.Action.{action}
 use Rattle.spp_piece.proofs.Stacks.{action_summary}
 use Rattle.spp_piece.proofs.summary.Summary.summarise.Goals as goal

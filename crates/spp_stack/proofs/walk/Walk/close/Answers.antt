@@ -28,5 +28,7 @@ returns-clause-stands c =
       under = refl;
       depth = refl;
       top_func = refl;
+      site_link = refl;
+      func_link = refl;
       frame = ap (λ (s : State). record node.frame { state = s }) state;
     })

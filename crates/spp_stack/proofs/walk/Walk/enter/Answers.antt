@@ -1,4 +1,4 @@
-use Rattle.std.proofs.Common.{not, refl, ap, arith}
+use Rattle.std.proofs.Common.{cond, Some, ◌∙◌, not, refl, ap, arith}
 use Rattle.spp_stack.proofs.Standing.{depth_fits, entered_stands}
 use Rattle.spp_stack.proofs.walk.Walk.enter.Goals as goal
 
@@ -15,11 +15,13 @@ returns-clause-stands c =
       nodes = refl;
       work = refl;
       frame = cc;
-      below = c.last.result;
-      last = c.last.ensures;
+      below = c.last-last.result;
+      last = c.last-last.ensures;
       is_below = refl;
       depth = refl;
       top_func = ap not c.has-2.ensures;
+      site_link = c.nearest.ensures ∙ ap (λ b. cond b (Some c.last-last.result) c.args.self.now.top.site_link) c.opens_site.ensures;
+      func_link = c.nearest-2.ensures;
       site = c.in_ok-add.ensures.there;
       sites = c.in_ok-add.ensures.others;
       func = c.in_ok-add-2.ensures.there;

@@ -2,7 +2,7 @@ use Rattle.std.proofs.Common.{◌≡◌, ◌∙◌, ap, arith, subst, List, leng
 use Rattle.std.proofs.lemmas.List.{length-reverse}
 use Rattle.spp_piece.specs.declared.pieces.Frame.{Frame}
 use Rattle.spp_piece.specs.Summary.{play_frames}
-use Rattle.spp_stack.specs.Machine.{Now, entry_ops}
+use Rattle.spp_stack.specs.Machine.{entry_ops}
 use Rattle.spp_stack.specs.Walk.{Stands}
 use Rattle.spp_stack.proofs.Passing.{frames_all, before_fits}
 use Rattle.spp_stack.proofs.walk.Walk.open_all.Goals as goal

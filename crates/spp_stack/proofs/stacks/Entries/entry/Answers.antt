@@ -1,0 +1,33 @@
+use Rattle.std.proofs.Common.{◌≡◌, length, Some, refl, sym, ap, subst, ◌∙◌, arith}
+use Rattle.std.specs.Prelude.{slice_get}
+use Rattle.std.proofs.lemmas.Option.{slice_get_read}
+use Rattle.spp_stack.specs.declared.stacks.Start.{Start}
+use Rattle.spp_stack.specs.Chain.{Stacks, IsChain, IsStart, IsTree, AreLinked}
+use Rattle.spp_stack.proofs.stacks.Entries.entry.Goals as goal
+
+start_is : (c : goal.After-as_slice) → slice_get c.self.inside.starts.items c.args.k ≡ Some c.index-start.result.now
+start_is c =
+    let s = c.self.inside.starts in
+    slice_get_read s.items _ c.args.k c.index-start.result.now refl (omega (arith, c.requires, ap (λ (z : Stacks). length z.starts) c.self.view_is)) c.index-start.ensures
+
+pub invariant_of-result : goal.invariant_of-result
+invariant_of-result c =
+    let e = c.as_slice.ensures.value in
+    let lt = c.self.invariant.tops c.args.k c.index-start.result.now (start_is c) in
+    record {
+      top = omega (arith, lt, ap length e);
+      tree = subst (λ l. IsTree l) (sym e) c.self.invariant.tree;
+      linked = subst (λ l. AreLinked l) (sym e) c.self.invariant.linked;
+    }
+
+pub returns : goal.returns
+returns c fs work h =
+    let s = c.index-start.result.now in
+    let get = start_is c in
+    let i = subst (λ (z : Stacks). IsStart z c.args.k fs work) (sym c.self.view_is) h in
+    let got = i.is in
+    let is : i.start ≡ s = cc in (
+      subst (λ l. IsChain l (Some s.top) fs) (sym c.as_slice.ensures.value)
+          (subst (λ (z : Start). IsChain c.self.inside.nodes.items (Some z.top) fs) is i.chain),
+      sym (i.work ∙ ap (λ (z : Start). z.work) is),
+    )

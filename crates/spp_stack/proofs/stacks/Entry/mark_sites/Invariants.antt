@@ -1,0 +1,15 @@
+use Rattle.std.proofs.Common.{List, length}
+use Rattle.spp_dag.specs.declared.stack.EntryFrame.{EntryFrame}
+use Rattle.spp_stack.specs.Chain.{IsUnder, HasFrames}
+use Rattle.spp_stack.proofs.Linked.{SitesMarking, count_of}
+use Rattle.spp_stack.proofs.stacks.Entry.mark_sites.Given as goal
+
+abbrev pub invariant-loop-next : goal.invariant-loop-next
+invariant-loop-next l =
+    record {
+      within : IsUnder (length l.self.nodes) l.next;
+      marking : (fs : List EntryFrame) → HasFrames l.self fs → SitesMarking l.self.nodes l.next l.fn.sites l.sites fs;
+    }
+
+abbrev pub decreases-loop-next : goal.decreases-loop-next
+decreases-loop-next l = count_of l.next
