@@ -1,6 +1,6 @@
 //! A set of small numbers.
 
-ghost use Rattle.std.specs.Prelude.{◌≡◌, ℕ, [], true, OnOk, OnErr};
+ghost use Rattle.std.specs.Prelude.{◌≡◌, ◌||◌, ℕ, [], true, false, cond, nat_eq, OnOk, OnErr};
 ghost use Rattle.spp_site.specs.Marks.{is_marked, with_mark, without};
 
 use std::alloc::{AllocError, Global};
@@ -59,6 +59,22 @@ impl Marks {
             self.bits.resize(place + 1, false)?;
         }
         self.bits[place] = true;
+        Ok(())
+    }
+
+    /// Puts a number in, if that is so; see [`Marks::add`].
+    ///
+    /// # Errors
+    ///
+    /// Where a growth was refused; the set then is as it was.
+    #[inline(always)]
+    pub fn add_if(&mut self, into: bool, x: u32) -> Result<(), AllocError>
+        ensures added { OnOk result ((y : ℕ) → is_marked self.new y ≡ (is_marked self.old y || cond into (nat_eq x y) false)) }
+        ensures stays { OnErr result (self.new ≡ self.old) }
+    {
+        if into {
+            self.add(x)?;
+        }
         Ok(())
     }
 

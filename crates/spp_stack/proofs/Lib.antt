@@ -1,5 +1,4 @@
 pub mod Chains
-pub mod Marked
 pub mod Standing
 pub mod Passing
 pub mod Actions

@@ -7,7 +7,7 @@ use Rattle.spp_dag.specs.declared.stack.FrameKind.{FrameKind}
 use Rattle.spp_dag.specs.declared.stack.FrameKind.TheVariants.{Root, Called, Spawned}
 use Rattle.spp_dag.specs.Steps.{has_site, has_func, same_key, site_by}
 use Rattle.spp_stack.specs.declared.node.Node.{Node}
-use Rattle.spp_stack.specs.Marks.{is_marked}
+use Rattle.spp_site.specs.Marks.{is_marked}
 use Rattle.spp_stack.specs.Chain.{IsNodeOf, IsUnder, IsChain, IsLink, IsMarked, enters, opens_site}
 
 -- frames told by their numbers: those that are marked and those below have all numbers that the frames have

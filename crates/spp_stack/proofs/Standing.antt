@@ -16,12 +16,12 @@ use Rattle.spp_piece.specs.declared.pieces.Kind.TheVariants.{Called, Spawned}
 use Rattle.spp_piece.specs.Model.{kind_of}
 use Rattle.spp_stack.specs.declared.node.Node.{Node}
 use Rattle.spp_stack.specs.declared.walk.Walk.{Walk}
-use Rattle.spp_stack.specs.Marks.{is_marked}
+use Rattle.spp_site.specs.Marks.{is_marked, with_mark, without}
 use Rattle.spp_stack.specs.Chain.{IsNodeOf, IsUnder, IsChain, IsLink, AreLinks, IsTree, AreLinked, IsMarked, opens_site}
 use Rattle.spp_stack.specs.Machine.{Now, entered, along_by, push_by, ret_by, worked_by, IsOpen, peaks}
-use Rattle.spp_stack.specs.Walk.{HoldsAll, Stands, IsKept, IsCleared, Unmarked, moved}
+use Rattle.spp_stack.specs.Walk.{HoldsAll, Stands, IsKept, Unmarked, moved}
 use Rattle.spp_stack.proofs.Chains.{chain_more, links_more, tree_more, linked_more, under_more, under_either, chain_depth, link}
-use Rattle.spp_stack.proofs.Marked.{marks_added, marks_removed}
+use Rattle.spp_site.proofs.Marked.{marked_more, marked_less}
 
 -- ---- the innermost frame's state changes
 
@@ -133,10 +133,8 @@ pub record Entered (w v : Walk) (x : Frame) : Type 0 where
   pub top_func : v.top.top_func ≡ not (is_marked w.funcs x.func)
   pub site_link : v.top.site_link ≡ cond (opens_site w.top) (Some below) w.top.site_link
   pub func_link : v.top.func_link ≡ cond w.top.top_func (Some below) w.top.func_link
-  pub site : is_marked v.sites x.site ≡ true
-  pub sites : (y : ℕ) → (y ≡ x.site → ⊥) → is_marked v.sites y ≡ is_marked w.sites y
-  pub func : is_marked v.funcs x.func ≡ true
-  pub funcs : (y : ℕ) → (y ≡ x.func → ⊥) → is_marked v.funcs y ≡ is_marked w.funcs y
+  pub sites : (y : ℕ) → is_marked v.sites y ≡ with_mark x.site (is_marked w.sites) y
+  pub funcs : (y : ℕ) → is_marked v.funcs y ≡ with_mark x.func (is_marked w.funcs) y
 
 pub entered_stands : (w v : Walk) (x : Frame) → IsKept w → Entered w v x → (n : Now) → Stands w n → Stands v (push_by n.frames x n.work)
 entered_stands w v x kept e n s = by n.frames s.frames
@@ -170,9 +168,9 @@ entered_stands w v x kept e n s = by n.frames s.frames
               site_under = subst (λ o. IsUnder (length w.nodes.items) o) (sym e.site_link) (under_either (opens_site w.top) e.below (length w.nodes.items) w.top.site_link down h.links.site_under);
               func_under = subst (λ o. IsUnder (length w.nodes.items) o) (sym e.func_link) (under_either w.top.top_func e.below (length w.nodes.items) w.top.func_link down h.links.func_under);
             });
-            sites = λ y. marks_added x.site (is_marked w.sites) (is_marked v.sites) (has_site (f ∷ fs)) e.site e.sites h.sites y
+            sites = λ y. e.sites y ∙ marked_more x.site (is_marked w.sites) (has_site (f ∷ fs)) h.sites y
                 ∙ ap (λ b. b || has_site (f ∷ fs) y) (sym (key_kind x.kind x.site y));
-            funcs = λ y. marks_added x.func (is_marked w.funcs) (is_marked v.funcs) (has_func (f ∷ fs)) e.func e.funcs h.funcs y;
+            funcs = λ y. e.funcs y ∙ marked_more x.func (is_marked w.funcs) (has_func (f ∷ fs)) h.funcs y;
           };
           tree = subst (λ u. IsTree u) (ap (λ z. z.items) (sym e.nodes)) s.tree;
           linked = subst (λ u. AreLinked u) (ap (λ z. z.items) (sym e.nodes)) s.linked;
@@ -240,12 +238,12 @@ closed_stands w u v e x s = by x.frames s.frames
               func_under = subst (λ o. IsUnder (length w.nodes.items) o) (sym e.func_link) (under_more e.below (length w.nodes.items) e.node.func_link (omega arith) links.func_under);
             });
             sites = λ y. ap (λ (m : List Bool). is_marked m y) e.sites
-                ∙ marks_removed f.top_site f.site w.sites u.sites (has_site (g ∷ fs)) marked.0
-                (subst (λ (z : EntryFrame). IsCleared z.top_site z.site w.sites u.sites) is e.cleared.sites)
+                ∙ subst (λ (z : EntryFrame). is_marked u.sites y ≡ without z.top_site z.site (is_marked w.sites) y) is (e.cleared.sites y)
+                ∙ marked_less f.top_site f.site (is_marked w.sites) (has_site (g ∷ fs)) marked.0
                 (λ z. h.sites z ∙ ap (λ b. b || has_site (g ∷ fs) z) (marked.1 z)) y;
             funcs = λ y. ap (λ (m : List Bool). is_marked m y) e.funcs
-                ∙ marks_removed w.top.top_func f.func w.funcs u.funcs (has_func (g ∷ fs)) h.top.top_func
-                (subst (λ (z : EntryFrame). IsCleared w.top.top_func z.func w.funcs u.funcs) is e.cleared.funcs)
+                ∙ subst (λ (z : EntryFrame). is_marked u.funcs y ≡ without w.top.top_func z.func (is_marked w.funcs) y) is (e.cleared.funcs y)
+                ∙ marked_less w.top.top_func f.func (is_marked w.funcs) (has_func (g ∷ fs)) h.top.top_func
                 h.funcs y;
           };
           tree = subst (λ u. IsTree u) items s.tree;

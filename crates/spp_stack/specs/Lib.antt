@@ -1,4 +1,3 @@
-pub mod Marks
 pub mod Chain
 pub mod Parts
 pub mod Machine

@@ -4,7 +4,7 @@ use Rattle.spp_dag.specs.declared.stack.EntryFrame.{EntryFrame}
 use Rattle.spp_dag.specs.Steps.{has_site, has_func}
 use Rattle.spp_stack.specs.declared.node.Node.{Node}
 use Rattle.spp_stack.specs.declared.walk.Walk.{Walk}
-use Rattle.spp_stack.specs.Marks.{is_marked}
+use Rattle.spp_site.specs.Marks.{is_marked, without}
 use Rattle.spp_stack.specs.Chain.{IsNodeOf, IsUnder, IsChain, AreLinks, IsTree, AreLinked}
 use Rattle.spp_stack.specs.Machine.{Now}
 use Rattle.spp_maxplus.specs.declared.seg.Seg.{Seg}
@@ -42,14 +42,9 @@ abbrev pub AreKept : List Node → List Node → Type 0
 AreKept nodes more = (o : Option ℕ) (fs : List EntryFrame) → IsChain nodes o fs → IsChain more o fs
 
 -- the site and the function of the innermost frame are no longer marked, where its own marks are set; the rest is the same
-abbrev pub IsCleared : Bool → ℕ → List Bool → List Bool → Type 0
-IsCleared false x bits after = bits ≡ after
-IsCleared true x bits after =
-    (is_marked after x ≡ false) × ((y : ℕ) → (y ≡ x → ⊥) → is_marked after y ≡ is_marked bits y)
-
 pub record Unmarked (w v : Walk) : Type 0 where
   pub nodes : v.nodes ≡ w.nodes
   pub top : v.top ≡ w.top
   pub work : v.work ≡ w.work
-  pub sites : IsCleared w.top.frame.top_site w.top.frame.site w.sites v.sites
-  pub funcs : IsCleared w.top.top_func w.top.frame.func w.funcs v.funcs
+  pub sites : (y : ℕ) → is_marked v.sites y ≡ without w.top.frame.top_site w.top.frame.site (is_marked w.sites) y
+  pub funcs : (y : ℕ) → is_marked v.funcs y ≡ without w.top.top_func w.top.frame.func (is_marked w.funcs) y

@@ -5,14 +5,12 @@
 //! of each node lead past the frames whose site, or whose function, is open further down too.
 #![tactic(auto)]
 
-mod marks;
 mod node;
 mod parts;
 mod reading;
 mod stacks;
 mod walk;
 
-pub use marks::Marks;
 pub use node::Node;
 pub use parts::entries;
 pub use stacks::{Entries, Entry};

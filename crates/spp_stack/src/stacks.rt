@@ -2,12 +2,12 @@
 
 ghost use Rattle.std.specs.Prelude.{◌≡◌, ℕ, ◌+◌, ◌<◌, ◌||◌, [], ◌∷◌, List, length, slice_get, IfSome, OnOk, Some, None};
 ghost use Rattle.spp_dag.specs.Steps.{has_site, has_func};
-ghost use Rattle.spp_stack.specs.Marks.{is_marked};
+ghost use Rattle.spp_site.specs.Marks.{is_marked};
 ghost use Rattle.spp_dag.specs.declared.stack.EntryFrame.{EntryFrame as FrameValue};
 ghost use Rattle.spp_stack.specs.Chain.{IsStart, IsNodeOf, HasFrames};
 
-use crate::marks::Marks;
 use crate::node::Node;
+use spp_site::Marks;
 use std::alloc::AllocError;
 use std::marker::Model;
 

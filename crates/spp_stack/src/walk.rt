@@ -11,12 +11,12 @@ ghost use Rattle.spp_stack.specs.Chain.{IsNodeOf};
 ghost use Rattle.spp_stack.specs.Machine.{Now, now, ret_by, push_by, entry_ops, root_entry, IsOpen, peaks, rises, plain_load};
 ghost use Rattle.spp_stack.specs.Walk.{Stands, IsKept, AreKept, moved, Unmarked};
 
-use crate::marks::Marks;
 use crate::node::Node;
 use crate::reading::open_frames;
 use spp_dag::{EntryFrame, FrameKind};
 use spp_maxplus::{Burdens, Seg, State};
 use spp_piece::{Frame, Kind, Summary};
+use spp_site::Marks;
 use std::alloc::{AllocError, Global};
 
 /// The open frames before some event: the innermost by value, those below it as nodes. Nodes don't change.
@@ -120,12 +120,9 @@ impl Walk {
     fn unmark(&mut self)
         ensures { Unmarked self.old self.new }
     {
-        if self.top.frame.top_site {
-            self.sites.remove(self.top.frame.site);
-        }
-        if self.top.top_func {
-            self.funcs.remove(self.top.frame.func);
-        }
+        self.sites
+            .remove_if(self.top.frame.top_site, self.top.frame.site);
+        self.funcs.remove_if(self.top.top_func, self.top.frame.func);
     }
 
     /// The innermost frame returns to the one below it.

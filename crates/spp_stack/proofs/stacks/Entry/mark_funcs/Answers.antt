@@ -25,5 +25,5 @@ loop-next-preserved c =
       within = under_more n (length nodes) node.func_link (omega arith) links.func_under;
       marking = λ fs h.
           marking_next (λ m. m.top_func) (λ m. m.func_link) (λ m. m.frame.func) has_func func_law nodes (λ j m g. let l = linked j m g in l.func) c.loop-next.next n node c.args.funcs.now c.loop-next.funcs c.add_if.new.self fs
-          c.in-Some.is c.node-node.ensures (λ x. c.in_ok-add_if.ensures x) (c.loop-next.invariant.marking fs h);
+          c.in-Some.is c.node-node.ensures (λ x. c.in_ok-add_if.ensures.added x) (c.loop-next.invariant.marking fs h);
     }

@@ -1,6 +1,6 @@
 use Rattle.std.proofs.Common.{◌<◌, ◌||◌, cond, nat_eq, false, length, ap, subst, ◌∙◌, arith}
 use Rattle.spp_dag.specs.Steps.{has_site}
-use Rattle.spp_stack.specs.Marks.{is_marked}
+use Rattle.spp_site.specs.Marks.{is_marked}
 use Rattle.spp_stack.specs.Chain.{StackOf, IsUnder, AreLinked, opens_site}
 use Rattle.spp_stack.proofs.Chains.{under_more}
 use Rattle.spp_stack.proofs.Linked.{marking_next, site_law, count_less}
@@ -26,5 +26,5 @@ loop-next-preserved c =
       within = under_more n (length nodes) node.site_link (omega arith) links.site_under;
       marking = λ fs h.
           marking_next opens_site (λ m. m.site_link) (λ m. m.frame.site) has_site site_law nodes (λ j m g. let l = linked j m g in l.site) c.loop-next.next n node c.args.sites.now c.loop-next.sites c.add_if.new.self fs
-          c.in-Some.is c.node-node.ensures (λ x. c.in_ok-add_if.ensures x ∙ ap (λ b. is_marked c.loop-next.sites x || cond b (nat_eq node.frame.site x) false) c.opens_site.ensures) (c.loop-next.invariant.marking fs h);
+          c.in-Some.is c.node-node.ensures (λ x. c.in_ok-add_if.ensures.added x ∙ ap (λ b. is_marked c.loop-next.sites x || cond b (nat_eq node.frame.site x) false) c.opens_site.ensures) (c.loop-next.invariant.marking fs h);
     }

@@ -22,8 +22,6 @@ returns-clause-stands c =
       top_func = ap not c.has-2.ensures;
       site_link = c.nearest.ensures ∙ ap (λ b. cond b (Some c.last-last.result) c.args.self.now.top.site_link) c.opens_site.ensures;
       func_link = c.nearest-2.ensures;
-      site = c.in_ok-add.ensures.there;
-      sites = c.in_ok-add.ensures.others;
-      func = c.in_ok-add-2.ensures.there;
-      funcs = c.in_ok-add-2.ensures.others;
+      sites = c.in_ok-add.ensures.added;
+      funcs = c.in_ok-add-2.ensures.added;
     })
