@@ -1,11 +1,11 @@
 -- The records of a body, by their places.
-use Rattle.std.proofs.Common.{◌≡◌, ℕ, ◌+◌, ◌-◌, ◌*◌, ◌<◌, ◌≤◌, List, ◌++◌, length, take, drop, Err, refl, sym, ap, subst, ◌∙◌, arith}
+use Rattle.std.proofs.Common.{◌≡◌, ℕ, ◌+◌, ◌*◌, ◌<◌, List, length, drop, Err, refl, ◌∙◌, arith}
 use Rattle.std.proofs.lemmas.Bool.{lt-ltb}
-use Rattle.std.proofs.lemmas.List.{length-take, length-take-le, length-drop, drop-append-le, take-append-le, drop-take, take-take, drop-drop}
+use Rattle.std.proofs.lemmas.List.{length-take, length-drop}
 use Rattle.std.proofs.lemmas.List.FromFn.{length-map-range_with_len, get_or-map-range_with_len}
 use Rattle.spp_event.specs.declared.records.EventFault.TheVariants.{Truncated}
 use Rattle.spp_event.specs.Records.{read_record}
-use Rattle.spp_event.specs.Recordings.{Recording, Record, place, records_of, record_at}
+use Rattle.spp_event.specs.Recordings.{place, records_of, record_at}
 
 pub length-records_of : (sites funcs count : ℕ) (body : List ℕ) → length (records_of sites funcs count body) ≡ count
 length-records_of sites funcs count body = length-map-range_with_len (λ i. read_record sites funcs (place body i)) 0 count

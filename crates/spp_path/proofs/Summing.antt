@@ -1,12 +1,12 @@
 -- In a well-formed trace the pass that sums up the rows of the path meets the conditions of each step, and ends with
 -- these rows.
-use Rattle.std.proofs.Common.{◌≡◌, ℕ, zero, suc, ◌+◌, ◌-◌, ◌*◌, ◌<◌, ◌≤◌, ◌^◌, ◌&&◌, Bool, true, false, cond, nat_eq, List, [], ◌∷◌, ◌++◌, length, map, take, get_or, set, replicate, reverse, slice_index, slice_index_or, Option, Some, None, Ok, Err, unwrap_or, refl, sym, ap, ap₂, subst, ◌∙◌, arith, inl, inr, IfOk}
+use Rattle.std.proofs.Common.{◌≡◌, ℕ, suc, ◌+◌, ◌-◌, ◌*◌, ◌<◌, ◌≤◌, ◌^◌, ◌&&◌, Bool, true, false, cond, nat_eq, List, [], ◌∷◌, ◌++◌, length, map, take, slice_index_or, Option, Some, None, Ok, Err, unwrap_or, refl, sym, ap, ap₂, subst, ◌∙◌, arith, inl, IfOk}
 use Rattle.std.specs.Option.{option_map}
 use Rattle.std.specs.List.{slice_get}
 use Rattle.std.specs.FinMap as map
 use Rattle.std.specs.Ordering.{nat_cmp}
-use Rattle.std.proofs.lemmas.Bool.{eq-eqb, ne_eqb, both_ways, cases_Bool, cases_lt}
-use Rattle.std.proofs.lemmas.List.{length-map, length-replicate, length-set, take_all}
+use Rattle.std.proofs.lemmas.Bool.{eq-eqb, ne_eqb, both_ways}
+use Rattle.std.proofs.lemmas.List.{length-map, take_all}
 use Rattle.std.proofs.lemmas.Option.{slice_get-map, slice_get-get_or, slice_get_past}
 use Rattle.spp_event.specs.declared.records.Event.{Event}
 use Rattle.spp_event.specs.declared.records.Event.TheVariants.{Strand, Call, Spawn, Ret, Sync}
@@ -47,7 +47,7 @@ use Rattle.spp_path.proofs.PathSpans.{passed, entered_span}
 use Rattle.spp_path.proofs.RowSums.{full_row, none_owed, closed_owed, Low, low_zero, low_plus, low_closed, low_fits}
 use Rattle.spp_path.proofs.Running.{running_first, marked}
 use Rattle.spp_path.proofs.Places.{PathFrame, entries, first, AreOpen}
-use Rattle.spp_path.proofs.Summed.{no_weight, owed, on, on_true, shown, tell, shares_to, At, Summed, StrandDone, strand_next, SyncDone, sync_next, CallDone, call_next, SpawnDone, spawn_next, ReturnDone, HasFirst, return_next, heads, closes_with, row_is, return_rows, return_low}
+use Rattle.spp_path.proofs.Summed.{no_weight, owed, on, on_true, shown, tell, shares_to, At, Summed, StrandDone, strand_next, SyncDone, sync_next, CallDone, call_next, SpawnDone, spawn_next, HasFirst, return_next, heads, closes_with, row_is, return_rows, return_low}
 
 -- ---- the start
 

@@ -1,10 +1,7 @@
-use Rattle.std.proofs.Common.{◌≡◌, ℕ, ◌+◌, ◌<◌, length, Ok, Err, sym, ap, subst, ◌∙◌, arith}
-use Rattle.spp_event.specs.declared.records.Event.{Event}
-use Rattle.spp_event.specs.declared.records.Event.TheVariants.{Strand, Call, Spawn, Ret, Sync}
-use Rattle.spp_event.specs.Recordings.{Recording, record_at}
+use Rattle.std.proofs.Common.{◌≡◌, ℕ, ◌+◌, ◌<◌, length, sym, ap, subst, ◌∙◌, arith}
+use Rattle.spp_event.specs.Recordings.{Recording}
 use Rattle.spp_path.specs.declared.rows.PathRows.{PathRows}
 use Rattle.spp_path.specs.Rows.{told, start_told}
-use Rattle.spp_path.specs.Tables.{IsPathTable}
 use Rattle.spp_path.proofs.Summing.{Kept, start_in, marks_len, ready_open, ready_add, ready_skip, ready_return, ready_pass, next_pass, next_strand, next_sync, next_call, next_spawn, next_return, ready_finish, finished_in}
 use Rattle.spp_path.proofs.rows.path_table.Goals as goal
 use Rattle.spp_path.proofs.rows.path_table.Goals.{in-Strand, in-Call+in_ok-call-in-Call, in-Spawn+in_ok-spawn-in-Spawn, in-Ret+in_ok-ret-in-Ret, in-Sync}

@@ -1,4 +1,3 @@
-use Rattle.std.proofs.Common.{◌≡◌}
 use Rattle.spp_path.proofs.Summing.{Kept}
 use Rattle.spp_path.proofs.rows.path_table.Given as goal
 

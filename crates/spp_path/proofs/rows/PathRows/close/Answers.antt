@@ -1,10 +1,9 @@
-use Rattle.std.proofs.Common.{◌≡◌, ◌-◌, ◌<◌, ◌≤◌, ◌+◌, true, false, not, List, [], ◌∷◌, ◌++◌, length, reverse, get_or, set, take, ℕ, Bool, refl, sym, ap, ap₂, subst, ◌∙◌, arith}
-use Rattle.std.proofs.lemmas.List.{reverse-append}
+use Rattle.std.proofs.Common.{◌≡◌, ◌-◌, List, length, reverse, get_or, take, refl, sym, ap, subst, ◌∙◌, arith}
 use Rattle.spp_dag.specs.declared.row.Row.{Row}
 use Rattle.spp_site.specs.Table.{IsAdded}
 use Rattle.spp_site.specs.Marks.{is_marked}
 use Rattle.spp_path.specs.declared.rows.EnteredFrame.{EnteredFrame}
-use Rattle.spp_path.specs.Rows.{Told, told, strand_told, enter_told, entered_frame, set_running, strand_frames, enter_frames, frames_below, OnTop, CanReturn, IsReturned}
+use Rattle.spp_path.specs.Rows.{Told, told, frames_below, OnTop, IsReturned}
 use Rattle.spp_path.proofs.Tops.{topped, some_open}
 use Rattle.spp_path.proofs.rows.PathRows.close.Goals as goal
 

@@ -1,9 +1,7 @@
-use Rattle.std.proofs.Common.{◌≡◌, ◌-◌, ◌<◌, ◌≤◌, ◌+◌, true, false, not, List, [], ◌∷◌, ◌++◌, length, reverse, get_or, set, take, ℕ, Bool, refl, sym, ap, ap₂, subst, ◌∙◌, arith}
+use Rattle.std.proofs.Common.{◌≡◌, ◌-◌, not, List, [], ◌∷◌, length, reverse, get_or, ℕ, Bool, sym, ap, ap₂, ◌∙◌, arith}
 use Rattle.std.proofs.lemmas.List.{reverse-append}
-use Rattle.spp_dag.specs.declared.row.Row.{Row}
-use Rattle.spp_site.specs.Table.{IsAdded}
 use Rattle.spp_path.specs.declared.rows.EnteredFrame.{EnteredFrame}
-use Rattle.spp_path.specs.Rows.{Told, told, strand_told, enter_told, entered_frame, set_running, strand_frames, enter_frames, frames_below, OnTop, CanReturn, IsReturned}
+use Rattle.spp_path.specs.Rows.{Told, told, entered_frame, enter_frames}
 use Rattle.spp_path.proofs.Tops.{topped, some_open}
 use Rattle.spp_path.proofs.rows.PathRows.enter.Goals as goal
 

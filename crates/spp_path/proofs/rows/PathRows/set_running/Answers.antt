@@ -1,9 +1,6 @@
-use Rattle.std.proofs.Common.{◌≡◌, ◌-◌, ◌<◌, ◌≤◌, ◌+◌, true, false, not, List, [], ◌∷◌, ◌++◌, length, reverse, get_or, set, take, ℕ, Bool, refl, sym, ap, ap₂, subst, ◌∙◌, arith}
-use Rattle.std.proofs.lemmas.List.{reverse-append}
-use Rattle.spp_dag.specs.declared.row.Row.{Row}
-use Rattle.spp_site.specs.Table.{IsAdded}
+use Rattle.std.proofs.Common.{◌≡◌, ◌-◌, List, ◌∷◌, length, reverse, get_or, set, sym, ap, ◌∙◌, arith}
 use Rattle.spp_path.specs.declared.rows.EnteredFrame.{EnteredFrame}
-use Rattle.spp_path.specs.Rows.{Told, told, strand_told, enter_told, entered_frame, set_running, strand_frames, enter_frames, frames_below, OnTop, CanReturn, IsReturned}
+use Rattle.spp_path.specs.Rows.{Told, told, set_running}
 use Rattle.spp_path.proofs.Tops.{topped, some_open}
 use Rattle.spp_path.proofs.rows.PathRows.set_running.Goals as goal
 

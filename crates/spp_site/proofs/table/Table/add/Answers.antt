@@ -2,7 +2,7 @@ use Rattle.std.proofs.Common.{◌≡◌, ◌+◌, sym, ◌∙◌, ap, subst, ari
 use Rattle.spp_dag.specs.Shares.{plus}
 use Rattle.spp_site.specs.Rows.{Fits}
 use Rattle.spp_site.specs.Table.{row_at, IsAdded}
-use Rattle.spp_site.specs.Slots.{stored, HasNoRow, IsPlaceOf, IsIndexed}
+use Rattle.spp_site.specs.Slots.{stored, IsIndexed}
 use Rattle.spp_site.proofs.Stored.{stored_no_zero}
 use Rattle.spp_site.proofs.Places.{grown_indexed}
 use Rattle.spp_site.proofs.Adding.{found_site, found_row, summed, pushed, placed}

@@ -1,11 +1,10 @@
-use Rattle.std.proofs.Common.{◌≡◌, sym, ◌∙◌, ap, subst, arith, length, slice_set}
+use Rattle.std.proofs.Common.{sym, ◌∙◌, ap, subst, slice_set}
 use Rattle.spp_dag.specs.Shares.{plus}
 use Rattle.spp_site.specs.Rows.{Fits, frame_row}
 use Rattle.spp_site.specs.Table.{row_at, IsAdded}
-use Rattle.spp_site.specs.Slots.{stored, HasNoRow, IsPlaceOf, IsIndexed}
+use Rattle.spp_site.specs.Slots.{stored, IsIndexed}
 use Rattle.spp_site.proofs.Stored.{stored_no_zero}
-use Rattle.spp_site.proofs.Places.{grown_indexed}
-use Rattle.spp_site.proofs.Adding.{found_site, found_row, summed, pushed, placed}
+use Rattle.spp_site.proofs.Adding.{found_site, found_row, summed}
 use Rattle.spp_site.proofs.table.Table.close.Goals as goal
 
 pub add_to-requires : goal.add_to-requires
