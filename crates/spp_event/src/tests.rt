@@ -50,6 +50,16 @@ fn record(alloc: Global, bytes: &[u8], i: u32) -> Option<Result<Event, EventFaul
     }
 }
 
+/// The event at position `i` of the trace, where it opens and a good record stands there, read as a known one.
+fn known(alloc: Global, bytes: &[u8], i: u32) -> Option<Event> {
+    let trace = open_trace(alloc, bytes).ok()?;
+    if i < trace.count() && trace.event_at(i).is_ok() {
+        Some(trace.known_event(i))
+    } else {
+        None
+    }
+}
+
 #[test]
 fn a_small_trace_opens(rt: HostRuntime) -> Result<(), Fail> {
     assert_eq!(rt; SMALL.len(), 148);
@@ -63,6 +73,7 @@ fn a_small_trace_opens(rt: HostRuntime) -> Result<(), Fail> {
     assert_eq!(rt; trace.site_name(0), "A");
     for (i, event) in EVENTS.iter().enumerate() {
         assert_eq!(rt; record(rt.alloc(), SMALL, i as u32), Some(Ok(*event)));
+        assert_eq!(rt; known(rt.alloc(), SMALL, i as u32), Some(*event));
     }
     Ok(())
 }

@@ -1,4 +1,4 @@
-use crate::{Row, Table};
+use crate::{ClosedFrame, Marks, Row, Table};
 use std::test::Fail;
 
 /// The row `1 10 | 1 10 10 | 1 10 10`.
@@ -103,5 +103,48 @@ fn tables_merge_and_are_copied(rt: HostRuntime) -> Result<(), Fail> {
     }
     assert_eq!(rt; left.row(2), TEN);
     assert_eq!(rt; right.row(2), MIXED);
+    Ok(())
+}
+
+#[test]
+fn a_frame_that_closes_adds_to_its_site(rt: HostRuntime) -> Result<(), Fail> {
+    let frame = ClosedFrame {
+        local: 1,
+        work: 5,
+        span: 3,
+        top_site: true,
+        top_caller: false,
+    };
+    let mut table = Table::new(rt.alloc());
+    table.close(2, &frame)?;
+    table.close(2, &frame)?;
+    assert_eq!(rt;
+        table.row(2),
+        Row {
+            count: 2,
+            local: 2,
+            site_count: 2,
+            site_work: 10,
+            site_span: 6,
+            ..Row::default()
+        }
+    );
+    assert_eq!(rt; table.row(1), Row::default());
+    Ok(())
+}
+
+#[test]
+fn numbers_are_put_in_and_taken_out(rt: HostRuntime) -> Result<(), Fail> {
+    let mut marks = Marks::new(rt.alloc());
+    marks.add(3)?;
+    marks.add_if(true, 70_000)?;
+    marks.add_if(false, 5)?;
+    assert!(rt; marks.has(3) && marks.has(70_000));
+    assert!(rt; !marks.has(4) && !marks.has(5) && !marks.has(70_001));
+    marks.remove_if(false, 3);
+    marks.remove(70_000);
+    assert!(rt; marks.has(3) && !marks.has(70_000));
+    marks.remove_if(true, 3);
+    assert!(rt; !marks.has(3));
     Ok(())
 }
