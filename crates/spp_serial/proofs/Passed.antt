@@ -102,7 +102,7 @@ event_is rs es i e are l said =
         let w : x ≡ e = cc in
         q ∙ ap (λ (y : Event). Some y) w
 
-events_len : (trace : Recording) (es : List Event) → AreEvents trace.records es → length trace.records ≡ length es
+pub events_len : (trace : Recording) (es : List Event) → AreEvents trace.records es → length trace.records ≡ length es
 events_len trace es are = ap (λ (x : List Record). length x) are ∙ length-map es (λ e. Ok e)
 
 -- ---- the innermost frame

@@ -17,7 +17,7 @@ pub loop-at-init : goal.loop-at-init
 loop-at-init c =
     let trace : Recording = c.args.trace.now in
     let is : seen c.in_ok-summing.summing ≡ start_seen c.root.result = c.in_ok-summing.ensures in
-    record { passed = start_passed trace c.both-burdens.result (seen c.in_ok-summing.summing) (is ∙ ap start_seen c.root.ensures); }
+    record { passed = start_passed trace c.both-burdens.result (seen c.in_ok-summing.summing) (is ∙ ap start_seen c.root.ensures) }
 
 pub returns-in-Err-clause-fault : goal.returns-in-Err-clause-fault
 returns-in-Err-clause-fault c =
