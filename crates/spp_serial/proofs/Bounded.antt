@@ -223,7 +223,7 @@ return_bounded i short f g fs a b w t new h r =
 
 -- ---- what the steps need
 
-same_self : (key : Option ℕ) → same_key key key ≡ true
+pub same_self : (key : Option ℕ) → same_key key key ≡ true
 same_self None = refl
 same_self (Some s) = eq-eqb s s refl
 

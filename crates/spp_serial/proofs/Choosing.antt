@@ -99,6 +99,29 @@ module _ {X : Type 0} (at : X → ℕ) (P : X → Type 0) where
           below : (m i : ℕ) → (m ≡ i → ⊥) → m < suc i → m < i
           below m i n l = elim (cases_lt m i) [ inl k ↦ k | inr k ↦ absurd (n (omega arith)) ]
 
+-- ---- those from a position on
+
+module _ {X : Type 0} (at : X → ℕ) (P : X → Type 0) (from : ℕ) where
+  -- before that position there are none
+  pub none_from : AreTo at (λ x. P x × (from ≤ at x)) from []
+  none_from = record {
+    rise = tt;
+    are = λ x. (λ c. absurd (let l : c.0 < 0 = c.1 in omega arith), λ p. absurd (let l : from ≤ at x = p.0.1 in let m : at x < from = p.1 in omega arith));
+  }
+
+  at_from : (i : ℕ) (ys : List X) → from ≤ i → AreAt at P i ys → AreAt at (λ x. P x × (from ≤ at x)) i ys
+  at_from i ys l a = record {
+    few = a.few;
+    are = λ x. (
+      λ c. let q = (a.are x).0 c in let e : at x ≡ i = q.1 in ((q.0, omega arith), e),
+      λ q. (a.are x).1 (q.0.0, q.1),
+    );
+  }
+
+  -- one position more
+  pub more_from : (i : ℕ) (xs ys : List X) → from ≤ i → AreTo at (λ x. P x × (from ≤ at x)) i xs → AreAt at P i ys → AreTo at (λ x. P x × (from ≤ at x)) (suc i) (xs ++ ys)
+  more_from i xs ys l a b = more_to at (λ x. P x × (from ≤ at x)) i xs ys a (at_from i ys l b)
+
 -- ---- the choices at a position
 
 module _ (es : List Event) (wf : IsWellFormed es) (i : ℕ) where

@@ -7,3 +7,8 @@ pub mod Projected
 pub mod Passed
 pub mod Tops
 pub mod Whole
+pub mod Marking
+pub mod Suspending
+pub mod Reaching
+pub mod Anywhere
+pub mod Going

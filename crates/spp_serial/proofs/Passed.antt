@@ -44,33 +44,40 @@ use Rattle.spp_serial.proofs.Keeping as figures
 use Rattle.spp_serial.proofs.Keeping.{kept_none, kept_more, all_kept}
 use Rattle.spp_serial.proofs.Bounded.{entries, Bounded, start_bounded, strand_bounded, sync_bounded, open_bounded, return_bounded, local_le, closable, finishable}
 use Rattle.spp_serial.proofs.Shared.{Shared, start_shared, strand_shared, sync_shared, call_shared, spawn_shared, return_shared, finished}
-use Rattle.spp_serial.proofs.Choosing.{AreTo, AreAt, none_to, more_to, no_end, no_join, return_ends, wait_joins}
+use Rattle.spp_serial.proofs.Choosing.{AreTo, AreAt, none_from, more_from, no_end, no_join, return_ends, wait_joins}
 use Rattle.spp_serial.proofs.Projected.{lean, counted, told, AllNeat, row_is, neat_returned, told_sync, told_return}
 
 abbrev pub leans : List CountedFrame → List Frame
 leans fs = map lean fs
 
--- the ends and the joins before position i
-abbrev pub AreNoted : List Event → ℕ → List End → List Join → Type 0
-AreNoted es i ends joins = AreTo (λ (e : End). e.at) (IsEnd es) i ends × AreTo (λ (j : Join). j.at) (IsJoin es) i joins
+-- an end, and a join, at `from` or later
+abbrev pub EndFrom : List Event → ℕ → End → Type 0
+EndFrom es from e = IsEnd es e × (from ≤ e.at)
 
--- before the event at i the pass has s
-pub record Passed (trace : Recording) (burdens : Burdens) (i : ℕ) (s : Seen) : Type 0 where
+abbrev pub JoinFrom : List Event → ℕ → Join → Type 0
+JoinFrom es from j = IsJoin es j × (from ≤ j.at)
+
+-- the ends and the joins from position `from` on and before i
+abbrev pub AreNoted : List Event → ℕ → ℕ → List End → List Join → Type 0
+AreNoted es from i ends joins = AreTo (λ (e : End). e.at) (EndFrom es from) i ends × AreTo (λ (j : Join). j.at) (JoinFrom es from) i joins
+
+-- before the event at i the pass, which began at `from`, has s
+pub record Passed (trace : Recording) (burdens : Burdens) (from i : ℕ) (s : Seen) : Type 0 where
   pub reached : figures.Kept trace.records burdens trace.root i s.work (leans s.frames)
   pub neat : AllNeat s.frames
   pub bounded : Bounded i (told s)
-  pub shared : (es : List Event) → AreEvents trace.records es → IsWellFormed es → (span : ℕ → ℕ) → AreSpans es span → Shared es trace.root span i (told s)
-  pub noted : (es : List Event) → AreEvents trace.records es → IsWellFormed es → AreNoted es i s.ends s.joins
+  pub shared : (es : List Event) → AreEvents trace.records es → IsWellFormed es → (span : ℕ → ℕ) → AreSpans es span → Shared es trace.root span from i (told s)
+  pub noted : (es : List Event) → AreEvents trace.records es → IsWellFormed es → AreNoted es from i s.ends s.joins
 
 -- ---- the start
 
-pub start_passed : (trace : Recording) (burdens : Burdens) (s : Seen) → s ≡ start_seen trace.root → Passed trace burdens 0 s
-start_passed trace burdens s e = subst (λ x. Passed trace burdens 0 x) (sym e) (record {
+pub start_passed : (trace : Recording) (burdens : Burdens) (s : Seen) → s ≡ start_seen trace.root → Passed trace burdens 0 0 s
+start_passed trace burdens s e = subst (λ x. Passed trace burdens 0 0 x) (sym e) (record {
   reached = kept_none trace.records burdens trace.root;
   neat = ((λ c. refl), tt);
   bounded = start_bounded trace.root;
   shared = λ es are wf span spans. start_shared es wf trace.root span spans;
-  noted = λ es are wf. (none_to (λ (e : End). e.at) (IsEnd es), none_to (λ (j : Join). j.at) (IsJoin es));
+  noted = λ es are wf. (none_from (λ (e : End). e.at) (IsEnd es) 0, none_from (λ (j : Join). j.at) (IsJoin es) 0);
 })
 
 -- ---- the events of a trace
@@ -95,7 +102,7 @@ event_is rs es i e are l said =
         let w : x ≡ e = cc in
         q ∙ ap (λ (y : Event). Some y) w
 
-events_len : (trace : Recording) (es : List Event) → AreEvents trace.records es → length trace.records ≡ length es
+pub events_len : (trace : Recording) (es : List Event) → AreEvents trace.records es → length trace.records ≡ length es
 events_len trace es are = ap (λ (x : List Record). length x) are ∙ length-map es (λ e. Ok e)
 
 -- ---- the innermost frame
@@ -149,12 +156,12 @@ ends_of es wf root i w f fs at l is =
 pub light_of : (b : Burdens) (n : ℕ) → b ≡ both n → n < 2 ^ 32 → b.on_continuation + b.on_return ≤ 8589934592
 light_of b n e l = subst (λ (x : Burdens). x.on_continuation + x.on_return ≤ 8589934592) (sym e) (omega arith)
 
-module _ (trace : Recording) (burdens : Burdens) (light : burdens.on_continuation + burdens.on_return ≤ 8589934592) (short : length trace.records ≤ 268435456) (i : ℕ) (lt : i < length trace.records) where
+module _ (trace : Recording) (burdens : Burdens) (light : burdens.on_continuation + burdens.on_return ≤ 8589934592) (short : length trace.records ≤ 268435456) (from i : ℕ) (begun : from ≤ i) (lt : i < length trace.records) where
   abbrev Now : Seen → Type 0
-  Now s = Passed trace burdens i s
+  Now s = Passed trace burdens from i s
 
   abbrev Next : Seen → Type 0
-  Next s = Passed trace burdens (suc i) s
+  Next s = Passed trace burdens from (suc i) s
 
   -- the figures, where the frames go on
   goes : (e : Event) → record_at trace.records i ≡ Ok e → nesting.weight (Ok e) ≤ 18446744073709551616 → (ls ms : List Frame) (w v : ℕ)
@@ -164,11 +171,11 @@ module _ (trace : Recording) (burdens : Burdens) (light : burdens.on_continuatio
 
   -- the choices, where none is made
   nothing_noted : (es : List Event) → AreEvents trace.records es → IsWellFormed es → (ends : List End) (joins : List Join)
-      → returns (event_at es i) ≡ false → syncs (event_at es i) ≡ false → AreNoted es i ends joins → AreNoted es (suc i) ends joins
+      → returns (event_at es i) ≡ false → syncs (event_at es i) ≡ false → AreNoted es from i ends joins → AreNoted es from (suc i) ends joins
   nothing_noted es are wf ends joins r s n =
       let len = events_len trace es are in (
-        subst (λ l. AreTo (λ (e : End). e.at) (IsEnd es) (suc i) l) (append-nil ends) (more_to (λ (e : End). e.at) (IsEnd es) i ends [] n.0 (no_end es wf i r)),
-        subst (λ l. AreTo (λ (j : Join). j.at) (IsJoin es) (suc i) l) (append-nil joins) (more_to (λ (j : Join). j.at) (IsJoin es) i joins [] n.1 (no_join es wf i (omega arith) s)),
+        subst (λ l. AreTo (λ (e : End). e.at) (EndFrom es from) (suc i) l) (append-nil ends) (more_from (λ (e : End). e.at) (IsEnd es) from i ends [] begun n.0 (no_end es wf i r)),
+        subst (λ l. AreTo (λ (j : Join). j.at) (JoinFrom es from) (suc i) l) (append-nil joins) (more_from (λ (j : Join). j.at) (IsJoin es) from i joins [] begun n.1 (no_join es wf i (omega arith) s)),
       )
 
   -- ---- a strand
@@ -196,7 +203,7 @@ module _ (trace : Recording) (burdens : Burdens) (light : burdens.on_continuatio
         neat = at.neat;
         bounded = strand_bounded i n r.1 (counted f) (map counted fs) s.open_sites s.open_funcs s.work s.table at.bounded;
         shared = λ es are wf span spans.
-            strand_shared es wf trace.root span spans i n (event_is trace.records es i (Strand n) are lt r.0) (counted f) (map counted fs) s.open_sites s.open_funcs s.work s.table (at.shared es are wf span spans);
+            strand_shared es wf trace.root span spans from i begun n (event_is trace.records es i (Strand n) are lt r.0) (counted f) (map counted fs) s.open_sites s.open_funcs s.work s.table (at.shared es are wf span spans);
         noted = λ es are wf. let is = event_is trace.records es i (Strand n) are lt r.0 in
             nothing_noted es are wf s.ends s.joins (ap returns is) (ap syncs is) (at.noted es are wf);
       }
@@ -221,15 +228,15 @@ module _ (trace : Recording) (burdens : Burdens) (light : burdens.on_continuatio
             reached = goes Sync r.0 (omega arith) _ _ s.work s.work refl (omega arith) at.reached;
             neat = ((λ c. refl), at.neat.1);
             bounded = subst (λ t. Bounded (suc i) t) (sym tells) (sync_bounded i (counted f) (map counted fs) s.open_sites s.open_funcs s.work s.table at.bounded);
-            shared = λ es are wf span spans. subst (λ t. Shared es trace.root span (suc i) t) (sym tells)
-                (sync_shared es wf trace.root span spans i (event_is trace.records es i Sync are lt r.0) (counted f) (map counted fs) s.open_sites s.open_funcs s.work s.table (at.shared es are wf span spans));
+            shared = λ es are wf span spans. subst (λ t. Shared es trace.root span from (suc i) t) (sym tells)
+                (sync_shared es wf trace.root span spans from i begun (event_is trace.records es i Sync are lt r.0) (counted f) (map counted fs) s.open_sites s.open_funcs s.work s.table (at.shared es are wf span spans));
             noted = λ es are wf.
                 let is = event_is trace.records es i Sync are lt r.0 in
                 let l = inside es i Sync is in
                 let sp = (spans_law es wf).0 in
                 let n = at.noted es are wf in (
-                  subst (λ l. AreTo (λ (e : End). e.at) (IsEnd es) (suc i) l) (append-nil s.ends) (more_to (λ (e : End). e.at) (IsEnd es) i s.ends [] n.0 (no_end es wf i (ap returns is))),
-                  more_to (λ (j : Join). j.at) (IsJoin es) i s.joins _ n.1
+                  subst (λ l. AreTo (λ (e : End). e.at) (EndFrom es from) (suc i) l) (append-nil s.ends) (more_from (λ (e : End). e.at) (IsEnd es) from i s.ends [] begun n.0 (no_end es wf i (ap returns is))),
+                  more_from (λ (j : Join). j.at) (IsJoin es) from i s.joins _ begun n.1
                       (joins_of es wf trace.root i s.work f fs (at.shared es are wf sp.0 sp.1).entry ((let z : i ≤ length es = omega arith in z), λ l. ap syncs is)),
                 );
           }
@@ -247,7 +254,7 @@ module _ (trace : Recording) (burdens : Burdens) (light : burdens.on_continuatio
             neat = ((λ c. refl), at.neat);
             bounded = open_bounded i Called site func refl (counted f) (map counted fs) s.open_sites s.open_funcs s.work s.table at.bounded;
             shared = λ es are wf span spans.
-                call_shared es wf trace.root span spans i site func (event_is trace.records es i (Call site func) are lt r.0) (counted f) (map counted fs) s.open_sites s.open_funcs s.work s.table at.bounded (at.shared es are wf span spans);
+                call_shared es wf trace.root span spans from i begun site func (event_is trace.records es i (Call site func) are lt r.0) (counted f) (map counted fs) s.open_sites s.open_funcs s.work s.table at.bounded (at.shared es are wf span spans);
             noted = λ es are wf. let is = event_is trace.records es i (Call site func) are lt r.0 in
                 nothing_noted es are wf s.ends s.joins (ap returns is) (ap syncs is) (at.noted es are wf);
           }
@@ -263,7 +270,7 @@ module _ (trace : Recording) (burdens : Burdens) (light : burdens.on_continuatio
             neat = ((λ c. refl), at.neat);
             bounded = open_bounded i Spawned site func refl (counted f) (map counted fs) s.open_sites s.open_funcs s.work s.table at.bounded;
             shared = λ es are wf span spans.
-                spawn_shared es wf trace.root span spans i site func (event_is trace.records es i (Spawn site func) are lt r.0) (counted f) (map counted fs) s.open_sites s.open_funcs s.work s.table at.bounded (at.shared es are wf span spans);
+                spawn_shared es wf trace.root span spans from i begun site func (event_is trace.records es i (Spawn site func) are lt r.0) (counted f) (map counted fs) s.open_sites s.open_funcs s.work s.table at.bounded (at.shared es are wf span spans);
             noted = λ es are wf. let is = event_is trace.records es i (Spawn site func) are lt r.0 in
                 nothing_noted es are wf s.ends s.joins (ap returns is) (ap syncs is) (at.noted es are wf);
           }
@@ -305,16 +312,16 @@ module _ (trace : Recording) (burdens : Burdens) (light : burdens.on_continuatio
         neat = subst AllNeat (sym h.frames) (neat_returned burdens f g at.neat.1.0, at.neat.1.1);
         bounded = return_bounded i (omega arith) (counted f) (counted g) (map counted fs) s.open_sites s.open_funcs s.work s.table (told new) at.bounded tells;
         shared = λ es are wf span spans.
-            return_shared es wf trace.root span spans i (event_is trace.records es i Ret are lt r.0) (counted f) (counted g) (map counted fs) s.open_sites s.open_funcs s.work s.table (told new) at.bounded tells (at.shared es are wf span spans);
+            return_shared es wf trace.root span spans from i begun (event_is trace.records es i Ret are lt r.0) (counted f) (counted g) (map counted fs) s.open_sites s.open_funcs s.work s.table (told new) at.bounded tells (at.shared es are wf span spans);
         noted = λ es are wf.
             let is = event_is trace.records es i Ret are lt r.0 in
             let l = inside es i Ret is in
             let sp = (spans_law es wf).0 in
             let n = at.noted es are wf in
             let entry = (at.shared es are wf sp.0 sp.1).entry in (
-              subst (λ l. AreTo (λ (e : End). e.at) (IsEnd es) (suc i) l) (sym h.ends) (more_to (λ (e : End). e.at) (IsEnd es) i s.ends _ n.0 (ends_of es wf trace.root i s.work f (g ∷ fs) entry (omega arith) is)),
-              subst (λ l. AreTo (λ (j : Join). j.at) (IsJoin es) (suc i) l) (sym h.joins)
-                  (more_to (λ (j : Join). j.at) (IsJoin es) i s.joins _ n.1 (joins_of es wf trace.root i s.work f (g ∷ fs) entry ((let z : i ≤ length es = omega arith in z), λ l. ap syncs is))),
+              subst (λ l. AreTo (λ (e : End). e.at) (EndFrom es from) (suc i) l) (sym h.ends) (more_from (λ (e : End). e.at) (IsEnd es) from i s.ends _ begun n.0 (ends_of es wf trace.root i s.work f (g ∷ fs) entry (omega arith) is)),
+              subst (λ l. AreTo (λ (j : Join). j.at) (JoinFrom es from) (suc i) l) (sym h.joins)
+                  (more_from (λ (j : Join). j.at) (IsJoin es) from i s.joins _ begun n.1 (joins_of es wf trace.root i s.work f (g ∷ fs) entry ((let z : i ≤ length es = omega arith in z), λ l. ap syncs is))),
             );
       }
 
@@ -329,23 +336,23 @@ module _ (trace : Recording) (burdens : Burdens) (light : burdens.on_continuatio
 -- ---- the end
 
 module _ (trace : Recording) (burdens : Burdens) (short : length trace.records ≤ 268435456) (i : ℕ) (last : i ≡ length trace.records) where
-  pub some_frame : (s : Seen) → Passed trace burdens i s → HasOpen s
+  pub some_frame : (s : Seen) → Passed trace burdens 0 i s → HasOpen s
   some_frame s at = by s.frames at
     where
-      by : (frames : List CountedFrame) → Passed trace burdens i (record s { frames = frames }) → OnTop (λ f. Unit {0}) frames
+      by : (frames : List CountedFrame) → Passed trace burdens 0 i (record s { frames = frames }) → OnTop (λ f. Unit {0}) frames
       by [] at = absurd at.bounded.open_frames
       by (f ∷ fs) at = tt
 
-  pub few_frames : (s : Seen) → Passed trace burdens i s → length s.frames ≤ 2 ^ 32
+  pub few_frames : (s : Seen) → Passed trace burdens 0 i s → length s.frames ≤ 2 ^ 32
   few_frames s at =
       let n : length (map counted s.frames) ≡ length s.frames = length-map s.frames counted in
       let l : length (map counted s.frames) ≤ i + 1 = at.bounded.level in
       omega arith
 
-  pub ready_finish : (s : Seen) → length s.frames ≡ 1 → Passed trace burdens i s → CanFinish s
+  pub ready_finish : (s : Seen) → length s.frames ≡ 1 → Passed trace burdens 0 i s → CanFinish s
   ready_finish s one at = by s.frames one at
     where
-      by : (frames : List CountedFrame) → length frames ≡ 1 → Passed trace burdens i (record s { frames = frames }) → CanFinish (record s { frames = frames })
+      by : (frames : List CountedFrame) → length frames ≡ 1 → Passed trace burdens 0 i (record s { frames = frames }) → CanFinish (record s { frames = frames })
       by [] e at = absurd at.bounded.open_frames
       by (f ∷ g ∷ fs) e at = absurd (omega arith)
       by (f ∷ []) e at =
@@ -359,7 +366,7 @@ module _ (trace : Recording) (burdens : Burdens) (short : length trace.records �
     pub dag : IsDagTable trace p.dag
     pub choices : (es : List Event) → AreEvents trace.records es → AreChoices es p.choices
 
-  told_from : (s : Seen) (f : CountedFrame) (p : FirstPass) → Passed trace burdens i (record s { frames = f ∷ [] }) → IsFinished i s (f ∷ []) p → IsTold p
+  told_from : (s : Seen) (f : CountedFrame) (p : FirstPass) → Passed trace burdens 0 i (record s { frames = f ∷ [] }) → IsFinished i s (f ∷ []) p → IsTold p
   told_from s f p at h =
       let fig = all_kept trace.records burdens trace.root i s.work (lean f) [] last refl at.reached in
       let w : s.work ≤ 18446744073709551616 * i = at.reached.small in
@@ -369,7 +376,7 @@ module _ (trace : Recording) (burdens : Burdens) (short : length trace.records �
       let wf = wf_of es are in
       let sp = (spans_law es wf).0 in
       let ended = λ (es : List Event) (are : AreEvents trace.records es) (span : ℕ → ℕ) (spans : AreSpans es span).
-      subst (λ k. Shared es trace.root span k (told (record s { frames = f ∷ [] }))) (last ∙ events_len trace es are) (at.shared es are (wf_of es are) span spans) in
+      subst (λ k. Shared es trace.root span 0 k (told (record s { frames = f ∷ [] }))) (last ∙ events_len trace es are) (at.shared es are (wf_of es are) span spans) in
       record {
         figures = subst (λ x. AreFigures trace.records burdens x) (sym h.0) fig;
         small = subst (λ (x : Figures). x.work ≤ 2 ^ 92) (sym h.0) (omega arith);
@@ -381,29 +388,29 @@ module _ (trace : Recording) (burdens : Burdens) (short : length trace.records �
             let n = events_len trace es are in
             let here : i ≡ length es = last ∙ n in
             let noted = at.noted es are wf in
-            let joins = more_to (λ (j : Join). j.at) (IsJoin es) i s.joins _ noted.1
+            let joins = more_from (λ (j : Join). j.at) (IsJoin es) 0 i s.joins _ (omega arith) noted.1
             (joins_of es wf trace.root i s.work f [] (at.shared es are wf sp.0 sp.1).entry ((let z : i ≤ length es = omega arith in z), λ l. absurd (omega arith))) in
-            all_noted es wf p.choices (subst (λ l. AreTo (λ (e : End). e.at) (IsEnd es) (length es) l) (sym h.2) (subst (λ k. AreTo (λ (e : End). e.at) (IsEnd es) k s.ends) here noted.0))
-            (subst (λ l. AreTo (λ (j : Join). j.at) (IsJoin es) (suc (length es)) l) (sym h.3) (subst (λ k. AreTo (λ (j : Join). j.at) (IsJoin es) (suc k) (s.joins ++ joins_at i (taken (state_of f)))) here joins));
+            all_noted es wf p.choices (subst (λ l. AreTo (λ (e : End). e.at) (EndFrom es 0) (length es) l) (sym h.2) (subst (λ k. AreTo (λ (e : End). e.at) (EndFrom es 0) k s.ends) here noted.0))
+            (subst (λ l. AreTo (λ (j : Join). j.at) (JoinFrom es 0) (suc (length es)) l) (sym h.3) (subst (λ k. AreTo (λ (j : Join). j.at) (JoinFrom es 0) (suc k) (s.joins ++ joins_at i (taken (state_of f)))) here joins));
       }
     where
       -- no end is past the events, and no join past the end
-      all_noted : (es : List Event) → IsWellFormed es → (c : Choices) → AreTo (λ (e : End). e.at) (IsEnd es) (length es) c.ends.items
-          → AreTo (λ (j : Join). j.at) (IsJoin es) (suc (length es)) c.joins.items → AreChoices es c
+      all_noted : (es : List Event) → IsWellFormed es → (c : Choices) → AreTo (λ (e : End). e.at) (EndFrom es 0) (length es) c.ends.items
+          → AreTo (λ (j : Join). j.at) (JoinFrom es 0) (suc (length es)) c.joins.items → AreChoices es c
       all_noted es wf c a b = record {
         ends_rise = a.rise;
         ends = λ e. (
-          λ m. ((a.are e).0 m).0,
-          λ p. (a.are e).1 (p, subst (λ k. k < length es) p.1 (closed es wf e.spawn (spawns_opens (event_at es e.spawn) p.0)).within),
+          λ m. ((a.are e).0 m).0.0,
+          λ p. (a.are e).1 ((p, omega arith), subst (λ k. k < length es) p.1 (closed es wf e.spawn (spawns_opens (event_at es e.spawn) p.0)).within),
         );
         joins_rise = b.rise;
-        joins = λ j. (λ m. ((b.are j).0 m).0, λ p. (b.are j).1 (p, let l : j.at ≤ length es = p.0 in omega arith));
+        joins = λ j. (λ m. ((b.are j).0 m).0.0, λ p. (b.are j).1 ((p, omega arith), let l : j.at ≤ length es = p.0 in omega arith));
       }
 
-  pub is_told : (s : Seen) (p : FirstPass) → length s.frames ≡ 1 → Passed trace burdens i s → IsFinished i s s.frames p → IsTold p
+  pub is_told : (s : Seen) (p : FirstPass) → length s.frames ≡ 1 → Passed trace burdens 0 i s → IsFinished i s s.frames p → IsTold p
   is_told s p one at h = by s.frames one at h
     where
-      by : (frames : List CountedFrame) → length frames ≡ 1 → Passed trace burdens i (record s { frames = frames }) → IsFinished i s frames p → IsTold p
+      by : (frames : List CountedFrame) → length frames ≡ 1 → Passed trace burdens 0 i (record s { frames = frames }) → IsFinished i s frames p → IsTold p
       by [] e at h = absurd h
       by (f ∷ g ∷ fs) e at h = absurd (omega arith)
       by (f ∷ []) e at h = told_from s f p at h

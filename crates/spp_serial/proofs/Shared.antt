@@ -1,6 +1,6 @@
 -- What the table's part of a pass keeps in a well-formed trace: its frames are the open ones, and the table and what
--- they owe are the shares so far.
-use Rattle.std.proofs.Common.{◌≡◌, ℕ, suc, ◌+◌, ◌-◌, Bool, true, cond, not, List, [], ◌∷◌, length, map, take, Option, Some, None, refl, sym, ap, ap₂, subst, ◌∙◌, arith, Ok}
+-- they owe are the shares of the positions from where it began.
+use Rattle.std.proofs.Common.{◌≡◌, ℕ, suc, ◌+◌, ◌-◌, ◌≤◌, Bool, true, cond, not, List, [], ◌∷◌, length, map, take, Option, Some, None, refl, sym, ap, ap₂, subst, ◌∙◌, arith, Ok}
 use Rattle.std.proofs.lemmas.List.{length-map, take_all}
 use Rattle.spp_event.specs.declared.records.Event.{Event}
 use Rattle.spp_event.specs.declared.records.Event.TheVariants.{Strand, Call, Spawn, Ret, Sync}
@@ -31,23 +31,23 @@ use Rattle.spp_serial.proofs.Told.{Counted, Told, full_row, start_told, strand_t
 use Rattle.spp_path.proofs.RowSums.{strand_owed, none_owed, closed_owed}
 use Rattle.spp_serial.proofs.Bounded.{entries, owed, AreOpen, Bounded, tell, start_rows, added, left, root_key}
 
--- before the event at i the pass has t
-pub record Shared (es : List Event) (root : ℕ) (span : ℕ → ℕ) (i : ℕ) (t : Told) : Type 0 where
+-- before the event at i the pass, which began at `from`, has t
+pub record Shared (es : List Event) (root : ℕ) (span : ℕ → ℕ) (from i : ℕ) (t : Told) : Type 0 where
   pub entry : IsEntry es root i (entries t.frames) t.work
-  pub rows : (key : Option ℕ) → plus (key_row t.table key) (owed t.frames key) ≡ share es root span everywhere key 0 i
+  pub rows : (key : Option ℕ) → plus (key_row t.table key) (owed t.frames key) ≡ share es root span everywhere key from i
 
 -- ---- one event
 
-module _ (es : List Event) (wf : IsWellFormed es) (root : ℕ) (span : ℕ → ℕ) (spans : AreSpans es span) (i : ℕ) where
+module _ (es : List Event) (wf : IsWellFormed es) (root : ℕ) (span : ℕ → ℕ) (spans : AreSpans es span) (from i : ℕ) (begun : from ≤ i) where
   abbrev so_far : Option ℕ → Row
-  so_far key = share es root span everywhere key 0 i
+  so_far key = share es root span everywhere key from i
 
   -- the shares, with what the event adds
   share_next : (e : Event) → event_at es i ≡ Some e → (f : EntryFrame) (fs : List EntryFrame) (w : ℕ) → IsEntry es root i (f ∷ fs) w → (key : Option ℕ)
-      → plus (so_far key) (gain everywhere key i e f w) ≡ share es root span everywhere key 0 (suc i)
+      → plus (so_far key) (gain everywhere key i e f w) ≡ share es root span everywhere key from (suc i)
   share_next e is f fs w at key =
       ap (λ r. plus (so_far key) r) (sym (share_follows es wf root span spans everywhere key i e is f fs w at))
-      ∙ sym (shares_law es root span everywhere key 0 i (suc i) (omega arith) (omega arith))
+      ∙ sym (shares_law es root span everywhere key from i (suc i) begun (omega arith))
 
   entry_next : (e : Event) → event_at es i ≡ Some e → (fs : List EntryFrame) (w v : ℕ) → IsEntry es root i fs w → v ≡ w + weight_of (Some e)
       → IsEntry es root (suc i) (entry_after i e w fs) v
@@ -55,7 +55,7 @@ module _ (es : List Event) (wf : IsWellFormed es) (root : ℕ) (span : ℕ → �
       subst (λ n. IsEntry es root (suc i) (entry_after i e w fs) n) (ap (λ o. w + weight_of o) is ∙ sym same) (entry_follows es wf root i e is fs w at)
 
   pub strand_shared : (n : ℕ) → event_at es i ≡ Some (Strand n) → (f : Counted) (fs : List Counted) (a b : ℕ → Bool) (w : ℕ) (t : Sums)
-      → Shared es root span i (tell (f ∷ fs) a b w t) → Shared es root span (suc i) (strand_told n (tell (f ∷ fs) a b w t))
+      → Shared es root span from i (tell (f ∷ fs) a b w t) → Shared es root span from (suc i) (strand_told n (tell (f ∷ fs) a b w t))
   strand_shared n is f fs a b w t h = record {
     entry = entry_next (Strand n) is (entries (f ∷ fs)) w (w + n) h.entry refl;
     rows = λ key. strand_owed (same_key (key_of f.entry) key) f.local n (key_row t key) (owed fs key)
@@ -64,7 +64,7 @@ module _ (es : List Event) (wf : IsWellFormed es) (root : ℕ) (span : ℕ → �
   }
 
   pub sync_shared : event_at es i ≡ Some Sync → (f : Counted) (fs : List Counted) (a b : ℕ → Bool) (w : ℕ) (t : Sums)
-      → Shared es root span i (tell (f ∷ fs) a b w t) → Shared es root span (suc i) (sync_told (tell (f ∷ fs) a b w t))
+      → Shared es root span from i (tell (f ∷ fs) a b w t) → Shared es root span from (suc i) (sync_told (tell (f ∷ fs) a b w t))
   sync_shared is f fs a b w t h = record {
     entry = entry_next Sync is (entries (f ∷ fs)) w w h.entry (omega arith);
     rows = λ key. h.rows key ∙ sym (plus-zero (so_far key)) ∙ share_next Sync is f.entry (entries fs) w h.entry key;
@@ -87,7 +87,7 @@ module _ (es : List Event) (wf : IsWellFormed es) (root : ℕ) (span : ℕ → �
     light : weight_of (Some e) ≡ 0
 
   open_shared : (e : Event) (kind : FrameKind) (site func : ℕ) → Opens e kind site func → (f : Counted) (fs : List Counted) (a b : ℕ → Bool) (w : ℕ) (t : Sums)
-      → Bounded i (tell (f ∷ fs) a b w t) → Shared es root span i (tell (f ∷ fs) a b w t) → Shared es root span (suc i) (open_told kind i site func (tell (f ∷ fs) a b w t))
+      → Bounded i (tell (f ∷ fs) a b w t) → Shared es root span from i (tell (f ∷ fs) a b w t) → Shared es root span from (suc i) (open_told kind i site func (tell (f ∷ fs) a b w t))
   open_shared e kind site func o f fs a b w t bounds h =
       let old : Told = tell (f ∷ fs) a b w t in
       let light : weight_of (Some e) ≡ 0 = o.light in
@@ -99,18 +99,18 @@ module _ (es : List Event) (wf : IsWellFormed es) (root : ℕ) (span : ℕ → �
       }
 
   pub call_shared : (site func : ℕ) → event_at es i ≡ Some (Call site func) → (f : Counted) (fs : List Counted) (a b : ℕ → Bool) (w : ℕ) (t : Sums)
-      → Bounded i (tell (f ∷ fs) a b w t) → Shared es root span i (tell (f ∷ fs) a b w t) → Shared es root span (suc i) (open_told Called i site func (tell (f ∷ fs) a b w t))
+      → Bounded i (tell (f ∷ fs) a b w t) → Shared es root span from i (tell (f ∷ fs) a b w t) → Shared es root span from (suc i) (open_told Called i site func (tell (f ∷ fs) a b w t))
   call_shared site func is = open_shared (Call site func) Called site func (record { is = is; after = λ w f fs. refl; gains = λ k f w. refl; light = refl })
 
   pub spawn_shared : (site func : ℕ) → event_at es i ≡ Some (Spawn site func) → (f : Counted) (fs : List Counted) (a b : ℕ → Bool) (w : ℕ) (t : Sums)
-      → Bounded i (tell (f ∷ fs) a b w t) → Shared es root span i (tell (f ∷ fs) a b w t) → Shared es root span (suc i) (open_told Spawned i site func (tell (f ∷ fs) a b w t))
+      → Bounded i (tell (f ∷ fs) a b w t) → Shared es root span from i (tell (f ∷ fs) a b w t) → Shared es root span from (suc i) (open_told Spawned i site func (tell (f ∷ fs) a b w t))
   spawn_shared site func is = open_shared (Spawn site func) Spawned site func (record { is = is; after = λ w f fs. refl; gains = λ k f w. refl; light = refl })
 
   pub return_shared : event_at es i ≡ Some Ret → (f g : Counted) (fs : List Counted) (a b : ℕ → Bool) (w : ℕ) (t : Sums) (new : Told)
-      → Bounded i (tell (f ∷ g ∷ fs) a b w t) → IsReturned f (tell (f ∷ g ∷ fs) a b w t) new → Shared es root span i (tell (f ∷ g ∷ fs) a b w t) → Shared es root span (suc i) new
+      → Bounded i (tell (f ∷ g ∷ fs) a b w t) → IsReturned f (tell (f ∷ g ∷ fs) a b w t) new → Shared es root span from i (tell (f ∷ g ∷ fs) a b w t) → Shared es root span from (suc i) new
   return_shared is f g fs a b w t new bounds r h =
       let k : key_of f.entry ≡ Some f.entry.site = bounds.open_frames.0 in
-      subst (λ x. Shared es root span (suc i) x) (sym (left f g fs a b w t new r))
+      subst (λ x. Shared es root span from (suc i) x) (sym (left f g fs a b w t new r))
       (record {
         entry = entry_next Ret is (entries (f ∷ g ∷ fs)) w w h.entry (omega arith);
         rows = λ key. ap (λ x. plus x (owed (g ∷ fs) key)) (added f w t new.table k r.table key)
@@ -134,13 +134,13 @@ doubled a h =
     same_rows a zero_row (omega arith) (omega arith) (omega arith) (omega arith) (omega arith) (omega arith) (omega arith) (omega arith)
 
 module _ (es : List Event) (wf : IsWellFormed es) (root : ℕ) (span : ℕ → ℕ) (spans : AreSpans es span) where
-  share_none : (key : Option ℕ) → share es root span everywhere key 0 0 ≡ zero_row
-  share_none key = doubled _ (shares_law es root span everywhere key 0 0 0 (omega arith) (omega arith))
+  pub share_none : (from : ℕ) (key : Option ℕ) → share es root span everywhere key from from ≡ zero_row
+  share_none from key = doubled _ (shares_law es root span everywhere key from from from (omega arith) (omega arith))
 
-  pub start_shared : Shared es root span 0 (start_told root)
+  pub start_shared : Shared es root span 0 0 (start_told root)
   start_shared = record {
     entry = (root_frame root ∷ [], refl, refl, refl);
-    rows = λ key. start_rows root key ∙ sym (share_none key);
+    rows = λ key. start_rows root key ∙ sym (share_none 0 key);
   }
 
   -- at the end the root closes with the span
@@ -175,7 +175,7 @@ module _ (es : List Event) (wf : IsWellFormed es) (root : ℕ) (span : ℕ → �
       (ap (λ c. cond {A = ℕ} c 1 0) site) (ap (λ c. cond c (w - f.entry.before) 0) site ∙ all) (ap (λ c. cond c (close f.entry.state) 0) site ∙ s)
       (ap (λ c. cond {A = ℕ} c 1 0) caller) (ap (λ c. cond c (w - f.entry.before) 0) caller ∙ all) (ap (λ c. cond c (close f.entry.state) 0) caller ∙ s)
 
-  root_added : (f : Counted) (a b : ℕ → Bool) (w : ℕ) (t : Sums) → AreOpen w (f.entry ∷ []) → Shared es root span (length es) (tell (f ∷ []) a b w t)
+  root_added : (f : Counted) (a b : ℕ → Bool) (w : ℕ) (t : Sums) → AreOpen w (f.entry ∷ []) → Shared es root span 0 (length es) (tell (f ∷ []) a b w t)
       → plus t.root (full_row f w) ≡ plus (share es root span everywhere None 0 (length es)) (closed_row f.entry w)
   root_added f a b w t opens h =
       let same : same_key (key_of f.entry) None ≡ true = ap (λ o. same_key o None) (root_key w f opens) in
@@ -190,7 +190,7 @@ module _ (es : List Event) (wf : IsWellFormed es) (root : ℕ) (span : ℕ → �
       ∙ ap (λ r. plus r (share es root span everywhere key (length es) (suc (length es)))) (plus-zero (share es root span everywhere key 0 (length es)))
 
   -- where the root alone is open at the end, the table with its row is that of the dag
-  pub finished : (f : Counted) (a b : ℕ → Bool) (w : ℕ) (t : Sums) → AreOpen w (f.entry ∷ []) → Shared es root span (length es) (tell (f ∷ []) a b w t)
+  pub finished : (f : Counted) (a b : ℕ → Bool) (w : ℕ) (t : Sums) → AreOpen w (f.entry ∷ []) → Shared es root span 0 (length es) (tell (f ∷ []) a b w t)
       → (key : Option ℕ) → key_row (record t { root = plus t.root (full_row f w) }) key ≡ row es root span everywhere key
   finished f a b w t opens h None =
       let e = ended f [] w h.entry in

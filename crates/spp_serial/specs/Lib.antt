@@ -4,3 +4,4 @@ pub mod Passes
 pub mod Texts
 pub mod Weights
 pub mod Shares
+pub mod Outside

@@ -11,11 +11,13 @@ ghost use Rattle.spp_serial.specs.Texts.{profile_fault_text};
 ghost use Rattle.spp_serial.specs.declared.ProfileFault.TheVariants.{Memory as MemoryFault};
 
 mod first_pass;
+mod part;
 mod stack;
 mod summing;
 mod weights;
 
 use crate::first_pass::first_pass;
+pub use crate::part::{PartResult, run_part};
 use crate::stack::Stack;
 use spp_dag::FrameKind;
 use spp_event::{Event, Trace};

@@ -1,6 +1,13 @@
 //! What one pass over the events of a run has between two events, and what each event does to it.
 
-ghost use Rattle.std.specs.Prelude.{◌≡◌, ◌+◌, ◌<◌, ◌≤◌, ◌^◌, ◌++◌, length, OnOk, IfOk};
+ghost use Rattle.std.specs.Prelude.{◌≡◌, ℕ, ◌+◌, ◌<◌, ◌≤◌, ◌^◌, ◌++◌, ◌||◌, ◌∷◌, List, Some, nat_eq, length, OnOk, IfOk};
+ghost use Rattle.spp_dag.specs.declared.stack.EntryFrame.{EntryFrame as FrameValue};
+ghost use Rattle.spp_dag.specs.Shares.{plus};
+ghost use Rattle.spp_dag.specs.Steps.{site_by, same_key, has_site, has_func, strand_row};
+ghost use Rattle.spp_site.specs.Rows.{Fits};
+ghost use Rattle.spp_site.specs.Marks.{is_marked};
+ghost use Rattle.spp_stack.specs.Chain.{HasFrames};
+ghost use Rattle.spp_path.specs.Tables.{key_row};
 ghost use Rattle.spp_maxplus.specs.State.{taken as taken_of};
 ghost use Rattle.spp_serial.specs.Weights.{close as close_of};
 ghost use Rattle.spp_serial.specs.Passes.{
@@ -26,13 +33,26 @@ ghost use Rattle.spp_serial.specs.Passes.{
   CanFinish,
   IsFinished,
 };
+ghost use Rattle.spp_serial.specs.Outside.{
+  entered_frame,
+  spawn_of,
+  IsBegun,
+  IsOutside,
+  IsReached,
+  frame_key,
+  AreStrandsAdded,
+  FitsOpen,
+  IsSuspended,
+};
 
+use crate::part::PartResult;
 use crate::weights::Weights;
-use spp_dag::FrameKind;
+use spp_dag::{FrameKind, Row};
 use spp_maxplus::Burdens;
 use spp_path::{Choices, End, Join};
 use spp_piece::Figures;
 use spp_site::{ClosedFrame, Marks, Table};
+use spp_stack::{Entry, Node};
 use std::alloc::{AllocError, Global};
 
 /// What one reading of a run's events tells.
@@ -89,6 +109,27 @@ struct CountedFrame {
 }
 
 impl CountedFrame {
+    /// A frame that was open before, with no strands of its own yet.
+    fn entered(node: &Node) -> Self
+        ensures { result ≡ entered_frame node.now.frame node.now.top_func }
+    {
+        let frame = node.frame;
+        CountedFrame {
+            plain: Weights::of(frame.state),
+            burdened: Weights::of(frame.state),
+            before: frame.before,
+            local: 0,
+            child: spawn_in(frame.state.child),
+            at: frame.at,
+            site: frame.site,
+            func: frame.func,
+            kind: frame.kind,
+            top_site: frame.top_site,
+            top_caller: frame.top_caller,
+            top_func: node.top_func,
+        }
+    }
+
     /// A strand of that many instructions.
     #[inline(always)]
     fn strand(&mut self, count: u64)
@@ -170,6 +211,64 @@ impl CountedFrame {
             top_caller: self.top_caller,
         }
     }
+
+    /// Adds the counts of its strands to its row, where there are any.
+    fn add_local(&self, table: &mut Table) -> Result<(), AllocError>
+        requires { Fits (plus (key_row table.old (frame_key self.now)) (strand_row self.now.local)) }
+        ensures { OnOk result (AreStrandsAdded table.old table.new (frame_key self.now) self.now.local) }
+    {
+        let local = self.local;
+        if local == 0 {
+            return Ok(());
+        }
+        let row = Row {
+            local,
+            ..Row::default()
+        };
+        match self.kind {
+            FrameKind::Root => table.add_root(&row),
+            FrameKind::Called | FrameKind::Spawned => table.add(self.site, &row)?,
+        }
+        Ok(())
+    }
+}
+
+/// The spawn of a waiting child.
+fn spawn_in(child: Option<(u128, u32)>) -> Option<u32>
+    ensures { result ≡ spawn_of child }
+{
+    match child {
+        Some((_, spawn)) => Some(spawn),
+        None => None,
+    }
+}
+
+/// Puts in the site by which an open frame was entered, and the function that it runs.
+fn mark(node: &Node, sites: &mut Marks, funcs: &mut Marks) -> Result<(), AllocError>
+    ensures sites { OnOk result ((x : ℕ) → is_marked sites.new x ≡ (same_key (site_by node.now.frame.kind node.now.frame.site) (Some x) || is_marked sites.old x)) }
+    ensures funcs { OnOk result ((x : ℕ) → is_marked funcs.new x ≡ (nat_eq node.now.frame.func x || is_marked funcs.old x)) }
+{
+    match node.frame.kind {
+        FrameKind::Root => {}
+        FrameKind::Called | FrameKind::Spawned => sites.add(node.frame.site)?,
+    }
+    funcs.add(node.frame.func)?;
+    Ok(())
+}
+
+/// Puts in the sites by which the open frames were entered, and the functions that they run. It takes time linear in the
+/// number of the frames.
+fn mark_open(entry: &Entry<'_>, sites: &mut Marks, funcs: &mut Marks) -> Result<(), AllocError>
+    ensures sites { OnOk result ((f : FrameValue) (fs : List FrameValue) → HasFrames entry.now (f ∷ fs) → (x : ℕ) → is_marked sites.new x ≡ (has_site (f ∷ fs) x || is_marked sites.old x)) }
+    ensures funcs { OnOk result ((f : FrameValue) (fs : List FrameValue) → HasFrames entry.now (f ∷ fs) → (x : ℕ) → is_marked funcs.new x ≡ (has_func (f ∷ fs) x || is_marked funcs.old x)) }
+{
+    mark(entry.innermost(), sites, funcs)?;
+    let mut left = entry.below();
+    while let Some(open) = left {
+        mark(open.innermost(), sites, funcs)?;
+        left = open.below();
+    }
+    Ok(())
 }
 
 /// Notes that a frame waits at `at` and takes that child, where it takes one.
@@ -245,6 +344,49 @@ impl Summing {
                 joins: Vec::new(alloc),
             },
         })
+    }
+
+    /// The pass before the first event of a part, where these frames are open. It has come to the innermost of them; the
+    /// others are outside.
+    pub(crate) fn within(alloc: Global, entry: &Entry<'_>) -> Result<Self, AllocError>
+        ensures { IfOk result (λ s. (f : FrameValue) (fs : List FrameValue) → HasFrames entry.now (f ∷ fs) → IsBegun f fs entry.now.work (seen s)) }
+    {
+        let mut open_sites = Marks::new(alloc);
+        let mut open_funcs = Marks::new(alloc);
+        mark_open(entry, &mut open_sites, &mut open_funcs)?;
+        let mut frames = Vec::new(alloc);
+        frames.push(CountedFrame::entered(entry.innermost()))?;
+        Ok(Summing {
+            frames,
+            open_sites,
+            open_funcs,
+            work: entry.work(),
+            table: Table::new(alloc),
+            choices: Choices {
+                ends: Vec::new(alloc),
+                joins: Vec::new(alloc),
+            },
+        })
+    }
+
+    /// Comes to the innermost of the frames outside, if the pass has come to no more than one; gives those that are left
+    /// outside.
+    pub(crate) fn reach<'e>(
+        &mut self,
+        outside: Option<Entry<'e>>,
+    ) -> Result<Option<Entry<'e>>, AllocError>
+        requires { HasOpen (seen self.old) }
+        ensures { IfOk result (λ left. (fs : List FrameValue) → IsOutside outside.entry fs → IsReached (seen self.old) (seen self.new) fs left) }
+    {
+        if self.frames.len() > 1 {
+            return Ok(outside);
+        }
+        let Some(entry) = outside else {
+            return Ok(None);
+        };
+        self.frames
+            .insert(0, CountedFrame::entered(entry.innermost()))?;
+        Ok(entry.below())
     }
 
     /// How many frames besides the root are open.
@@ -358,5 +500,22 @@ impl Summing {
             dag: table,
             choices,
         })
+    }
+
+    /// What the pass over a part tells. The strands of the frames that are still open are in their rows.
+    pub(crate) fn suspend(self) -> Result<PartResult, AllocError>
+        requires { FitsOpen (seen self) }
+        ensures { IfOk result (λ p. IsSuspended (seen self) p) }
+    {
+        let Summing {
+            frames,
+            mut table,
+            choices,
+            ..
+        } = self;
+        for frame in &frames {
+            frame.add_local(&mut table)?;
+        }
+        Ok(PartResult { table, choices })
     }
 }

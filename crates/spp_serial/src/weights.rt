@@ -1,9 +1,9 @@
 //! The two weights of an open frame.
 
 ghost use Rattle.std.specs.Prelude.{◌≡◌, ◌+◌, ◌<◌, ◌^◌};
-ghost use Rattle.spp_serial.specs.Weights.{start as opened, close as close_of, after_strand as strand_added, after_sync as synced, after_call as call_added, after_spawn as spawn_added};
+ghost use Rattle.spp_serial.specs.Weights.{weights_of, start as opened, close as close_of, after_strand as strand_added, after_sync as synced, after_call as call_added, after_spawn as spawn_added};
 
-use spp_maxplus::Burdens;
+use spp_maxplus::{Burdens, State};
 
 /// What figures need of an open frame: less than a `State` of spp_maxplus, which also keeps through which child the greater
 /// weight goes. In instructions.
@@ -22,6 +22,20 @@ impl Weights {
         ensures { result ≡ opened }
     {
         Weights { spine: 0, child: 0 }
+    }
+
+    /// Those of a frame that stands so.
+    pub(crate) fn of(state: State) -> Self
+        ensures { result ≡ weights_of state }
+    {
+        let child = match state.child {
+            Some((weight, _)) => weight,
+            None => 0,
+        };
+        Weights {
+            spine: state.spine,
+            child,
+        }
     }
 
     /// The weight with which the frame closes if it returns now.

@@ -38,7 +38,7 @@ strand-requires c =
     let read = is_read trace c.loop-at.at c.event_at.result e c.event_at.ensures.said c.event_at.ensures.within (c.in-Ok.is ∙ ap (λ (e : Event). Ok e) c.in-Strand.is) in
     let b : Burdens = c.both-burdens.result in
     let light = light_of b c.args.burden c.both-burdens.ensures c.ranges.burden.fits in
-    ready_add trace b light c.count-count.ensures.limits.events c.loop-at.at lt c.in-Strand.count read (seen c.loop-at.summing) c.loop-at.invariant.passed
+    ready_add trace b light c.count-count.ensures.limits.events 0 c.loop-at.at (omega arith) lt c.in-Strand.count read (seen c.loop-at.summing) c.loop-at.invariant.passed
 
 pub ret-requires : goal.ret-requires
 ret-requires c =
@@ -46,7 +46,7 @@ ret-requires c =
     let lt : c.loop-at.at < length trace.records = omega (arith, c.count-count.ensures.count) in
     let b : Burdens = c.both-burdens.result in
     let light = light_of b c.args.burden c.both-burdens.ensures c.ranges.burden.fits in
-    ready_return trace b light c.count-count.ensures.limits.events c.loop-at.at lt (seen c.loop-at.summing) c.loop-at.invariant.passed
+    ready_return trace b light c.count-count.ensures.limits.events 0 c.loop-at.at (omega arith) lt (seen c.loop-at.summing) c.loop-at.invariant.passed
 
 pub returns-then-not-branch-clause-fault : goal.returns-then-not-branch-clause-fault
 returns-then-not-branch-clause-fault c =
@@ -59,7 +59,7 @@ returns-then-not-branch-clause-fault c =
     let light = light_of b c.args.burden c.both-burdens.ensures c.ranges.burden.fits in
     let read = is_read trace at c.event_at.result Ret c.event_at.ensures.said c.event_at.ensures.within (c.in-Ok.is ∙ ap (λ (e : Event). Ok e) c.in-Ret.is) in
     let went : Returns b at s s.frames false (seen c.ret.new.self) = subst (λ (x : Bool). Returns b at s s.frames x (seen c.ret.new.self)) c.if-not-branch.true c.in_ok-ret-in-Ret.ensures in
-    let stop = root_stays trace b light c.count-count.ensures.limits.events at lt s (seen c.ret.new.self) went inv.passed in
+    let stop = root_stays trace b light c.count-count.ensures.limits.events 0 at (omega arith) lt s (seen c.ret.new.self) went inv.passed in
     subst (λ (f : ProfileFault). IsFaultOf trace.records f) (sym c.bad-then-not-branch.ensures)
     (kept_return trace.records b trace.root at s.work (leans s.frames) lt read.0 stop inv.passed.reached)
 
@@ -76,25 +76,25 @@ loop-at-preserved c =
     let read = λ (e : Event) (is : c.in-Ok.event ≡ e).
     is_read trace at c.event_at.result e c.event_at.ensures.said c.event_at.ensures.within (c.in-Ok.is ∙ ap (λ (e : Event). Ok e) is) in
     let further : suc at ≡ at + 1 = omega arith in
-    let moved = λ (new : Seen) (is : seen c.match-event.summing ≡ new) (k : Passed trace b (suc at) new).
-    subst (λ n. Passed trace b n (seen c.match-event.summing)) further (subst (λ (x : Seen). Passed trace b (suc at) x) (sym is) k) in
+    let moved = λ (new : Seen) (is : seen c.match-event.summing ≡ new) (k : Passed trace b 0 (suc at) new).
+    subst (λ n. Passed trace b 0 n (seen c.match-event.summing)) further (subst (λ (x : Seen). Passed trace b 0 (suc at) x) (sym is) k) in
     record {
       passed = elim c.match-event.branch [
         | in-Strand w ↦
             moved (seen w.strand.new.self) (ap seen w.summing-is)
-            (strand_passed trace b light short at lt w.in-Strand.count (read (Strand w.in-Strand.count) w.in-Strand.is) s (seen w.strand.new.self) w.strand.ensures inv.passed)
+            (strand_passed trace b light short 0 at (omega arith) lt w.in-Strand.count (read (Strand w.in-Strand.count) w.in-Strand.is) s (seen w.strand.new.self) w.strand.ensures inv.passed)
         | in-Call+in_ok-open-in-Call w ↦
             moved (seen w.open.new.self) (ap seen w.summing-is)
-            (call_passed trace b light short at lt w.in-Call.site w.in-Call.func (read (Call w.in-Call.site w.in-Call.func) w.in-Call.is) s (seen w.open.new.self) w.in_ok-open-in-Call.ensures inv.passed)
+            (call_passed trace b light short 0 at (omega arith) lt w.in-Call.site w.in-Call.func (read (Call w.in-Call.site w.in-Call.func) w.in-Call.is) s (seen w.open.new.self) w.in_ok-open-in-Call.ensures inv.passed)
         | in-Spawn+in_ok-open-in-Spawn w ↦
             moved (seen w.open-in-Spawn.new.self) (ap seen w.summing-is)
-            (spawn_passed trace b light short at lt w.in-Spawn.site w.in-Spawn.func (read (Spawn w.in-Spawn.site w.in-Spawn.func) w.in-Spawn.is) s (seen w.open-in-Spawn.new.self) w.in_ok-open-in-Spawn.ensures inv.passed)
+            (spawn_passed trace b light short 0 at (omega arith) lt w.in-Spawn.site w.in-Spawn.func (read (Spawn w.in-Spawn.site w.in-Spawn.func) w.in-Spawn.is) s (seen w.open-in-Spawn.new.self) w.in_ok-open-in-Spawn.ensures inv.passed)
         | in-Ret+in_ok-ret-in-Ret+else-not-branch w ↦
             moved (seen w.ret.new.self) (ap seen w.summing-is)
-            (return_passed trace b light short at lt (read Ret w.in-Ret.is) s (seen w.ret.new.self) (subst (λ (x : Bool). Returns b at s s.frames x (seen w.ret.new.self)) w.if-not-branch.false w.in_ok-ret-in-Ret.ensures) inv.passed)
+            (return_passed trace b light short 0 at (omega arith) lt (read Ret w.in-Ret.is) s (seen w.ret.new.self) (subst (λ (x : Bool). Returns b at s s.frames x (seen w.ret.new.self)) w.if-not-branch.false w.in_ok-ret-in-Ret.ensures) inv.passed)
         | in-Sync+in_ok-sync-in-Sync w ↦
             moved (seen w.sync.new.self) (ap seen w.summing-is)
-            (sync_passed trace b light short at lt (read Sync w.in-Sync.is) s (seen w.sync.new.self) w.in_ok-sync-in-Sync.ensures inv.passed)
+            (sync_passed trace b light short 0 at (omega arith) lt (read Sync w.in-Sync.is) s (seen w.sync.new.self) w.in_ok-sync-in-Sync.ensures inv.passed)
       ];
     }
 

@@ -1,0 +1,65 @@
+//! One reading of the events of a part of a run.
+
+ghost use Rattle.std.specs.Prelude.{◌≡◌, ◌+◌, List, IfOk};
+ghost use Rattle.spp_event.specs.declared.records.Event.{Event as AnEvent};
+ghost use Rattle.spp_frame.specs.Nesting.{AreEvents};
+ghost use Rattle.spp_serial.specs.Outside.{StandsAt};
+ghost use Rattle.spp_serial.specs.Shares.{IsPartOf};
+
+use crate::summing::Summing;
+use spp_cut::Part;
+use spp_dag::FrameKind;
+use spp_event::Event;
+use spp_maxplus::Burdens;
+use spp_path::Choices;
+use spp_site::Table;
+use spp_stack::Entry;
+use std::alloc::{AllocError, Global};
+
+/// What a part of a run tells.
+#[derive(Drop)]
+pub struct PartResult {
+    /// Its share in the rows by call site on the run's whole dag: the strands in the part, and the frames that close in it.
+    pub table: Table,
+    /// Of the choices that settle the run's path those in the part, by their positions in the trace.
+    pub choices: Choices,
+}
+
+/// The share of a part in the table of its run, and the choices in it, where `entry` has the frames that are open before
+/// the part. Neither has burdens.
+///
+/// The events of the part are read once, each in constant time, amortized, behind a step for each frame of the entry and
+/// for each site and function. A frame of the entry is come to where the frames in it have returned. The memory is linear
+/// in the numbers of frames that are opened in the part or returned to, of spawned children that return in it, of sites
+/// and of functions.
+///
+/// # Errors
+///
+/// Where a growth was refused.
+pub fn run_part(
+    alloc: Global,
+    part: &Part<'_, '_>,
+    entry: Entry<'_>,
+) -> Result<PartResult, AllocError>
+    requires { StandsAt part.now.trace part.now.first entry }
+    ensures { IfOk result (λ p. (es : List AnEvent) → AreEvents part.now.trace.records es → IsPartOf es part.now.trace.root part.now.first (part.now.first + part.now.count) p.table p.choices) }
+{
+    let trace = part.trace();
+    // Its clauses tell that counts fit.
+    let _count = trace.count();
+    let mut summing = Summing::within(alloc, &entry)?;
+    let mut outside = entry.below();
+    for at in part.first()..part.first() + part.count() {
+        match trace.known_event(at) {
+            Event::Strand { count } => summing.strand(count),
+            Event::Call { site, func } => summing.open(FrameKind::Called, at, site, func)?,
+            Event::Spawn { site, func } => summing.open(FrameKind::Spawned, at, site, func)?,
+            Event::Ret => {
+                outside = summing.reach(outside)?;
+                summing.ret(at, Burdens::default())?;
+            }
+            Event::Sync => summing.sync(at)?,
+        }
+    }
+    summing.suspend()
+}
