@@ -26,8 +26,8 @@ or_none : (b : Bool) → (b || false) ≡ b
 or_none true = refl
 or_none false = refl
 
-pub first_marks : (bits : List Bool) (b c : Bool) (x : ℕ) → bits ≡ [] → c ≡ (b || is_marked bits x) → c ≡ b
-first_marks bits b c x none e = e ∙ ap (λ l. b || is_marked l x) none ∙ ap (λ y. b || y) (none_marked x) ∙ or_none b
+pub first_marks : (bits : List Bool) (b c : Bool) (x : ℕ) → bits ≡ [] → c ≡ (is_marked bits x || b) → c ≡ b
+first_marks bits b c x none e = e ∙ ap (λ l. is_marked l x || b) none ∙ ap (λ y. y || b) (none_marked x)
 
 -- one frame is come to
 pub reached_one : (s : Seen) (items new : List CountedFrame) (x : CountedFrame) (o : Option StackOf) (e : StackOf) (node : Node) (below : Option StackOf)

@@ -28,8 +28,8 @@ pub struct PartResult {
 /// The share of a part in the table of its run, and the choices in it, where `entry` has the frames that are open before
 /// the part. Neither has burdens.
 ///
-/// The events of the part are read once, each in constant time, amortized, behind a step for each frame of the entry and
-/// for each site and function. A frame of the entry is come to where the frames in it have returned. The memory is linear
+/// The events of the part are read once, each in constant time, amortized, behind a step for each site and function that
+/// is open before the part, and for each number of a site or of a function up to the greatest. A frame of the entry is come to where the frames in it have returned. The memory is linear
 /// in the numbers of frames that are opened in the part or returned to, of spawned children that return in it, of sites
 /// and of functions.
 ///

@@ -1,11 +1,10 @@
 //! What one pass over the events of a run has between two events, and what each event does to it.
 
-ghost use Rattle.std.specs.Prelude.{◌≡◌, ℕ, ◌+◌, ◌<◌, ◌≤◌, ◌^◌, ◌++◌, ◌||◌, ◌∷◌, List, Some, nat_eq, length, OnOk, IfOk};
+ghost use Rattle.std.specs.Prelude.{◌≡◌, ℕ, ◌+◌, ◌<◌, ◌≤◌, ◌^◌, ◌++◌, ◌∷◌, List, length, OnOk, IfOk};
 ghost use Rattle.spp_dag.specs.declared.stack.EntryFrame.{EntryFrame as FrameValue};
 ghost use Rattle.spp_dag.specs.Shares.{plus};
-ghost use Rattle.spp_dag.specs.Steps.{site_by, same_key, has_site, has_func, strand_row};
+ghost use Rattle.spp_dag.specs.Steps.{strand_row};
 ghost use Rattle.spp_site.specs.Rows.{Fits};
-ghost use Rattle.spp_site.specs.Marks.{is_marked};
 ghost use Rattle.spp_stack.specs.Chain.{HasFrames};
 ghost use Rattle.spp_path.specs.Tables.{key_row};
 ghost use Rattle.spp_maxplus.specs.State.{taken as taken_of};
@@ -243,34 +242,6 @@ fn spawn_in(child: Option<(u128, u32)>) -> Option<u32>
     }
 }
 
-/// Puts in the site by which an open frame was entered, and the function that it runs.
-fn mark(node: &Node, sites: &mut Marks, funcs: &mut Marks) -> Result<(), AllocError>
-    ensures sites { OnOk result ((x : ℕ) → is_marked sites.new x ≡ (same_key (site_by node.now.frame.kind node.now.frame.site) (Some x) || is_marked sites.old x)) }
-    ensures funcs { OnOk result ((x : ℕ) → is_marked funcs.new x ≡ (nat_eq node.now.frame.func x || is_marked funcs.old x)) }
-{
-    match node.frame.kind {
-        FrameKind::Root => {}
-        FrameKind::Called | FrameKind::Spawned => sites.add(node.frame.site)?,
-    }
-    funcs.add(node.frame.func)?;
-    Ok(())
-}
-
-/// Puts in the sites by which the open frames were entered, and the functions that they run. It takes time linear in the
-/// number of the frames.
-fn mark_open(entry: &Entry<'_>, sites: &mut Marks, funcs: &mut Marks) -> Result<(), AllocError>
-    ensures sites { OnOk result ((f : FrameValue) (fs : List FrameValue) → HasFrames entry.now (f ∷ fs) → (x : ℕ) → is_marked sites.new x ≡ (has_site (f ∷ fs) x || is_marked sites.old x)) }
-    ensures funcs { OnOk result ((f : FrameValue) (fs : List FrameValue) → HasFrames entry.now (f ∷ fs) → (x : ℕ) → is_marked funcs.new x ≡ (has_func (f ∷ fs) x || is_marked funcs.old x)) }
-{
-    mark(entry.innermost(), sites, funcs)?;
-    let mut left = entry.below();
-    while let Some(open) = left {
-        mark(open.innermost(), sites, funcs)?;
-        left = open.below();
-    }
-    Ok(())
-}
-
 /// Notes that a frame waits at `at` and takes that child, where it takes one.
 #[inline(always)]
 fn note_join(joins: &mut Vec<Join>, at: u32, taken: Option<u32>) -> Result<(), AllocError>
@@ -353,7 +324,7 @@ impl Summing {
     {
         let mut open_sites = Marks::new(alloc);
         let mut open_funcs = Marks::new(alloc);
-        mark_open(entry, &mut open_sites, &mut open_funcs)?;
+        entry.mark(&mut open_sites, &mut open_funcs)?;
         let mut frames = Vec::new(alloc);
         frames.push(CountedFrame::entered(entry.innermost()))?;
         Ok(Summing {

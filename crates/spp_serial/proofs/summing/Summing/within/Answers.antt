@@ -7,8 +7,8 @@ pub returns : goal.returns
 returns c = λ f fs h. record {
   frames = ap reverse (c.in_ok-push.ensures.items ∙ ap (λ (l : List CountedFrame). l ++ c.entered.result ∷ []) c.new-frames.ensures.items)
       ∙ ap (λ (x : CountedFrame). x ∷ []) (c.entered.ensures ∙ node_enters c.innermost.result.now f fs (c.innermost.ensures.frame f fs h));
-  open_sites = λ x. first_marks c.new-open_sites.result _ _ x c.new-open_sites.ensures (c.in_ok-mark_open.ensures.sites f fs h x);
-  open_funcs = λ x. first_marks c.new-open_funcs.result _ _ x c.new-open_funcs.ensures (c.in_ok-mark_open.ensures.funcs f fs h x);
+  open_sites = λ x. first_marks c.new-open_sites.result _ _ x c.new-open_sites.ensures (c.in_ok-mark.ensures.sites (f ∷ fs) h x);
+  open_funcs = λ x. first_marks c.new-open_funcs.result _ _ x c.new-open_funcs.ensures (c.in_ok-mark.ensures.funcs (f ∷ fs) h x);
   work = c.work.ensures;
   table = c.new.ensures;
   ends = c.new-2.ensures.items;
