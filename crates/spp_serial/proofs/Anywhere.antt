@@ -1,8 +1,7 @@
 -- What a pass without burdens has before any event of a well-formed trace, and what a pass has that begins there.
-use Rattle.std.proofs.Common.{◌≡◌, ℕ, zero, suc, ◌+◌, ◌*◌, ◌<◌, ◌≤◌, ◌^◌, Bool, true, false, cond, not, nat_eq, List, [], ◌∷◌, ◌++◌, length, map, Option, Some, None, Ok, Err, IfOk, unwrap_or, refl, sym, ap, ap₂, subst, ◌∙◌, arith}
+use Rattle.std.proofs.Common.{◌≡◌, ℕ, zero, suc, ◌+◌, ◌<◌, ◌≤◌, Bool, true, false, cond, not, nat_eq, List, [], ◌∷◌, ◌++◌, length, map, Option, Some, None, Ok, Err, IfOk, unwrap_or, refl, sym, ap, ap₂, subst, ◌∙◌, arith}
 use Rattle.std.specs.FinMap as map
 use Rattle.std.specs.FinMap.{get-insert}
-use Rattle.std.specs.Ordering.{nat_cmp, eq_by_cmp}
 use Rattle.std.specs.Cmp.{unsigned_tied, nat_cmp_total}
 use Rattle.std.proofs.lemmas.Bool.{eqb-true}
 use Rattle.std.proofs.lemmas.List.{length-map}
@@ -17,10 +16,8 @@ use Rattle.spp_maxplus.specs.declared.state.State.{State}
 use Rattle.spp_maxplus.specs.State as state
 use Rattle.spp_maxplus.specs.State.{unburdened, taken, close, after_strand, after_sync}
 use Rattle.spp_dag.specs.declared.row.Row.{Row}
-use Rattle.spp_dag.specs.declared.stack.EntryFrame.{EntryFrame}
 use Rattle.spp_dag.specs.declared.stack.OpenFrame.{OpenFrame}
 use Rattle.spp_dag.specs.declared.stack.FrameKind.TheVariants.{Called, Spawned}
-use Rattle.spp_dag.specs.Trace.{IsWellFormed}
 use Rattle.spp_dag.specs.Choices.{IsEntry}
 use Rattle.spp_dag.specs.Stack as machine
 use Rattle.spp_dag.specs.Stack.{run, root_frame}
@@ -38,16 +35,16 @@ use Rattle.spp_path.proofs.Summing.{no_fault_in}
 use Rattle.spp_serial.specs.declared.summing.CountedFrame.{CountedFrame}
 use Rattle.spp_serial.specs.declared.stack.Frame.{Frame}
 use Rattle.spp_serial.specs.declared.weights.Weights.{Weights}
-use Rattle.spp_serial.specs.Weights.{weights_of, child_weight, kept, advance}
+use Rattle.spp_serial.specs.Weights.{weights_of, child_weight, kept}
 use Rattle.spp_serial.specs.Passes.{Seen, child_of, state_of, row_of, joins_at, ends_at, start_seen, strand_seen, sync_seen, open_seen, returned_frame}
 use Rattle.spp_serial.specs.Outside.{spawn_of, entered_frame, entered_frames}
 use Rattle.spp_serial.proofs.Keeping as figures
 use Rattle.spp_serial.proofs.Keeping.{kept_return}
-use Rattle.spp_serial.proofs.Told.{Counted, state_sum}
-use Rattle.spp_serial.proofs.Bounded.{entries, owed, AreMarked, AreOpen, Bounded, empty_rows}
+use Rattle.spp_serial.proofs.Told.{state_sum}
+use Rattle.spp_serial.proofs.Bounded.{entries, owed, AreMarked, AreOpen, empty_rows}
 use Rattle.spp_serial.proofs.Shared.{share_none}
 use Rattle.spp_serial.proofs.Choosing.{none_from}
-use Rattle.spp_serial.proofs.Projected.{lean, counted, told, IsNeat, AllNeat}
+use Rattle.spp_serial.proofs.Projected.{lean, counted, IsNeat, AllNeat}
 use Rattle.spp_serial.proofs.Passed.{leans, IsRead, Passed, start_passed, strand_passed, sync_passed, call_passed, spawn_passed, return_passed}
 
 -- ---- a pass over all events

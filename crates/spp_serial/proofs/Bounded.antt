@@ -1,10 +1,9 @@
 -- What the table's part of a pass keeps whatever the events are: its marks are those of the open frames, and its sums
 -- are within bounds.
-use Rattle.std.proofs.Common.{◌≡◌, ℕ, zero, suc, ◌+◌, ◌*◌, ◌<◌, ◌≤◌, ◌^◌, Bool, true, false, cond, not, ◌||◌, nat_eq, List, [], ◌∷◌, length, map, Option, Some, None, unwrap_or, refl, sym, ap, ap₂, subst, ◌∙◌, arith, inl, inr}
+use Rattle.std.proofs.Common.{◌≡◌, ℕ, suc, ◌+◌, ◌*◌, ◌<◌, ◌≤◌, ◌^◌, Bool, true, cond, not, ◌||◌, nat_eq, List, [], ◌∷◌, length, map, Option, Some, None, unwrap_or, refl, sym, ap, ap₂, subst, ◌∙◌, arith, inl, inr}
 use Rattle.std.specs.FinMap as map
 use Rattle.std.specs.Ordering.{nat_cmp}
 use Rattle.std.proofs.lemmas.Bool.{eq-eqb, ne_eqb, cases_eq}
-use Rattle.std.proofs.lemmas.List.{length-map}
 use Rattle.spp_maxplus.specs.declared.state.State.{State}
 use Rattle.spp_maxplus.specs.State.{unburdened, close, after_strand, after_sync}
 use Rattle.spp_dag.specs.declared.row.Row.{Row}
@@ -18,7 +17,7 @@ use Rattle.spp_site.specs.Rows.{Fits}
 use Rattle.spp_site.specs.Table.{Sums, row_at, empty, IsAdded}
 use Rattle.spp_site.proofs.Rows.{plus-zero, zero-plus}
 use Rattle.spp_path.specs.Tables.{key_row}
-use Rattle.spp_site.specs.Marks.{with_mark, without}
+use Rattle.spp_site.specs.Marks.{without}
 use Rattle.spp_site.proofs.Marked.{marked_more, marked_less}
 use Rattle.spp_serial.proofs.Told.{Counted, Told, state_sum, full_row, start_told, strand_told, sync_told, opened_frame, open_told, return_frames, IsReturned}
 use Rattle.spp_piece.proofs.MachineSteps.{greatest_more, child_adds}

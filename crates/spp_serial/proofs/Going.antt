@@ -1,7 +1,6 @@
 -- What a pass over a part has between two events: with the frames outside it is a pass that began with the part.
-use Rattle.std.proofs.Common.{◌≡◌, ℕ, zero, suc, ◌+◌, ◌*◌, ◌<◌, ◌≤◌, ◌↔◌, Bool, cond, true, false, not, List, [], ◌∷◌, ◌++◌, length, map, Option, Some, None, Result, Ok, Err, IfOk, refl, sym, ap, ap₂, subst, ◌∙◌, arith}
+use Rattle.std.proofs.Common.{◌≡◌, ℕ, suc, ◌*◌, ◌<◌, ◌≤◌, ◌↔◌, Bool, cond, not, List, [], ◌∷◌, ◌++◌, length, map, Option, Result, Ok, Err, IfOk, refl, sym, ap, subst, ◌∙◌, arith}
 use Rattle.std.specs.Prelude.{IsOk, Contains}
-use Rattle.std.proofs.lemmas.List.{length-map}
 use Rattle.spp_event.specs.declared.records.Event.{Event}
 use Rattle.spp_event.specs.declared.records.Event.TheVariants.{Strand, Call, Spawn, Ret, Sync}
 use Rattle.spp_event.specs.Records.{IsEventOf}
@@ -10,7 +9,6 @@ use Rattle.spp_frame.specs.Nesting as nesting
 use Rattle.spp_frame.specs.Nesting.{AreEvents}
 use Rattle.spp_maxplus.specs.declared.state.Burdens.{Burdens}
 use Rattle.spp_maxplus.specs.State.{unburdened}
-use Rattle.spp_dag.specs.declared.row.Row.{Row}
 use Rattle.spp_dag.specs.declared.stack.EntryFrame.{EntryFrame}
 use Rattle.spp_dag.specs.declared.stack.FrameKind.{FrameKind}
 use Rattle.spp_dag.specs.declared.stack.FrameKind.TheVariants.{Called, Spawned}
@@ -20,26 +18,23 @@ use Rattle.spp_dag.specs.Shares.{plus, zero_row}
 use Rattle.spp_dag.specs.Steps.{same_key, key_of, strand_row, has_site, has_func}
 use Rattle.spp_dag.proofs.Entries.{entry_is_one}
 use Rattle.spp_dag.proofs.Profiles.{spans_law}
-use Rattle.spp_site.specs.Rows.{Fits}
-use Rattle.spp_site.specs.Table.{Sums, empty}
+use Rattle.spp_site.specs.Table.{empty}
 use Rattle.spp_site.proofs.Rows.{plus-zero}
 use Rattle.spp_stack.specs.Chain.{StackOf, HasFrames}
 use Rattle.spp_path.specs.Tables.{key_row}
 use Rattle.spp_path.specs.declared.choices.End.{End}
 use Rattle.spp_path.specs.declared.choices.Join.{Join}
-use Rattle.spp_path.specs.declared.choices.Choices.{Choices}
 use Rattle.spp_path.proofs.RowSums.{none_owed, low_fits}
 use Rattle.spp_serial.specs.declared.part.PartResult.{PartResult}
 use Rattle.spp_serial.specs.declared.summing.CountedFrame.{CountedFrame}
-use Rattle.spp_serial.specs.Passes.{Seen, HasOpen, OnTop, FitsStrand, on_top, strand_frame, sync_frame, strand_seen, sync_seen, open_seen, CanAdd, CanReturn, Returns, IsReturned}
+use Rattle.spp_serial.specs.Passes.{Seen, HasOpen, OnTop, strand_seen, sync_seen, open_seen, CanAdd, CanReturn, Returns}
 use Rattle.spp_serial.specs.Outside.{StandsAt, entered_frame, entered_frames, IsBegun, IsOutside, IsReached, frame_key, local_rows, FitsOpen, IsSuspended}
 use Rattle.spp_serial.specs.Shares.{IsWithin, IsPartOf}
 use Rattle.spp_path.specs.Choices.{AreRising, IsEnd, IsJoin}
 use Rattle.spp_serial.proofs.Bounded.{entries, owed}
-use Rattle.spp_serial.proofs.Projected.{counted, told}
-use Rattle.spp_serial.proofs.Suspending.{row_fits, local_rows-append}
+use Rattle.spp_serial.proofs.Projected.{counted}
 use Rattle.spp_serial.proofs.Passed.{IsRead, Passed, ready_add, strand_passed, sync_passed, call_passed, spawn_passed, ready_return, return_passed, events_len}
-use Rattle.spp_serial.proofs.Anywhere.{Sound, light, reads, not_alone, passed_to, passed_even, rested, rested_owed, begun_seen, begun_passed, entered_are}
+use Rattle.spp_serial.proofs.Anywhere.{Sound, light, reads, not_alone, passed_to, passed_even, rested, begun_seen, begun_passed, entered_are}
 
 -- the pass, with frames outside
 abbrev pub with_outside : List CountedFrame → Seen → Seen

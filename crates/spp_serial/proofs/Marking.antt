@@ -1,10 +1,8 @@
 -- What of a stack is outside.
-use Rattle.std.proofs.Common.{◌≡◌, ℕ, suc, ◌<◌, Bool, true, false, ◌||◌, nat_eq, List, [], ◌∷◌, Option, Some, None, refl, sym, ap, ap₂, subst, ◌∙◌, arith}
+use Rattle.std.proofs.Common.{◌≡◌, List, [], Option, Some, None, refl}
 use Rattle.std.specs.Prelude.{IfSome}
 use Rattle.spp_dag.specs.declared.stack.EntryFrame.{EntryFrame}
-use Rattle.spp_dag.specs.Steps.{site_by, same_key, has_site, has_func}
-use Rattle.spp_stack.specs.declared.node.Node.{Node}
-use Rattle.spp_stack.specs.Chain.{StackOf, HasFrames, IsNodeOf}
+use Rattle.spp_stack.specs.Chain.{StackOf, HasFrames}
 use Rattle.spp_serial.specs.Outside.{IsOutside}
 
 -- what is left outside of a stack is what is below its innermost frame

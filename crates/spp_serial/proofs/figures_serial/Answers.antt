@@ -1,7 +1,7 @@
 use Rattle.std.proofs.Common.{◌≡◌, ◌+◌, ◌<◌, ◌≤◌, List, ◌∷◌, length, Some, Ok, Err, sym, ap, subst, ◌∙◌, arith}
 use Rattle.spp_event.specs.declared.records.Event.{Event}
 use Rattle.spp_event.specs.declared.records.Event.TheVariants.{Strand, Call, Spawn, Ret, Sync}
-use Rattle.spp_event.specs.Recordings.{Recording, record_at}
+use Rattle.spp_event.specs.Recordings.{record_at}
 use Rattle.spp_frame.specs.Nesting.{weight}
 use Rattle.spp_maxplus.specs.declared.state.Burdens.{Burdens}
 use Rattle.spp_serial.specs.declared.stack.Frame.{Frame}

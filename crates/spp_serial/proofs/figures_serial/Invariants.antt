@@ -1,4 +1,3 @@
-use Rattle.std.proofs.Common.{◌≡◌}
 use Rattle.spp_serial.proofs.Keeping.{Kept}
 use Rattle.spp_serial.proofs.figures_serial.Given as goal
 

@@ -1,4 +1,3 @@
-use Rattle.std.proofs.Common.{◌≡◌}
 use Rattle.spp_serial.specs.Passes.{seen}
 use Rattle.spp_serial.proofs.Passed.{Passed}
 use Rattle.spp_serial.proofs.first_pass.first_pass.Given as goal

@@ -1,4 +1,4 @@
-use Rattle.std.proofs.Common.{◌≡◌, ℕ, suc, ◌+◌, ◌<◌, ◌≤◌, Bool, Option, length, sym, ap, subst, ◌∙◌, arith}
+use Rattle.std.proofs.Common.{◌≡◌, ℕ, suc, ◌+◌, ◌<◌, ◌≤◌, Option, length, sym, ap, subst, arith}
 use Rattle.spp_event.specs.declared.records.Event.{Event}
 use Rattle.spp_event.specs.declared.records.Event.TheVariants.{Strand, Call, Spawn, Ret, Sync}
 use Rattle.spp_event.specs.Recordings.{Recording}
@@ -6,10 +6,8 @@ use Rattle.spp_maxplus.specs.declared.state.Burdens.{Burdens}
 use Rattle.spp_stack.specs.Chain.{StackOf}
 use Rattle.spp_serial.specs.declared.part.PartResult.{PartResult}
 use Rattle.spp_serial.specs.Passes.{Seen, seen, CanReturn, Returns}
-use Rattle.spp_serial.specs.Outside.{IsSuspended}
 use Rattle.spp_serial.specs.Shares.{IsPartOf}
 use Rattle.spp_serial.proofs.Marking.{outside_below}
-use Rattle.spp_serial.proofs.Anywhere.{Sound}
 use Rattle.spp_serial.proofs.Going.{Going, sound_of, read_of, some_read, none_are, ok_more, going_start, going_add, going_strand, going_sync, going_call, going_spawn, going_reached, going_can_return, going_return, going_suspend, going_end}
 use Rattle.spp_serial.proofs.part.run_part.Goals as goal
 use Rattle.spp_serial.proofs.part.run_part.Goals.{in-Strand, in-Call+in_ok-open-in-Call, in-Spawn+in_ok-open-in-Spawn, in-Ret+in_ok-outside-in-Ret+in_ok-ret-in-Ret, in-Sync+in_ok-sync-in-Sync}

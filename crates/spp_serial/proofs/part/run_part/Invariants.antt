@@ -1,4 +1,4 @@
-use Rattle.std.proofs.Common.{◌≡◌, ◌+◌, ◌≤◌}
+use Rattle.std.proofs.Common.{◌≤◌}
 use Rattle.spp_serial.specs.Passes.{seen}
 use Rattle.spp_serial.proofs.Going.{Going}
 use Rattle.spp_serial.proofs.part.run_part.Given as goal

@@ -1,5 +1,5 @@
 use Rattle.std.proofs.Common.{sym, ◌∙◌}
-use Rattle.spp_serial.proofs.Tops.{topped}
+use Rattle.spp_path.proofs.Tops.{topped}
 use Rattle.spp_serial.proofs.stack.Stack.open.Goals as goal
 
 pub returns-clause-some : goal.returns-clause-some

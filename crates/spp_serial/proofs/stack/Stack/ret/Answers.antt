@@ -7,7 +7,7 @@ use Rattle.spp_dag.specs.declared.stack.FrameKind.TheVariants.{Root, Called, Spa
 use Rattle.spp_serial.specs.declared.stack.Frame.{Frame}
 use Rattle.spp_serial.specs.declared.weights.Weights.{Weights}
 use Rattle.spp_serial.specs.Weights.{advance, after_return, after_child, after_spawn, close}
-use Rattle.spp_serial.proofs.Tops.{topped}
+use Rattle.spp_path.proofs.Tops.{topped}
 use Rattle.spp_serial.proofs.stack.Stack.ret.Goals as goal
 use Rattle.spp_serial.proofs.stack.Stack.ret.Goals.{in-Root, in-Called, in-Spawned}
 

@@ -3,7 +3,7 @@ use Rattle.spp_event.specs.declared.records.Event.TheVariants.{Strand}
 use Rattle.spp_serial.specs.declared.stack.Frame.{Frame}
 use Rattle.spp_serial.specs.declared.weights.Weights.{Weights}
 use Rattle.spp_serial.specs.Weights.{advance, after_strand}
-use Rattle.spp_serial.proofs.Tops.{topped}
+use Rattle.spp_path.proofs.Tops.{topped}
 use Rattle.spp_serial.proofs.stack.Stack.strand.Goals as goal
 
 pub returns : goal.returns

@@ -9,7 +9,8 @@ use Rattle.spp_serial.specs.declared.summing.CountedFrame.{CountedFrame}
 use Rattle.spp_serial.specs.declared.summing.FirstPass.{FirstPass}
 use Rattle.spp_serial.specs.Weights.{close}
 use Rattle.spp_serial.specs.Passes.{Seen, seen, state_of, row_of, joins_at, CanFinish, IsFinished}
-use Rattle.spp_serial.proofs.Tops.{topped, some_open}
+use Rattle.spp_path.proofs.Tops.{topped}
+use Rattle.spp_serial.proofs.Tops.{some_open}
 use Rattle.spp_serial.proofs.summing.Summing.finish.Goals as goal
 
 pub closed-requires : goal.closed-requires

@@ -1,10 +1,11 @@
-use Rattle.std.proofs.Common.{◌≡◌, ◌-◌, ◌+◌, ◌<◌, ℕ, Bool, not, List, [], ◌∷◌, ◌++◌, length, reverse, get_or, sym, ap, ap₂, subst, ◌∙◌, arith}
+use Rattle.std.proofs.Common.{◌≡◌, ◌-◌, ℕ, Bool, not, List, [], ◌∷◌, ◌++◌, length, reverse, get_or, sym, ap, ap₂, ◌∙◌, arith}
 use Rattle.std.proofs.lemmas.List.{reverse-append}
 use Rattle.spp_serial.specs.declared.summing.CountedFrame.{CountedFrame}
 use Rattle.spp_serial.specs.declared.weights.Weights.{Weights}
 use Rattle.spp_serial.specs.Weights.{start}
 use Rattle.spp_serial.specs.Passes.{Seen, seen, opened_frame, open_frames}
-use Rattle.spp_serial.proofs.Tops.{topped, some_open}
+use Rattle.spp_path.proofs.Tops.{topped}
+use Rattle.spp_serial.proofs.Tops.{some_open}
 use Rattle.spp_serial.proofs.summing.Summing.open.Goals as goal
 
 pub returns : goal.returns

@@ -1,4 +1,3 @@
-use Rattle.std.proofs.Common.{◌≡◌}
 use Rattle.spp_serial.specs.Passes.{seen}
 use Rattle.spp_serial.proofs.Tops.{some_open}
 use Rattle.spp_serial.proofs.Reaching.{reached_one}

@@ -1,4 +1,4 @@
-use Rattle.std.proofs.Common.{◌≡◌, ◌-◌, ◌+◌, ◌<◌, ◌≤◌, true, ℕ, List, [], ◌∷◌, ◌++◌, length, reverse, take, get_or, set, refl, sym, ap, subst, ◌∙◌, arith}
+use Rattle.std.proofs.Common.{◌≡◌, ◌-◌, ◌<◌, ◌≤◌, true, List, ◌∷◌, ◌++◌, length, reverse, take, get_or, set, refl, sym, ap, subst, ◌∙◌, arith}
 use Rattle.std.proofs.lemmas.List.{length-take-le}
 use Rattle.spp_site.specs.Rows.{frame_row}
 use Rattle.spp_site.specs.Table.{IsAdded}
@@ -7,7 +7,7 @@ use Rattle.spp_site.specs.declared.closed_frame.ClosedFrame.{ClosedFrame}
 use Rattle.spp_serial.specs.declared.summing.CountedFrame.{CountedFrame}
 use Rattle.spp_serial.specs.declared.summing.Returned.{Returned}
 use Rattle.spp_serial.specs.Passes.{Seen, seen, returned_of, received, joins_at, CanReturn, CanClose, Returns}
-use Rattle.spp_serial.proofs.Tops.{topped, doubled}
+use Rattle.spp_path.proofs.Tops.{topped, doubled}
 use Rattle.spp_serial.proofs.summing.Summing.ret.Goals as goal
 
 pub closed-requires : goal.closed-requires

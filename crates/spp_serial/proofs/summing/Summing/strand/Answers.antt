@@ -1,7 +1,8 @@
 use Rattle.std.proofs.Common.{◌≡◌, ◌-◌, ◌+◌, ℕ, List, ◌∷◌, length, reverse, get_or, set, sym, ap, ap₂, ◌∙◌, arith}
 use Rattle.spp_serial.specs.declared.summing.CountedFrame.{CountedFrame}
 use Rattle.spp_serial.specs.Passes.{Seen, seen, strand_frame, on_top}
-use Rattle.spp_serial.proofs.Tops.{topped, some_open}
+use Rattle.spp_path.proofs.Tops.{topped}
+use Rattle.spp_serial.proofs.Tops.{some_open}
 use Rattle.spp_serial.proofs.summing.Summing.strand.Goals as goal
 
 pub returns : goal.returns

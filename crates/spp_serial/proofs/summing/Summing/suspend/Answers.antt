@@ -1,4 +1,4 @@
-use Rattle.std.proofs.Common.{◌≡◌, ap, sym, refl, arith, reverse}
+use Rattle.std.proofs.Common.{ap, sym, refl, arith, reverse}
 use Rattle.spp_dag.specs.Shares.{plus}
 use Rattle.spp_path.specs.Tables.{key_row}
 use Rattle.spp_serial.specs.Outside.{local_rows}

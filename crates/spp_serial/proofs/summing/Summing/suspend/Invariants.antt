@@ -1,4 +1,4 @@
-use Rattle.std.proofs.Common.{◌≡◌, ℕ, ◌≤◌, length, reverse, drop}
+use Rattle.std.proofs.Common.{◌≡◌, reverse, drop}
 use Rattle.spp_dag.specs.Shares.{plus}
 use Rattle.spp_path.specs.Tables.{key_row}
 use Rattle.spp_serial.specs.Outside.{local_rows}

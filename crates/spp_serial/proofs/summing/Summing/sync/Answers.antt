@@ -3,7 +3,8 @@ use Rattle.spp_maxplus.specs.State.{taken}
 use Rattle.spp_serial.specs.declared.summing.CountedFrame.{CountedFrame}
 use Rattle.spp_path.specs.declared.choices.Join.{Join}
 use Rattle.spp_serial.specs.Passes.{Seen, seen, state_of, sync_frame, on_top, joins_at, top_joins}
-use Rattle.spp_serial.proofs.Tops.{topped, some_open}
+use Rattle.spp_path.proofs.Tops.{topped}
+use Rattle.spp_serial.proofs.Tops.{some_open}
 use Rattle.spp_serial.proofs.summing.Summing.sync.Goals as goal
 
 pub returns : goal.returns

@@ -1,4 +1,4 @@
-use Rattle.std.proofs.Common.{◌≡◌, ◌++◌, [], ◌∷◌, reverse, List, ap, ap₂, ◌∙◌}
+use Rattle.std.proofs.Common.{◌++◌, [], ◌∷◌, reverse, List, ap, ◌∙◌}
 use Rattle.spp_serial.specs.declared.summing.CountedFrame.{CountedFrame}
 use Rattle.spp_serial.proofs.Reaching.{node_enters, first_marks}
 use Rattle.spp_serial.proofs.summing.Summing.within.Goals as goal
