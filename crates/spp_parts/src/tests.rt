@@ -1,11 +1,12 @@
-//! Surveys, and the open frames where parts begin, which come of them.
-use crate::survey;
+//! Surveys, the open frames where parts begin, which come of them, and tables by parts.
+use crate::{dag_in_parts, survey};
 use spp_cut::{Cut, cut_at, cut_even};
-use spp_dag::{EntryFrame, FrameKind};
+use spp_dag::{EntryFrame, FrameKind, Row};
 use spp_event::{Event, open_trace, record_of};
 use spp_frame::{Fault, Why};
 use spp_maxplus::{Burdens, State};
 use spp_piece::{Figures, FiguresFault};
+use spp_serial::profile_serial;
 use spp_stack::{Entries, entries};
 use std::alloc::{AllocError, Global};
 use std::test::Fail;
@@ -250,5 +251,105 @@ fn of_all_parts_the_first_bad_event_is_told(rt: HostRuntime) -> Result<(), Fail>
     let alloc = rt.alloc();
     assert!(rt; comes_to(alloc, &[s(1), RET, s(2)], fault(1, Why::RootReturn))?);
     assert!(rt; comes_to(alloc, &[CALL, s(1)], fault(2, Why::Unclosed { depth: 1 }))?);
+    Ok(())
+}
+
+/// The rows of the root and of the site `A` of a run of these events, in parts of one event; none where it isn't
+/// well-formed or no memory was left.
+fn rows_in_parts(alloc: Global, events: &[Event]) -> Option<(Row, Row)> {
+    let bytes = trace_of(alloc, events).ok()?;
+    let trace = open_trace(alloc, &bytes).ok()?;
+    let parts = trace.count().clamp(1, 65536);
+    let cut = cut_even(alloc, &trace, parts).ok()?;
+    let count = cut.parts().len();
+    if count == 0 || count > 65536 {
+        return None;
+    }
+    let dag = dag_in_parts(alloc, &cut).ok()?;
+    Some((dag.root_row(), dag.row(0)))
+}
+
+/// The same rows of the profiler that goes through the run as a whole.
+fn rows_at_once(alloc: Global, events: &[Event]) -> Option<(Row, Row)> {
+    let bytes = trace_of(alloc, events).ok()?;
+    let trace = open_trace(alloc, &bytes).ok()?;
+    let profile = profile_serial(alloc, &trace, 0).ok()?;
+    Some((profile.dag.root_row(), profile.dag.row(0)))
+}
+
+/// The row of the root frame of a run of that work and span, with so many instructions directly in it.
+fn root_row(local: u128, work: u128, span: u128) -> Row {
+    Row {
+        count: 1,
+        local,
+        site_count: 1,
+        site_work: work,
+        site_span: span,
+        caller_count: 1,
+        caller_work: work,
+        caller_span: span,
+    }
+}
+
+#[test]
+fn a_spawned_child_has_its_row(rt: HostRuntime) -> Result<(), Fail> {
+    let alloc = rt.alloc();
+    let events = [s(1), SPAWN, s(10), RET, s(4), SYNC, s(2)];
+    let child = Row {
+        count: 1,
+        local: 10,
+        site_count: 1,
+        site_work: 10,
+        site_span: 10,
+        caller_count: 1,
+        caller_work: 10,
+        caller_span: 10,
+    };
+    assert!(rt; rows_in_parts(alloc, &events) == Some((root_row(7, 17, 13), child)));
+    Ok(())
+}
+
+#[test]
+fn tops_are_judged_beyond_the_part(rt: HostRuntime) -> Result<(), Fail> {
+    let alloc = rt.alloc();
+    let nested = Row {
+        count: 3,
+        local: 3,
+        site_count: 1,
+        site_work: 3,
+        site_span: 3,
+        caller_count: 2,
+        caller_work: 5,
+        caller_span: 5,
+    };
+    assert!(rt; rows_in_parts(alloc, &CALLS) == Some((root_row(0, 3, 3), nested)));
+    Ok(())
+}
+
+#[test]
+fn parts_come_to_the_table_of_the_whole(rt: HostRuntime) -> Result<(), Fail> {
+    let alloc = rt.alloc();
+    let spawns = [
+        s(3),
+        SPAWN,
+        s(5),
+        SPAWN,
+        s(5),
+        RET,
+        s(5),
+        RET,
+        CALL,
+        s(1),
+        SPAWN,
+        RET,
+        RET,
+        SYNC,
+        s(1),
+    ];
+    assert!(rt; rows_in_parts(alloc, &[]) == Some((root_row(0, 0, 0), Row::default())));
+    assert!(rt; rows_in_parts(alloc, &spawns) == rows_at_once(alloc, &spawns));
+    let deep = thousand(alloc)?;
+    assert!(rt; rows_in_parts(alloc, &deep).is_some());
+    assert!(rt; rows_in_parts(alloc, &deep) == rows_at_once(alloc, &deep));
     Ok(())
 }

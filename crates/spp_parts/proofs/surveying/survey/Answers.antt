@@ -64,6 +64,13 @@ returns-clause-count c =
     let is = accounts_all c.args.burdens ps c.loop-part.part-index c.loop-part.each.items some (omega (arith, c.loop-part-test.false)) told in
     ap length is ∙ length-map ps (account_in c.args.burdens) ∙ ap length c.parts-parts.ensures.parts
 
+pub returns-clause-each : goal.returns-clause-each
+returns-clause-each c =
+    let ps = c.parts-parts.result.now in
+    let some = subst (λ l. 0 < length l) (sym c.parts-parts.ensures.parts) c.requires in
+    let told = subst (λ l. c.loop-part.each.items ≡ map (account_in c.args.burdens) (take (c.loop-part.part-index + 1) l)) (sym c.parts-parts.ensures.parts) c.loop-part.invariant.each in
+    accounts_all c.args.burdens ps c.loop-part.part-index c.loop-part.each.items some (omega (arith, c.loop-part-test.false)) told ∙ ap (map (account_in c.args.burdens)) c.parts-parts.ensures.parts
+
 pub returns-clause-parts : goal.returns-clause-parts
 returns-clause-parts c es are =
     let t = c.args.cut.now.trace in

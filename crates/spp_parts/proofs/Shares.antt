@@ -1,0 +1,257 @@
+-- The shares of the parts of a cut make the rows of the dag.
+use Rattle.std.proofs.Common.{◌≡◌, ℕ, zero, suc, ◌+◌, ◌<◌, ◌≤◌, ◌^◌, Bool, true, false, cond, ◌&&◌, List, [], ◌∷◌, length, map, get_or, take, drop, Option, Some, None, Ok, refl, sym, ap, ap₂, subst, ◌∙◌, arith}
+use Rattle.std.specs.List.{sum_by}
+use Rattle.std.proofs.lemmas.List.Sums.{sum_by-cons}
+use Rattle.std.proofs.lemmas.Bool.{and_parts}
+use Rattle.std.proofs.lemmas.List.{length-take-le, length-drop, length-map}
+use Rattle.spp_event.specs.declared.records.Event.{Event}
+use Rattle.spp_event.specs.Recordings.{Record, Recording}
+use Rattle.spp_frame.specs.Nesting as nesting
+use Rattle.spp_frame.specs.Nesting.{AreEvents}
+use Rattle.spp_cut.specs.Parts.{PartOf, records_in, Cover}
+use Rattle.spp_maxplus.specs.declared.state.Burdens.{Burdens}
+use Rattle.spp_maxplus.specs.State.{unburdened}
+use Rattle.spp_dag.specs.declared.row.Row.{Row}
+use Rattle.spp_dag.specs.declared.stack.EntryFrame.{EntryFrame}
+use Rattle.spp_dag.specs.Ranges.{within}
+use Rattle.spp_dag.specs.Trace.{records, closing, IsWellFormed}
+use Rattle.spp_dag.specs.Rows.{AreSpans, everywhere, work, is_of, is_top_site, is_top_caller, row}
+use Rattle.spp_dag.specs.Shares.{share, plus, zero_row}
+use Rattle.spp_dag.specs.Laws.{own_row}
+use Rattle.spp_dag.specs.Choices.{IsEntry}
+use Rattle.spp_dag.specs.Limits.{IsSmall, IsSmallRow}
+use Rattle.spp_dag.proofs.Bounds.{rows_fit}
+use Rattle.spp_dag.proofs.Profiles.{row_frame, greatest_one, spans_of, are_spans, root_work}
+use Rattle.spp_dag.proofs.Shares.{same_rows, shares_law, cut_law, end_law}
+use Rattle.spp_dag.proofs.Sums.{sum-same}
+use Rattle.spp_site.specs.Rows.{Fits, frame_row}
+use Rattle.spp_site.specs.Table.{Sums, row_at, empty, IsSum}
+use Rattle.spp_site.proofs.Rows.{plus-zero, zero-plus}
+use Rattle.spp_piece.specs.declared.figures.Figures.{Figures}
+use Rattle.spp_piece.specs.Account.{Account}
+use Rattle.spp_piece.specs.Figures.{AreFigures}
+use Rattle.spp_stack.specs.Chain.{Stacks, StackOf, IsStart, HasFrames}
+use Rattle.spp_stack.specs.Parts.{IsEntryOf, begin_of}
+use Rattle.spp_path.specs.Tables.{key_row}
+use Rattle.spp_path.specs.declared.choices.Choices.{Choices}
+use Rattle.spp_serial.specs.Outside.{StandsAt}
+use Rattle.spp_serial.specs.Shares.{IsPartOf}
+use Rattle.spp_serial.specs.Tables.{IsDagTable, AreDagRows}
+use Rattle.spp_serial.proofs.Bounded.{empty_rows}
+use Rattle.spp_serial.proofs.Shared.{share_none}
+use Rattle.spp_parts.proofs.Accounts.{account_in}
+
+-- ---- no share depends on the choice of spans
+
+pub shares_one : (es : List Event) (root : ℕ) (a b : ℕ → ℕ) (key : Option ℕ) (from end : ℕ) → AreSpans es a → AreSpans es b
+    → share es root a everywhere key from end ≡ share es root b everywhere key from end
+shares_one es root a b key from end g h =
+    let n : ℕ = suc (length es) in
+    let frame = λ (mark : ℕ → Bool) (f : ℕ) (e : (((everywhere f && is_of es key f) && within from end (closing es f)) && mark f) ≡ true).
+    row_frame es key f (and_parts (everywhere f) (is_of es key f)
+    (and_parts (everywhere f && is_of es key f) (within from end (closing es f))
+    (and_parts ((everywhere f && is_of es key f) && within from end (closing es f)) (mark f) e).0).0).1 in
+    let same = λ (mark : ℕ → Bool) (f : ℕ) (l : f < n) (e : (((everywhere f && is_of es key f) && within from end (closing es f)) && mark f) ≡ true).
+    greatest_one es unburdened f (closing es f) (a f) (b f) (g f (frame mark f e)) (h f (frame mark f e)) in
+    same_rows _ _ refl refl refl refl
+    (sum-same _ _ a b n (λ f l. refl) (same (is_top_site es)))
+    refl refl
+    (sum-same _ _ a b n (λ f l. refl) (same (is_top_caller es root)))
+
+-- ---- where parts begin
+
+-- how many events the parts before part k have
+abbrev pub begin_in : List PartOf → ℕ → ℕ
+begin_in [] k = 0
+begin_in (p ∷ ps) zero = 0
+begin_in (p ∷ ps) (suc k) = p.count + begin_in ps k
+
+pub begin_zero : (ps : List PartOf) → begin_in ps 0 ≡ 0
+begin_zero [] = refl
+begin_zero (p ∷ ps) = refl
+
+cover_le : (t : Recording) (number from end : ℕ) (ps : List PartOf) → Cover t number from ps end → from ≤ end
+cover_le t number from end [] h = let e : from ≡ end = h in omega arith
+cover_le t number from end (p ∷ ps) h =
+    let l = cover_le t (suc number) (from + p.count) end ps h.3 in
+    omega arith
+
+-- a part of the trace t
+pub record PartAt (t : Recording) (from : ℕ) (ps : List PartOf) (k : ℕ) (p : PartOf) : Type 0 where
+  pub trace : p.trace ≡ t
+  pub first : p.first ≡ from + begin_in ps k
+  pub next : begin_in ps (suc k) ≡ begin_in ps k + p.count
+
+pub part_at : (t : Recording) (number from end : ℕ) (ps : List PartOf) → Cover t number from ps end → (k : ℕ) (d : PartOf) → k < length ps → PartAt t from ps k (get_or ps k d)
+part_at t number from end [] h k d l = absurd (omega arith)
+part_at t number from end (p ∷ ps) h zero d l = record {
+  trace = h.0;
+  first = h.2 ∙ (let z : from ≡ from + 0 = omega arith in z);
+  next = let z = begin_zero ps in omega arith;
+}
+part_at t number from end (p ∷ ps) h (suc k) d l =
+    let r = part_at t (suc number) (from + p.count) end ps h.3 k d (omega arith) in
+    let first = r.first in
+    let next = r.next in
+    record { trace = r.trace; first = omega arith; next = omega arith }
+
+pub all_parts : (t : Recording) (number from end : ℕ) (ps : List PartOf) → Cover t number from ps end → from + begin_in ps (length ps) ≡ end
+all_parts t number from end [] h = let e : from ≡ end = h in omega arith
+all_parts t number from end (p ∷ ps) h = let r = all_parts t (suc number) (from + p.count) end ps h.3 in omega arith
+
+-- as the accounts tell it
+pub begin_is : (t : Recording) (b : Burdens) (number from : ℕ) (ps : List PartOf) → Cover t number from ps (length t.records) → (k : ℕ) → begin_of (map (account_in b) ps) k ≡ begin_in ps k
+begin_is t b number from [] h zero = refl
+begin_is t b number from [] h (suc k) = refl
+begin_is t b number from (p ∷ ps) h zero = refl
+begin_is t b number from (p ∷ ps) h (suc k) =
+    let within = cover_le t (suc number) (from + p.count) (length t.records) ps h.3 in
+    let same : records_in p ≡ take p.count (drop from t.records) = ap (λ (u : Recording). take p.count (drop p.first u.records)) h.0 ∙ ap (λ n. take p.count (drop n t.records)) h.2 in
+    let count : length (records_in p) ≡ p.count = ap (λ (l : List Record). length l) same ∙ length-take-le p.count (drop from t.records) (omega (arith, length-drop from t.records)) in
+    let rest = begin_is t b (suc number) (from + p.count) ps h.3 k in
+    let cons : begin_of (map (account_in b) (p ∷ ps)) (suc k) ≡ length (records_in p) + begin_of (map (account_in b) ps) k = sum_by-cons (λ (a : Account). a.events) (account_in b p) (take k (map (account_in b) ps)) in
+    omega arith
+
+-- the entry of a part
+pub stands_at : (t : Recording) (k : ℕ) (accounts : List Account) (stacks : Stacks) (p : PartOf) (stack : StackOf) (es : List Event) → AreEvents t.records es → IsWellFormed es
+    → IsEntryOf es t.root accounts stacks k → begin_of accounts k ≡ p.first → p.trace ≡ t
+    → ((fs : List EntryFrame) (work : ℕ) → IsStart stacks k fs work → HasFrames stack fs × (stack.work ≡ work)) → StandsAt p.trace p.first stack
+stands_at t k accounts stacks p stack es are wf e begins same starts =
+    let s = starts e.frames e.work e.start in
+    subst (λ (u : Recording). StandsAt u p.first stack) (sym same) (
+      es,
+      are,
+      wf,
+      (e.frames, subst (λ w. IsEntry es t.root p.first e.frames w) (sym s.1) (subst (λ i. IsEntry es t.root i e.frames e.work) begins e.is), s.0),
+    )
+
+-- ---- the shares add up
+
+small_fits : (r : Row) → IsSmallRow r → Fits r
+small_fits r s =
+    let a = s.count in
+    let b = s.local in
+    let c = s.site_count in
+    let d = s.site_work in
+    let e = s.site_span in
+    let f = s.caller_count in
+    let g = s.caller_work in
+    let h = s.caller_span in
+    record {
+      count = omega arith;
+      local = omega arith;
+      site_count = omega arith;
+      site_work = omega arith;
+      site_span = omega arith;
+      caller_count = omega arith;
+      caller_work = omega arith;
+      caller_span = omega arith;
+    }
+
+-- the rows are the shares of the positions before n
+abbrev pub AreRowsTo : Recording → ℕ → Sums → Type 0
+AreRowsTo t n dag = (es : List Event) → AreEvents t.records es → IsWellFormed es → (key : Option ℕ) → key_row dag key ≡ share es t.root (spans_of es) everywhere key 0 n
+
+pub rows_none : (t : Recording) (n : ℕ) → n ≡ 0 → AreRowsTo t n empty
+rows_none t n z es are wf key =
+    empty_rows key ∙ sym (share_none es wf t.root (spans_of es) (are_spans es wf) 0 key) ∙ ap (λ k. share es t.root (spans_of es) everywhere key 0 k) (sym z)
+
+module _ (t : Recording) (from to : ℕ) (rises : from ≤ to) (dag part : Sums) (c : Choices) (rows : AreRowsTo t from dag)
+    (is : (es : List Event) → AreEvents t.records es → IsPartOf es t.root from to part c) where
+  both_rows : (es : List Event) → AreEvents t.records es → IsWellFormed es → (key : Option ℕ)
+      → plus (key_row dag key) (key_row part key) ≡ share es t.root (spans_of es) everywhere key 0 to
+  both_rows es are wf key =
+      let p = (is es are).table in
+      ap₂ plus (rows es are wf key) (p.2 key ∙ shares_one es t.root p.0 (spans_of es) key from to p.1 (are_spans es wf))
+      ∙ sym (shares_law es t.root (spans_of es) everywhere key 0 from to (omega arith) rises)
+
+  pub merge_fits : (es : List Event) → AreEvents t.records es → IsWellFormed es → IsSmall es → (key : Option ℕ) → Fits (plus (key_row dag key) (key_row part key))
+  merge_fits es are wf small key =
+      subst Fits (sym (both_rows es are wf key)) (small_fits _ ((rows_fit es small t.root (spans_of es) (are_spans es wf) everywhere key).1 0 to))
+
+  pub rows_more : (new : Sums) → IsSum dag part new → AreRowsTo t to new
+  rows_more new sum es are wf None = sum.root ∙ both_rows es are wf None
+  rows_more new sum es are wf (Some s) = sum.sites s ∙ both_rows es are wf (Some s)
+
+-- the root's row, with what the root frame adds
+root_is : (t : Recording) (b : Burdens) (f : Figures) (es : List Event) → AreEvents t.records es → AreFigures t.records b f → (wf : IsWellFormed es) → f.span ≡ spans_of es 0
+    → frame_row (record { local = 0; work = f.work; span = f.span; top_site = true; top_caller = true }) ≡ own_row es (spans_of es)
+root_is t b f es are fig wf span =
+    let works : f.work ≡ work es 0 = fig.work ∙ ap (λ (rs : List Record). nesting.work rs) are ∙ sym (root_work es) in
+    same_rows _ _ refl refl refl works span refl works span
+
+row_is : (es : List Event) (root : ℕ) (key : Option ℕ)
+    → row es root (spans_of es) everywhere key
+    ≡ plus (share es root (spans_of es) everywhere key 0 (length es)) (share es root (spans_of es) everywhere key (length es) (suc (length es)))
+row_is es root key =
+    cut_law es root (spans_of es) everywhere key (length es ∷ []) (omega arith, refl)
+    ∙ ap (λ r. plus r (share es root (spans_of es) everywhere key (length es) (suc (length es)))) (plus-zero (share es root (spans_of es) everywhere key 0 (length es)))
+
+module _ (t : Recording) (b : Burdens) (f : Figures) (fig : AreFigures t.records b f) (n : ℕ) (end : n ≡ length t.records) (dag : Sums) (rows : AreRowsTo t n dag) where
+  wf : IsWellFormed fig.events
+  wf = subst (λ (rs : List Record). nesting.IsWellFormed rs) fig.are_events fig.well_formed
+
+  last : n ≡ length fig.events
+  last = end ∙ ap (λ (l : List Record). length l) fig.are_events ∙ length-map fig.events (λ e. Ok e)
+
+  own_is : frame_row (record { local = 0; work = f.work; span = f.span; top_site = true; top_caller = true }) ≡ own_row fig.events (spans_of fig.events)
+  own_is = root_is t b f fig.events fig.are_events fig wf (greatest_one fig.events unburdened 0 (length fig.events) f.span (spans_of fig.events 0) fig.span (are_spans fig.events wf 0 refl))
+
+  all_rows : (key : Option ℕ) → key_row (record dag { root = plus dag.root (frame_row (record { local = 0; work = f.work; span = f.span; top_site = true; top_caller = true })) }) key
+      ≡ row fig.events t.root (spans_of fig.events) everywhere key
+  all_rows None =
+      ap₂ plus (rows fig.events fig.are_events wf None ∙ ap (λ k. share fig.events t.root (spans_of fig.events) everywhere None 0 k) last)
+      (own_is ∙ sym (end_law fig.events wf t.root (spans_of fig.events) everywhere).0)
+      ∙ sym (row_is fig.events t.root None)
+  all_rows (Some s) =
+      rows fig.events fig.are_events wf (Some s) ∙ ap (λ k. share fig.events t.root (spans_of fig.events) everywhere (Some s) 0 k) last
+      ∙ sym (plus-zero (share fig.events t.root (spans_of fig.events) everywhere (Some s) 0 (length fig.events)))
+      ∙ ap (λ r. plus (share fig.events t.root (spans_of fig.events) everywhere (Some s) 0 (length fig.events)) r) (sym ((end_law fig.events wf t.root (spans_of fig.events) everywhere).1 s))
+      ∙ sym (row_is fig.events t.root (Some s))
+
+  pub root_fits : IsSmall fig.events → Fits (plus dag.root (frame_row (record { local = 0; work = f.work; span = f.span; top_site = true; top_caller = true })))
+  root_fits small = subst Fits (sym (all_rows None)) (small_fits _ (rows_fit fig.events small t.root (spans_of fig.events) (are_spans fig.events wf) everywhere None).0)
+
+  pub dag_is : (new : Sums) → new ≡ record dag { root = plus dag.root (frame_row (record { local = 0; work = f.work; span = f.span; top_site = true; top_caller = true })) } → IsDagTable t new
+  dag_is new same = subst (λ x. IsDagTable t x) (sym same) (fig.well_formed, (fig.events, fig.are_events, (spans_of fig.events, are_spans fig.events wf, all_rows)))
+
+-- ---- a part of the cut, as it is read
+
+pub part_read : (t : Recording) (ps read : List PartOf) (k : ℕ) (p : PartOf) → Cover t 0 0 ps (length t.records) → read ≡ ps → p ≡ get_or read k p → k < length read → PartAt t 0 ps k p
+part_read t ps read k p cover same is lt =
+    let l : k < length ps = (let z : length read ≡ length ps = ap (λ (l : List PartOf). length l) same in omega arith) in
+    let here : p ≡ get_or ps k p = is ∙ ap (λ (l : List PartOf). get_or l k p) same in
+    subst (λ (q : PartOf). PartAt t 0 ps k q) (sym here) (part_at t 0 0 (length t.records) ps cover k p l)
+
+pub part_stands : (t : Recording) (b : Burdens) (ps : List PartOf) (accounts : List Account) (stacks : Stacks) (k root : ℕ) (p : PartOf) (stack : StackOf) (es : List Event)
+    → AreEvents t.records es → IsWellFormed es → Cover t 0 0 ps (length t.records) → PartAt t 0 ps k p → accounts ≡ map (account_in b) ps → root ≡ t.root → IsEntryOf es root accounts stacks k
+    → ((fs : List EntryFrame) (work : ℕ) → IsStart stacks k fs work → HasFrames stack fs × (stack.work ≡ work)) → StandsAt p.trace p.first stack
+part_stands t b ps accounts stacks k root p stack es are wf cover at accs root_same e starts =
+    stands_at t k accounts stacks p stack es are wf (subst (λ r. IsEntryOf es r accounts stacks k) root_same e)
+    (ap (λ (l : List Account). begin_of l k) accs ∙ begin_is t b 0 0 ps cover k ∙ (let f = at.first in let z : begin_in ps k ≡ p.first = omega arith in z)) at.trace starts
+
+module _ (t : Recording) (ps : List PartOf) (k : ℕ) (p : PartOf) (at : PartAt t 0 ps k p) where
+  pub next_begin : begin_in ps k ≤ begin_in ps (k + 1)
+  next_begin =
+      let n : begin_in ps (k + 1) ≡ begin_in ps (suc k) = ap (λ j. begin_in ps j) (let z : k + 1 ≡ suc k = omega arith in z) in
+      let m = at.next in
+      omega arith
+
+  pub told_part : (part : Sums) (c : Choices) → ((es : List Event) → AreEvents p.trace.records es → IsPartOf es p.trace.root p.first (p.first + p.count) part c)
+      → (es : List Event) → AreEvents t.records es → IsPartOf es t.root (begin_in ps k) (begin_in ps (k + 1)) part c
+  told_part part c told es are =
+      let n : begin_in ps (k + 1) ≡ begin_in ps (suc k) = ap (λ j. begin_in ps j) (let z : k + 1 ≡ suc k = omega arith in z) in
+      let m = at.next in
+      let f = at.first in
+      let first : p.first ≡ begin_in ps k = omega arith in
+      let last : p.first + p.count ≡ begin_in ps (k + 1) = omega arith in
+      subst (λ e. IsPartOf es t.root (begin_in ps k) e part c) last
+      (subst (λ b. IsPartOf es t.root b (p.first + p.count) part c) first
+      (subst (λ (u : Recording). IsPartOf es u.root p.first (p.first + p.count) part c) at.trace
+      (told es (subst (λ (u : Recording). AreEvents u.records es) (sym at.trace) are))))
+
+pub all_begun : (t : Recording) (ps read : List PartOf) (k : ℕ) → Cover t 0 0 ps (length t.records) → read ≡ ps → k ≡ length read → begin_in ps k ≡ length t.records
+all_begun t ps read k cover same e =
+    let last : begin_in ps k ≡ begin_in ps (length ps) = ap (λ j. begin_in ps j) (e ∙ ap (λ (l : List PartOf). length l) same) in
+    let all = all_parts t 0 0 (length t.records) ps cover in
+    omega arith

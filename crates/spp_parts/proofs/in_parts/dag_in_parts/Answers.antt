@@ -1,0 +1,101 @@
+use Rattle.std.proofs.Common.{◌≡◌, ℕ, ◌+◌, ◌<◌, ◌≤◌, List, Option, Some, None, length, map, sym, ap, subst, ◌∙◌, arith}
+use Rattle.spp_event.specs.declared.records.Event.{Event}
+use Rattle.spp_event.specs.Recordings.{Record, Recording}
+use Rattle.spp_frame.specs.Nesting as nesting
+use Rattle.spp_frame.specs.Nesting.{AreEvents}
+use Rattle.spp_cut.specs.Parts.{PartOf}
+use Rattle.spp_dag.specs.declared.row.Row.{Row}
+use Rattle.spp_dag.specs.Trace.{IsWellFormed}
+use Rattle.spp_dag.specs.Shares.{plus}
+use Rattle.spp_site.specs.Rows.{Fits}
+use Rattle.spp_site.specs.Table.{Sums}
+use Rattle.spp_stack.specs.Parts.{AreOfParts}
+use Rattle.spp_parts.proofs.Accounts.{account_in}
+use Rattle.spp_parts.proofs.Shares.{begin_in, begin_zero, AreRowsTo, rows_none, part_read, part_stands, next_begin, told_part, merge_fits, rows_more, all_begun, root_fits, dag_is}
+use Rattle.spp_parts.proofs.in_parts.dag_in_parts.Goals as goal
+
+pub loop-k-init : goal.loop-k-init
+loop-k-init c = record {
+  rows =
+      subst (λ (d : Sums). AreRowsTo c.args.cut.now.trace (begin_in c.args.cut.now.parts 0) d) (sym c.new-dag.ensures)
+      (rows_none c.args.cut.now.trace (begin_in c.args.cut.now.parts 0) (begin_zero c.args.cut.now.parts));
+}
+
+pub run_part-requires : goal.run_part-requires
+run_part-requires c =
+    let t : Recording = c.args.cut.now.trace in
+    let ps : List PartOf = c.args.cut.now.parts in
+    let read = c.parts-parts.result.now in
+    let fig = c.in_ok-found.ensures.figures in
+    let es : List Event = fig.events in
+    let are : AreEvents t.records es = fig.are_events in
+    let wf : IsWellFormed es = subst (λ (rs : List Record). nesting.IsWellFormed rs) fig.are_events fig.well_formed in
+    let accs : c.deref.result.now ≡ map (account_in c.default.result) ps = c.deref.ensures.value ∙ c.in_ok-found.ensures.each in
+    let of_parts = c.in_ok-found.ensures.parts es are in
+    let at = part_read t ps read c.loop-k.k c.index-parts-k.result c.parts-parts.ensures.cut c.parts-parts.ensures.parts c.index-parts-k.is c.loop-k-test.true in
+    let few : c.loop-k.k ≤ length c.deref.result.now = (let n : length c.in_ok-found.found.each.items ≡ length ps = c.in_ok-found.ensures.count in
+    let m : length read ≡ length ps = ap (λ (l : List PartOf). length l) c.parts-parts.ensures.parts in
+    let d : length c.deref.result.now ≡ length c.in_ok-found.found.each.items = ap (λ l. length l) c.deref.ensures.value in omega (arith, c.loop-k-test.true)) in
+    part_stands t c.default.result ps c.deref.result.now c.in_ok-stacks.stacks c.loop-k.k c.root.result c.index-parts-k.result c.entry.result es are wf c.parts-parts.ensures.cut at accs
+    (c.root.ensures ∙ ap (λ (u : Recording). u.root) c.trace.ensures)
+    (c.in_ok-stacks.ensures.entries es (subst (λ l. AreOfParts es l) (sym c.deref.ensures.value) of_parts) c.loop-k.k few) c.entry.ensures
+
+pub merged-requires-clause-root_fits : goal.merged-requires-clause-root_fits
+merged-requires-clause-root_fits c =
+    let t : Recording = c.args.cut.now.trace in
+    let ps : List PartOf = c.args.cut.now.parts in
+    let k : ℕ = c.loop-k.k in
+    let fig = c.in_ok-found.ensures.figures in
+    let es : List Event = fig.events in
+    let wf : IsWellFormed es = subst (λ (rs : List Record). nesting.IsWellFormed rs) fig.are_events fig.well_formed in
+    let at = part_read t ps c.parts-parts.result.now k c.index-parts-k.result c.parts-parts.ensures.cut c.parts-parts.ensures.parts c.index-parts-k.is c.loop-k-test.true in
+    let table : Sums = c.in_ok-told.told.table in
+    merge_fits t (begin_in ps k) (begin_in ps (k + 1)) (next_begin t ps k c.index-parts-k.result at) c.loop-k.dag table c.in_ok-told.told.choices c.loop-k.invariant.rows
+    (told_part t ps k c.index-parts-k.result at table c.in_ok-told.told.choices c.in_ok-told.ensures) es fig.are_events wf (c.in_ok-found.ensures.parts es fig.are_events).small None
+
+pub merged-requires-clause-sites_fit : goal.merged-requires-clause-sites_fit
+merged-requires-clause-sites_fit c = λ s.
+    let t : Recording = c.args.cut.now.trace in
+    let ps : List PartOf = c.args.cut.now.parts in
+    let k : ℕ = c.loop-k.k in
+    let fig = c.in_ok-found.ensures.figures in
+    let es : List Event = fig.events in
+    let wf : IsWellFormed es = subst (λ (rs : List Record). nesting.IsWellFormed rs) fig.are_events fig.well_formed in
+    let at = part_read t ps c.parts-parts.result.now k c.index-parts-k.result c.parts-parts.ensures.cut c.parts-parts.ensures.parts c.index-parts-k.is c.loop-k-test.true in
+    let table : Sums = c.in_ok-told.told.table in
+    merge_fits t (begin_in ps k) (begin_in ps (k + 1)) (next_begin t ps k c.index-parts-k.result at) c.loop-k.dag table c.in_ok-told.told.choices c.loop-k.invariant.rows
+    (told_part t ps k c.index-parts-k.result at table c.in_ok-told.told.choices c.in_ok-told.ensures) es fig.are_events wf (c.in_ok-found.ensures.parts es fig.are_events).small (Some s)
+
+pub loop-k-preserved : goal.loop-k-preserved
+loop-k-preserved c =
+    let t : Recording = c.args.cut.now.trace in
+    let ps : List PartOf = c.args.cut.now.parts in
+    let k : ℕ = c.loop-k.k in
+    let at = part_read t ps c.parts-parts.result.now k c.index-parts-k.result c.parts-parts.ensures.cut c.parts-parts.ensures.parts c.index-parts-k.is c.loop-k-test.true in
+    let table : Sums = c.in_ok-told.told.table in
+    record {
+      rows =
+          rows_more t (begin_in ps k) (begin_in ps (k + 1)) (next_begin t ps k c.index-parts-k.result at) c.loop-k.dag table c.in_ok-told.told.choices c.loop-k.invariant.rows
+          (told_part t ps k c.index-parts-k.result at table c.in_ok-told.told.choices c.in_ok-told.ensures) c.in_ok-dag.dag c.in_ok-dag.ensures.sums;
+    }
+
+pub add_root-requires : goal.add_root-requires
+add_root-requires c =
+    let t : Recording = c.args.cut.now.trace in
+    let ps : List PartOf = c.args.cut.now.parts in
+    let fig = c.in_ok-found.ensures.figures in
+    let n : ℕ = begin_in ps c.loop-k.k in
+    let past : c.loop-k.k ≡ length c.parts-parts.result.now = omega (arith, c.loop-k-test.false) in
+    let end : n ≡ length t.records = all_begun t ps c.parts-parts.result.now c.loop-k.k c.parts-parts.ensures.cut c.parts-parts.ensures.parts past in
+    subst (λ (r : Row). Fits (plus c.loop-k.dag.root r)) (sym c.root_row.ensures)
+    (root_fits t c.default.result c.in_ok-found.found.whole fig n end c.loop-k.dag c.loop-k.invariant.rows (c.in_ok-found.ensures.parts fig.events fig.are_events).small)
+
+pub returns-clause-dag : goal.returns-clause-dag
+returns-clause-dag c =
+    let t : Recording = c.args.cut.now.trace in
+    let ps : List PartOf = c.args.cut.now.parts in
+    let n : ℕ = begin_in ps c.loop-k.k in
+    let past : c.loop-k.k ≡ length c.parts-parts.result.now = omega (arith, c.loop-k-test.false) in
+    let end : n ≡ length t.records = all_begun t ps c.parts-parts.result.now c.loop-k.k c.parts-parts.ensures.cut c.parts-parts.ensures.parts past in
+    dag_is t c.default.result c.in_ok-found.found.whole c.in_ok-found.ensures.figures n end c.loop-k.dag c.loop-k.invariant.rows c.add_root.new.self
+    (c.add_root.ensures ∙ ap (λ (r : Row). let u : Sums = record c.loop-k.dag { root = plus c.loop-k.dag.root r } in u) c.root_row.ensures)

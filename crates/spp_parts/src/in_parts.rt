@@ -1,0 +1,57 @@
+//! The table of a run on its whole dag, part by part.
+
+ghost use Rattle.std.specs.Prelude.{◌≡◌, ◌<◌, ◌≤◌, length, true, IfOk, IfErr};
+ghost use Rattle.spp_site.specs.Rows.{frame_row};
+ghost use Rattle.spp_piece.specs.Faults.{IsFaultOf};
+ghost use Rattle.spp_serial.specs.Tables.{IsDagTable};
+
+use crate::surveying::survey;
+use spp_cut::Cut;
+use spp_dag::Row;
+use spp_maxplus::Burdens;
+use spp_piece::{Figures, FiguresFault};
+use spp_serial::run_part;
+use spp_site::{ClosedFrame, Table};
+use spp_stack::entries;
+use std::alloc::Global;
+
+/// What the root frame itself adds to its row, where the run comes to these figures.
+fn root_row(whole: &Figures) -> Row
+    ensures { result ≡ frame_row (record { local = 0; work = whole.now.work; span = whole.now.span; top_site = true; top_caller = true }) }
+{
+    let closed = ClosedFrame {
+        local: 0,
+        work: whole.work,
+        span: whole.span,
+        top_site: true,
+        top_caller: true,
+    };
+    closed.row()
+}
+
+/// The rows by call site of a cut trace, on its whole dag: the shares of all parts, with what the root frame adds itself.
+///
+/// The events are read twice, once for the frames that are open where parts begin, and once for the shares. The time is
+/// linear in the number of events, and for each part in the numbers of frames that are open before it, of sites and of
+/// functions.
+///
+/// # Errors
+///
+/// The first bad event, or `Memory` where a growth was refused.
+pub fn dag_in_parts(alloc: Global, cut: &Cut<'_, '_>) -> Result<Table, FiguresFault>
+    requires some { 0 < length cut.now.parts }
+    requires few { length cut.now.parts ≤ 65536 }
+    ensures dag { IfOk result (λ t. IsDagTable cut.now.trace t) }
+    ensures fault { IfErr result (λ f. IsFaultOf cut.now.trace.records f) }
+{
+    let found = survey(alloc, cut, Burdens::default())?;
+    let stacks = entries(alloc, cut.trace().root(), &found.each)?;
+    let parts = cut.parts();
+    let mut dag = Table::new(alloc);
+    for k in 0..parts.len() {
+        let told = run_part(alloc, &parts[k], stacks.entry(k))?;
+        dag = Table::merged(alloc, &dag, &told.table)?;
+    }
+    dag.add_root(&root_row(&found.whole));
+    Ok(dag)
+}
