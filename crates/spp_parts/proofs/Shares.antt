@@ -1,6 +1,5 @@
 -- The shares of the parts of a cut make the rows of the dag.
-use Rattle.std.proofs.Common.{◌≡◌, ℕ, zero, suc, ◌+◌, ◌<◌, ◌≤◌, ◌^◌, Bool, true, false, cond, ◌&&◌, List, [], ◌∷◌, length, map, get_or, take, drop, Option, Some, None, Ok, refl, sym, ap, ap₂, subst, ◌∙◌, arith}
-use Rattle.std.specs.List.{sum_by}
+use Rattle.std.proofs.Common.{◌≡◌, ℕ, zero, suc, ◌+◌, ◌<◌, ◌≤◌, Bool, true, ◌&&◌, List, [], ◌∷◌, length, map, get_or, take, drop, Option, Some, None, Ok, refl, sym, ap, ap₂, subst, ◌∙◌, arith}
 use Rattle.std.proofs.lemmas.List.Sums.{sum_by-cons}
 use Rattle.std.proofs.lemmas.Bool.{and_parts}
 use Rattle.std.proofs.lemmas.List.{length-take-le, length-drop, length-map}
@@ -14,9 +13,9 @@ use Rattle.spp_maxplus.specs.State.{unburdened}
 use Rattle.spp_dag.specs.declared.row.Row.{Row}
 use Rattle.spp_dag.specs.declared.stack.EntryFrame.{EntryFrame}
 use Rattle.spp_dag.specs.Ranges.{within}
-use Rattle.spp_dag.specs.Trace.{records, closing, IsWellFormed}
+use Rattle.spp_dag.specs.Trace.{closing, IsWellFormed}
 use Rattle.spp_dag.specs.Rows.{AreSpans, everywhere, work, is_of, is_top_site, is_top_caller, row}
-use Rattle.spp_dag.specs.Shares.{share, plus, zero_row}
+use Rattle.spp_dag.specs.Shares.{share, plus}
 use Rattle.spp_dag.specs.Laws.{own_row}
 use Rattle.spp_dag.specs.Choices.{IsEntry}
 use Rattle.spp_dag.specs.Limits.{IsSmall, IsSmallRow}
@@ -25,8 +24,8 @@ use Rattle.spp_dag.proofs.Profiles.{row_frame, greatest_one, spans_of, are_spans
 use Rattle.spp_dag.proofs.Shares.{same_rows, shares_law, cut_law, end_law}
 use Rattle.spp_dag.proofs.Sums.{sum-same}
 use Rattle.spp_site.specs.Rows.{Fits, frame_row}
-use Rattle.spp_site.specs.Table.{Sums, row_at, empty, IsSum}
-use Rattle.spp_site.proofs.Rows.{plus-zero, zero-plus}
+use Rattle.spp_site.specs.Table.{Sums, empty, IsSum}
+use Rattle.spp_site.proofs.Rows.{plus-zero}
 use Rattle.spp_piece.specs.declared.figures.Figures.{Figures}
 use Rattle.spp_piece.specs.Account.{Account}
 use Rattle.spp_piece.specs.Figures.{AreFigures}
@@ -36,7 +35,7 @@ use Rattle.spp_path.specs.Tables.{key_row}
 use Rattle.spp_path.specs.declared.choices.Choices.{Choices}
 use Rattle.spp_serial.specs.Outside.{StandsAt}
 use Rattle.spp_serial.specs.Shares.{IsPartOf}
-use Rattle.spp_serial.specs.Tables.{IsDagTable, AreDagRows}
+use Rattle.spp_serial.specs.Tables.{IsDagTable}
 use Rattle.spp_serial.proofs.Bounded.{empty_rows}
 use Rattle.spp_serial.proofs.Shared.{share_none}
 use Rattle.spp_parts.proofs.Accounts.{account_in}

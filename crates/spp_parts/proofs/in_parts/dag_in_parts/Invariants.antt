@@ -1,4 +1,3 @@
-use Rattle.std.proofs.Common.{◌≡◌}
 use Rattle.spp_parts.proofs.Shares.{begin_in, AreRowsTo}
 use Rattle.spp_parts.proofs.in_parts.dag_in_parts.Given as goal
 
