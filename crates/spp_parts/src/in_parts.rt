@@ -50,7 +50,7 @@ pub fn dag_in_parts(alloc: Global, cut: &Cut<'_, '_>) -> Result<Table, FiguresFa
     let mut dag = Table::new(alloc);
     for k in 0..parts.len() {
         let told = run_part(alloc, &parts[k], stacks.entry(k))?;
-        dag = Table::merged(alloc, &dag, &told.table)?;
+        dag.absorb(&told.table)?;
     }
     dag.add_root(&root_row(&found.whole));
     Ok(dag)

@@ -134,6 +134,33 @@ impl Table {
         self.add(site, &frame.row())
     }
 
+    /// No row of a site is zero. Its contract is what it is for.
+    fn no_row_is_zero(&self)
+        ensures { HasNoZeroRow self.now }
+    {
+        let _rows = self.rows.len();
+    }
+
+    /// Adds the rows of another table, whose sums with these must fit their types. It takes time linear in the size of the
+    /// other one, besides a step, amortized, for each site number up to its greatest.
+    ///
+    /// # Errors
+    ///
+    /// Where a growth was refused; some of the rows are added then.
+    pub fn absorb(&mut self, other: &Table) -> Result<(), AllocError>
+        requires root_fits { Fits (plus self.old.root other.now.root) }
+        requires sites_fit { (s : ℕ) → Fits (plus (row_at self.old s) (row_at other.now s)) }
+        ensures sums { OnOk result (IsSum self.old other.now self.new) }
+        ensures no_zero_row { OnOk result (HasNoZeroRow self.new) }
+    {
+        self.add_root(&other.root);
+        self.no_row_is_zero();
+        for entry in &other.rows {
+            self.add(entry.site, &entry.row)?;
+        }
+        Ok(())
+    }
+
     /// A table with the same rows. It takes time linear in the size of the table.
     ///
     /// # Errors
@@ -165,10 +192,7 @@ impl Table {
         ensures no_zero_row { IfOk result HasNoZeroRow }
     {
         let mut merged = Table::copy(alloc, left)?;
-        merged.add_root(&right.root);
-        for entry in &right.rows {
-            merged.add(entry.site, &entry.row)?;
-        }
+        merged.absorb(right)?;
         Ok(merged)
     }
 }

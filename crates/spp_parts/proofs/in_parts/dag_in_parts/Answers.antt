@@ -40,8 +40,8 @@ run_part-requires c =
     (c.root.ensures ∙ ap (λ (u : Recording). u.root) c.trace.ensures)
     (c.in_ok-stacks.ensures.entries es (subst (λ l. AreOfParts es l) (sym c.deref.ensures.value) of_parts) c.loop-k.k few) c.entry.ensures
 
-pub merged-requires-clause-root_fits : goal.merged-requires-clause-root_fits
-merged-requires-clause-root_fits c =
+pub absorb-requires-clause-root_fits : goal.absorb-requires-clause-root_fits
+absorb-requires-clause-root_fits c =
     let t : Recording = c.args.cut.now.trace in
     let ps : List PartOf = c.args.cut.now.parts in
     let k : ℕ = c.loop-k.k in
@@ -53,8 +53,8 @@ merged-requires-clause-root_fits c =
     merge_fits t (begin_in ps k) (begin_in ps (k + 1)) (next_begin t ps k c.index-parts-k.result at) c.loop-k.dag table c.in_ok-told.told.choices c.loop-k.invariant.rows
     (told_part t ps k c.index-parts-k.result at table c.in_ok-told.told.choices c.in_ok-told.ensures) es fig.are_events wf (c.in_ok-found.ensures.parts es fig.are_events).small None
 
-pub merged-requires-clause-sites_fit : goal.merged-requires-clause-sites_fit
-merged-requires-clause-sites_fit c = λ s.
+pub absorb-requires-clause-sites_fit : goal.absorb-requires-clause-sites_fit
+absorb-requires-clause-sites_fit c = λ s.
     let t : Recording = c.args.cut.now.trace in
     let ps : List PartOf = c.args.cut.now.parts in
     let k : ℕ = c.loop-k.k in
@@ -76,7 +76,7 @@ loop-k-preserved c =
     record {
       rows =
           rows_more t (begin_in ps k) (begin_in ps (k + 1)) (next_begin t ps k c.index-parts-k.result at) c.loop-k.dag table c.in_ok-told.told.choices c.loop-k.invariant.rows
-          (told_part t ps k c.index-parts-k.result at table c.in_ok-told.told.choices c.in_ok-told.ensures) c.in_ok-dag.dag c.in_ok-dag.ensures.sums;
+          (told_part t ps k c.index-parts-k.result at table c.in_ok-told.told.choices c.in_ok-told.ensures) c.absorb.new.self c.in_ok-absorb.ensures.sums;
     }
 
 pub add_root-requires : goal.add_root-requires
