@@ -32,8 +32,8 @@ fn root_row(whole: &Figures) -> Row
 /// The rows by call site of a cut trace, on its whole dag: the shares of all parts, with what the root frame adds itself.
 ///
 /// The events are read twice, once for the frames that are open where parts begin, and once for the shares. The time is
-/// linear in the number of events, and for each part in the numbers of frames that are open before it, of sites and of
-/// functions.
+/// linear in the number of events, and for each part in the numbers of sites and functions that are open before it or
+/// come in it, and in the greatest of these numbers.
 ///
 /// # Errors
 ///
