@@ -1,9 +1,10 @@
 #!/usr/bin/env bash
 # Runs the built program over files, pipes and devices: its answers, its lines of fault and its statuses.
-# usage: tests/program.sh SPPROF TEXT_PRINTER
+# usage: tests/program.sh SPPROF TEXT_PRINTER PARTS_PRINTER
 set -u
 spprof=$(readlink -f "$1")
 printer=$(readlink -f "$2")
+parts_printer=$(readlink -f "$3")
 top=$(cd "$(dirname "${BASH_SOURCE[0]}")/.." && pwd)
 folder=$(mktemp -d)
 trap 'rm -rf "$folder"' EXIT
@@ -69,6 +70,17 @@ report_of() { # TRACE FILE WORDS..: with these words, the program prints just th
 for trace in cilksort fib nqueens; do
     report_of $trace $trace.report profile
     report_of $trace $trace.csv profile --csv
+done
+# And the rows on the whole dag by way of parts, in the first nine columns.
+for trace in cilksort fib nqueens; do
+    tail -n +2 "$top/examples/$trace.csv" | cut -d , -f 1-9 > "$folder/rows"
+    for parts in 1 7 100 65536; do
+        "$parts_printer" $parts < "$top/examples/$trace.sptrace" > "$folder/out" 2> "$folder/err"
+        status=$?
+        cmp -s "$folder/out" "$folder/rows" || status=125
+        : > "$folder/out"
+        judge "rows of $trace in $parts parts" 0 '' 'survey *'
+    done
 done
 expect 'a table of a part of a record' 1 '' "bad event 1: truncated$lf" <(head -c 60 "$small") profile
 expect 'no parts' 2 '' 'error: *' "$small" figures --parts 0
@@ -155,6 +167,10 @@ judge 'tables of a million nested calls' 0 "name,*${lf}(root),1,0,1,5,5,1,5,5,1,
 timeout 30 "$spprof" profile --csv "$folder/wide" > "$folder/out" 2> "$folder/err"
 status=$?
 judge 'tables of a million children' 0 "name,*${lf}(root),1,0,1,5000000,5,1,5000000,5,1,0,1,5000000,5,1,5000000,5${lf}A,1000000,5000000,1000000,5000000,5000000,1000000,5000000,5000000,1,5,1,5,5,1,5,5$lf" ''
+# By way of 65,536 parts too, without a list of all open frames for each.
+(ulimit -v 500000 && timeout 30 "$parts_printer" 65536 < "$folder/nested" > "$folder/out" 2> "$folder/err")
+status=$?
+judge 'rows of a million nested calls in parts' 0 "(root),1,0,1,5,5,1,5,5${lf}A,1000000,5,1,5,5,1,5,5$lf" 'survey *'
 # The same frames left open are told, and the memory for them is given back.
 head -c 1000000 "$folder/nested" > "$folder/open"
 expect 'figures of frames left open' 1 '' "bad event *: truncated$lf" "$folder/open" figures

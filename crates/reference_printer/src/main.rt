@@ -1,11 +1,14 @@
 //! Prints what the reference profiler answers for each of the traces on standard input. They stand there as text, each
 //! ended by a line `---`. For the test that it gives the numbers of another program, which was written from the
-//! definitions alone in another language. Where the profiler on one thread says anything else, that is told.
+//! definitions alone in another language. Where the profiler on one thread says anything else, or the table by way of parts
+//! of one event, that is told.
 #![tactic(auto)]
 
+use spp_cut::cut_even;
 use spp_dag::Row;
 use spp_event::open_trace;
 use spp_maxplus::Burdens;
+use spp_parts::table_in_parts;
 use spp_piece::Figures;
 use spp_reference::{Reference, Table, profile};
 use spp_serial::profile_serial;
@@ -31,7 +34,7 @@ fn profiled(alloc: Global, text: &str, burdens: Burdens) -> Option<Reference> {
     profile(alloc, &trace, burdens).ok()
 }
 
-/// Whether a table of the profiler on one thread has the rows that were told, the root's and one for each of so many
+/// Whether a table of a profiler has the rows that were told, the root's and one for each of so many
 /// sites.
 fn has_rows(table: &spp_site::Table, told: &Table, sites: u32) -> bool {
     let mut same = table.root_row() == told.root;
@@ -57,6 +60,19 @@ fn is_confirmed(alloc: Global, text: &str, told: &Reference, burden: u32) -> Opt
         && has_rows(&serial.dag, &told.dag_rows, trace.sites())
         && has_rows(&serial.path, &told.path_rows, trace.sites());
     Some(same)
+}
+
+/// Whether the parts of one event of the trace that the text names come to the same rows on the whole dag.
+fn is_confirmed_by_parts(alloc: Global, text: &str, told: &Reference) -> Option<bool> {
+    let bytes = parse_text(alloc, text).ok()?;
+    let trace = open_trace(alloc, bytes.as_slice()).ok()?;
+    let cut = cut_even(alloc, &trace, trace.count().clamp(1, 65536)).ok()?;
+    let count = cut.parts().len();
+    if count == 0 || count > 65536 {
+        return None;
+    }
+    let parts = table_in_parts(alloc, &cut).ok()?;
+    Some(has_rows(&parts.dag, &told.dag_rows, trace.sites()))
 }
 
 fn print_row(rt: &impl Print, row: &Row) -> io::Result<()> {
@@ -125,6 +141,9 @@ fn main(rt: HostRuntime) -> io::Result<ExitCode> {
                 print_profile(&rt, &one, &other)?;
                 if is_confirmed(alloc, text, &one, BURDEN) != Some(true) {
                     println!(rt; "the profiler on one thread differs")?;
+                }
+                if is_confirmed_by_parts(alloc, text, &one) != Some(true) {
+                    println!(rt; "the parts of one event differ")?;
                 }
             }
             _ => println!(rt; "no profile")?,

@@ -1,3 +1,4 @@
 mod Known
 mod Accounts
 mod Shares
+mod Chosen

@@ -1,6 +1,8 @@
-//! What the first round tells.
+//! What the two rounds tell.
 
+use spp_path::Choices;
 use spp_piece::{Figures, Summary};
+use spp_site::Table;
 
 /// What is told of a run by way of its parts.
 #[derive(Drop)]
@@ -9,4 +11,13 @@ pub struct Survey {
     pub each: Vec<Summary>,
     /// The work, span and burdened span of the run.
     pub whole: Figures,
+}
+
+/// The rows of a run by call site on its whole dag, and what settles its greatest path, by way of its parts.
+#[derive(Drop)]
+pub struct Tabled {
+    /// The rows, to which each part has added its share.
+    pub dag: Table,
+    /// The choices in each part, in the order of the parts, by their positions in the trace.
+    pub choices: Vec<Choices>,
 }

@@ -1,10 +1,14 @@
-//! The table of a run on its whole dag, part by part.
+//! The table of a run on its whole dag, and its choices, part by part.
 
-ghost use Rattle.std.specs.Prelude.{◌≡◌, ◌<◌, ◌≤◌, length, true, IfOk, IfErr};
+ghost use Rattle.std.specs.Prelude.{◌≡◌, ◌<◌, ◌≤◌, List, length, true, IfOk, IfErr};
+ghost use Rattle.spp_event.specs.declared.records.Event.{Event as EventValue};
+ghost use Rattle.spp_frame.specs.Nesting.{AreEvents};
+ghost use Rattle.spp_parts.specs.Choices.{AreChoicesOf};
 ghost use Rattle.spp_site.specs.Rows.{frame_row};
 ghost use Rattle.spp_piece.specs.Faults.{IsFaultOf};
 ghost use Rattle.spp_serial.specs.Tables.{IsDagTable};
 
+use crate::found::Tabled;
 use crate::surveying::survey;
 use spp_cut::Cut;
 use spp_dag::Row;
@@ -29,29 +33,34 @@ fn root_row(whole: &Figures) -> Row
     closed.row()
 }
 
-/// The rows by call site of a cut trace, on its whole dag: the shares of all parts, with what the root frame adds itself.
+/// The rows by call site of a cut trace on its whole dag, which are the shares of all parts with what the root frame adds
+/// itself; and the choices in each part.
 ///
 /// The events are read twice, once for the frames that are open where parts begin, and once for the shares. The time is
 /// linear in the number of events, and for each part in the numbers of sites and functions that are open before it or
-/// come in it, and in the greatest of these numbers.
+/// come in it, and in the greatest of these numbers. The choices take up to 16 bytes for each spawned child, or twice
+/// that.
 ///
 /// # Errors
 ///
 /// The first bad event, or `Memory` where a growth was refused.
-pub fn dag_in_parts(alloc: Global, cut: &Cut<'_, '_>) -> Result<Table, FiguresFault>
+pub fn table_in_parts(alloc: Global, cut: &Cut<'_, '_>) -> Result<Tabled, FiguresFault>
     requires some { 0 < length cut.now.parts }
     requires few { length cut.now.parts ≤ 65536 }
-    ensures dag { IfOk result (λ t. IsDagTable cut.now.trace t) }
+    ensures dag { IfOk result (λ t. IsDagTable cut.now.trace t.dag) }
+    ensures choices { IfOk result (λ t. (es : List EventValue) → AreEvents cut.now.trace.records es → AreChoicesOf es cut.now.parts t.choices.items) }
     ensures fault { IfErr result (λ f. IsFaultOf cut.now.trace.records f) }
 {
     let found = survey(alloc, cut, Burdens::default())?;
     let stacks = entries(alloc, cut.trace().root(), &found.each)?;
     let parts = cut.parts();
     let mut dag = Table::new(alloc);
+    let mut choices = Vec::with_capacity(alloc, parts.len())?;
     for k in 0..parts.len() {
         let told = run_part(alloc, &parts[k], stacks.entry(k))?;
         dag.absorb(&told.table)?;
+        choices.push_reserved(told.choices);
     }
     dag.add_root(&root_row(&found.whole));
-    Ok(dag)
+    Ok(Tabled { dag, choices })
 }

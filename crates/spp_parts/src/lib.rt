@@ -5,8 +5,8 @@ mod found;
 mod in_parts;
 mod surveying;
 
-pub use found::Survey;
-pub use in_parts::dag_in_parts;
+pub use found::{Survey, Tabled};
+pub use in_parts::table_in_parts;
 pub use surveying::survey;
 
 #[cfg(test)]

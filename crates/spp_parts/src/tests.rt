@@ -1,10 +1,11 @@
 //! Surveys, the open frames where parts begin, which come of them, and tables by parts.
-use crate::{dag_in_parts, survey};
+use crate::{Tabled, survey, table_in_parts};
 use spp_cut::{Cut, cut_at, cut_even};
 use spp_dag::{EntryFrame, FrameKind, Row};
 use spp_event::{Event, open_trace, record_of};
 use spp_frame::{Fault, Why};
 use spp_maxplus::{Burdens, State};
+use spp_path::{Choices, End, Join};
 use spp_piece::{Figures, FiguresFault};
 use spp_serial::profile_serial;
 use spp_stack::{Entries, entries};
@@ -254,9 +255,8 @@ fn of_all_parts_the_first_bad_event_is_told(rt: HostRuntime) -> Result<(), Fail>
     Ok(())
 }
 
-/// The rows of the root and of the site `A` of a run of these events, in parts of one event; none where it isn't
-/// well-formed or no memory was left.
-fn rows_in_parts(alloc: Global, events: &[Event]) -> Option<(Row, Row)> {
+/// What a run of these events comes to in parts of one event; none where it isn't well-formed or no memory was left.
+fn told_in_parts(alloc: Global, events: &[Event]) -> Option<Tabled> {
     let bytes = trace_of(alloc, events).ok()?;
     let trace = open_trace(alloc, &bytes).ok()?;
     let parts = trace.count().clamp(1, 65536);
@@ -265,8 +265,13 @@ fn rows_in_parts(alloc: Global, events: &[Event]) -> Option<(Row, Row)> {
     if count == 0 || count > 65536 {
         return None;
     }
-    let dag = dag_in_parts(alloc, &cut).ok()?;
-    Some((dag.root_row(), dag.row(0)))
+    table_in_parts(alloc, &cut).ok()
+}
+
+/// The rows of the root and of the site `A` of a run of these events, in parts of one event.
+fn rows_in_parts(alloc: Global, events: &[Event]) -> Option<(Row, Row)> {
+    let told = told_in_parts(alloc, events)?;
+    Some((told.dag.root_row(), told.dag.row(0)))
 }
 
 /// The same rows of the profiler that goes through the run as a whole.
@@ -351,5 +356,62 @@ fn parts_come_to_the_table_of_the_whole(rt: HostRuntime) -> Result<(), Fail> {
     let deep = thousand(alloc)?;
     assert!(rt; rows_in_parts(alloc, &deep).is_some());
     assert!(rt; rows_in_parts(alloc, &deep) == rows_at_once(alloc, &deep));
+    Ok(())
+}
+
+/// Whether the choices at this position are these alone.
+fn are_at(told: &Choices, at: usize, ends: &[End], joins: &[Join]) -> bool {
+    let mut more_ends = ends.iter().filter(|end| end.at as usize == at);
+    let mut more_joins = joins.iter().filter(|join| join.at as usize == at);
+    let same_ends = told.ends.iter().all(|end| more_ends.next() == Some(end));
+    let same_joins = told.joins.iter().all(|join| more_joins.next() == Some(join));
+    same_ends && same_joins && more_ends.next().is_none() && more_joins.next().is_none()
+}
+
+/// Whether the choices of a run of these events, in parts of one event, are these, each in the part of its position.
+fn has_choices(alloc: Global, events: &[Event], ends: &[End], joins: &[Join]) -> bool {
+    let Some(told) = told_in_parts(alloc, events) else {
+        return false;
+    };
+    let mut parts = told.choices.iter().enumerate();
+    told.choices.len() == events.len() && parts.all(|(at, part)| are_at(part, at, ends, joins))
+}
+
+#[test]
+fn of_equal_children_the_first_is_taken(rt: HostRuntime) -> Result<(), Fail> {
+    let alloc = rt.alloc();
+    let events = [SPAWN, s(5), RET, SPAWN, s(5), RET, SYNC];
+    let ends = [End { at: 2, spawn: 0 }, End { at: 5, spawn: 3 }];
+    let joins = [Join { at: 6, spawn: 0 }];
+    assert!(rt; has_choices(alloc, &events, &ends, &joins));
+    assert!(rt; !has_choices(alloc, &events, &ends, &[Join { at: 6, spawn: 3 }]));
+    Ok(())
+}
+
+#[test]
+fn a_child_that_weighs_less_is_not_taken(rt: HostRuntime) -> Result<(), Fail> {
+    let alloc = rt.alloc();
+    let events = [SPAWN, s(4), RET, s(1), SYNC, SPAWN, s(2), RET, s(5), SYNC];
+    let ends = [End { at: 2, spawn: 0 }, End { at: 7, spawn: 5 }];
+    assert!(rt; has_choices(alloc, &events, &ends, &[Join { at: 4, spawn: 0 }]));
+    Ok(())
+}
+
+#[test]
+fn a_child_still_waits_at_the_end(rt: HostRuntime) -> Result<(), Fail> {
+    let alloc = rt.alloc();
+    let events = [SPAWN, s(7), RET, s(2)];
+    assert!(rt; has_choices(alloc, &events, &[End { at: 2, spawn: 0 }], &[]));
+    let bytes = trace_of(alloc, &events)?;
+    let trace = open_trace(alloc, &bytes)?;
+    let cut = cut_at(alloc, &trace, &[1, 2, 3])?;
+    let Some(stacks) = stacks_of(alloc, &cut) else {
+        return Err(AllocError.into());
+    };
+    let waiting = State {
+        spine: 2,
+        child: Some((7, 0)),
+    };
+    assert!(rt; begins_with(alloc, &stacks, 4, &[root(waiting)], 0, 9));
     Ok(())
 }

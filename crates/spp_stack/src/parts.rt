@@ -10,6 +10,15 @@ use crate::walk::Walk;
 use spp_piece::Summary;
 use std::alloc::{AllocError, Global};
 
+/// How many nodes there are at most: one, one for each part, and one for each frame that a part leaves open.
+fn most_nodes(summaries: &[Summary]) -> usize {
+    let mut most = summaries.len().saturating_add(1);
+    for part in summaries {
+        most = most.saturating_add(part.frame_count());
+    }
+    most
+}
+
 /// The open frames where each part of a trace begins, and where it ends, from the summaries of its parts in order. The
 /// root frame runs the function `root`. The burdens of the summaries have no part in it.
 ///
@@ -27,7 +36,7 @@ pub fn entries(alloc: Global, root: u32, summaries: &[Summary]) -> Result<Entrie
     ensures nodes { IfOk result (λ r. length r.nodes ≤ 1 + length summaries.now + open_count summaries.now) }
     ensures entries { IfOk result (λ r. (es : List EventValue) → AreOfParts es summaries.now → (k : ℕ) → k ≤ length summaries.now → IsEntryOf es root summaries.now r k) }
 {
-    let mut walk = Walk::start(alloc, root)?;
+    let mut walk = Walk::start(alloc, root, most_nodes(summaries))?;
     let mut starts = Vec::with_capacity(alloc, summaries.len() + 1)?;
     starts.push(Start { top: 0, work: 0 })?;
     for summary in summaries {

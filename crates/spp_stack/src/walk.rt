@@ -88,8 +88,8 @@ fn nearest(marked: bool, number: u32, link: Option<u32>) -> Option<u32>
 }
 
 impl Walk {
-    /// The root frame alone, before the first part.
-    pub(crate) fn start(alloc: Global, root: u32) -> Result<Walk, AllocError>
+    /// The root frame alone, before the first part, with room for so many nodes.
+    pub(crate) fn start(alloc: Global, root: u32, room: usize) -> Result<Walk, AllocError>
         ensures stands { IfOk result (λ w. Stands w (now (root_entry root ∷ []) 0)) }
         ensures kept { IfOk result IsKept }
         ensures one { IfOk result (λ w. length w.nodes.items ≡ 1) }
@@ -97,7 +97,7 @@ impl Walk {
         let top = root_node(root);
         let mut funcs = Marks::new(alloc);
         funcs.add(root)?;
-        let mut nodes = Vec::new(alloc);
+        let mut nodes = Vec::with_capacity(alloc, room)?;
         nodes.push(top)?;
         Ok(Walk {
             nodes,

@@ -1,4 +1,5 @@
-use Rattle.std.proofs.Common.{◌≡◌, ℕ, ◌+◌, ◌≤◌, List, Some, None, length, map, sym, ap, subst, ◌∙◌, arith}
+use Rattle.std.proofs.Common.{◌≡◌, ℕ, ◌+◌, ◌≤◌, List, [], ◌∷◌, Some, None, length, map, sym, ap, subst, ◌∙◌, arith}
+use Rattle.std.proofs.lemmas.List.{length-append}
 use Rattle.spp_event.specs.declared.records.Event.{Event}
 use Rattle.spp_event.specs.Recordings.{Record, Recording}
 use Rattle.spp_frame.specs.Nesting as nesting
@@ -12,13 +13,21 @@ use Rattle.spp_site.specs.Table.{Sums}
 use Rattle.spp_stack.specs.Parts.{AreOfParts}
 use Rattle.spp_parts.proofs.Accounts.{account_in}
 use Rattle.spp_parts.proofs.Shares.{begin_in, begin_zero, AreRowsTo, rows_none, part_read, part_stands, next_begin, told_part, merge_fits, rows_more, all_begun, root_fits, dag_is}
-use Rattle.spp_parts.proofs.in_parts.dag_in_parts.Goals as goal
+use Rattle.spp_parts.proofs.Chosen.{AreChosen, chosen_next, chosen_all}
+use Rattle.spp_path.specs.declared.choices.Choices.{Choices}
+use Rattle.spp_parts.specs.Choices.{AreChoicesOf}
+use Rattle.spp_parts.proofs.in_parts.table_in_parts.Goals as goal
 
 pub loop-k-init : goal.loop-k-init
 loop-k-init c = record {
   rows =
       subst (λ (d : Sums). AreRowsTo c.args.cut.now.trace (begin_in c.args.cut.now.parts 0) d) (sym c.new-dag.ensures)
       (rows_none c.args.cut.now.trace (begin_in c.args.cut.now.parts 0) (begin_zero c.args.cut.now.parts));
+  chosen = λ es are. subst (λ (cs : List Choices). AreChoicesOf es [] cs) (sym c.in_ok-choices.ensures.items) _;
+  count = ap (λ (cs : List Choices). length cs) c.in_ok-choices.ensures.items;
+  room =
+      let m : length c.parts-parts.result.now ≡ length c.args.cut.now.parts = ap (λ (l : List PartOf). length l) c.parts-parts.ensures.parts in
+      omega (arith, c.in_ok-choices.ensures.capacity);
 }
 
 pub run_part-requires : goal.run_part-requires
@@ -77,6 +86,14 @@ loop-k-preserved c =
       rows =
           rows_more t (begin_in ps k) (begin_in ps (k + 1)) (next_begin t ps k c.index-parts-k.result at) c.loop-k.dag table c.in_ok-told.told.choices c.loop-k.invariant.rows
           (told_part t ps k c.index-parts-k.result at table c.in_ok-told.told.choices c.in_ok-told.ensures) c.absorb.new.self c.in_ok-absorb.ensures.sums;
+      chosen =
+          subst (λ (cs : List Choices). AreChosen t (k + 1) ps cs) (sym c.push_reserved.ensures.items)
+          (chosen_next t ps c.parts-parts.result.now k c.index-parts-k.result c.loop-k.choices.items c.in_ok-told.told.choices at c.parts-parts.ensures.parts c.index-parts-k.is c.loop-k-test.true
+          c.loop-k.invariant.chosen (λ es are. (c.in_ok-told.ensures es are).choices));
+      count =
+          ap (λ (cs : List Choices). length cs) c.push_reserved.ensures.items
+          ∙ length-append c.loop-k.choices.items (c.in_ok-told.told.choices ∷ []) ∙ ap (λ n. n + 1) c.loop-k.invariant.count;
+      room = subst (λ n. length ps ≤ n) (sym c.push_reserved.ensures.capacity) c.loop-k.invariant.room;
     }
 
 pub add_root-requires : goal.add_root-requires
@@ -99,3 +116,8 @@ returns-clause-dag c =
     let end : n ≡ length t.records = all_begun t ps c.parts-parts.result.now c.loop-k.k c.parts-parts.ensures.cut c.parts-parts.ensures.parts past in
     dag_is t c.default.result c.in_ok-found.found.whole c.in_ok-found.ensures.figures n end c.loop-k.dag c.loop-k.invariant.rows c.add_root.new.self
     (c.add_root.ensures ∙ ap (λ (r : Row). let u : Sums = record c.loop-k.dag { root = plus c.loop-k.dag.root r } in u) c.root_row.ensures)
+
+pub returns-clause-choices : goal.returns-clause-choices
+returns-clause-choices c =
+    let past : c.loop-k.k ≡ length c.parts-parts.result.now = omega (arith, c.loop-k-test.false) in
+    chosen_all c.args.cut.now.trace c.args.cut.now.parts c.parts-parts.result.now c.loop-k.k c.loop-k.choices.items c.parts-parts.ensures.parts past c.loop-k.invariant.chosen

@@ -1,0 +1,96 @@
+//! Prints the rows of the trace on standard input on its whole dag, as the shares of its parts make them: for the test
+//! that each number of even parts, which is the only word, gives another program's rows. How long the two rounds took is
+//! told on standard error.
+#![tactic(auto)]
+
+use spp_cut::cut_even;
+use spp_dag::Row;
+use spp_event::{Trace, open_trace};
+use spp_maxplus::Burdens;
+use spp_parts::{Tabled, survey, table_in_parts};
+use spp_shell::{InSource, read_all};
+use std::alloc::Global;
+use std::process::ExitCode;
+use std::rt::{Clock, Env};
+use std::time::Instant;
+use std::{env, io};
+
+/// The number that the only word names.
+fn number<R: Env + AllocGlobal>(rt: &R) -> Option<u32> {
+    let word = env::args(rt).ok()?.nth(1)?;
+    word.parse::<u32>().ok()
+}
+
+/// What the two rounds come to, with the milliseconds of the first alone and of both.
+#[derive(Drop)]
+struct Timed {
+    told: Tabled,
+    first: u128,
+    both: u128,
+}
+
+/// The rows of a trace by so many parts; none where that number isn't allowed, the trace isn't well-formed, or no memory
+/// was left.
+fn measured<R: Clock>(rt: &R, alloc: Global, trace: &Trace<'_>, parts: u32) -> Option<Timed> {
+    if parts == 0 || parts > 65536 {
+        return None;
+    }
+    let cut = cut_even(alloc, trace, parts).ok()?;
+    let count = cut.parts().len();
+    if count == 0 || count > 65536 {
+        return None;
+    }
+    let start = Instant::now(rt).ok()?;
+    survey(alloc, &cut, Burdens::default()).ok()?;
+    let first = start.elapsed(rt).ok()?.as_millis();
+    let start = Instant::now(rt).ok()?;
+    let told = table_in_parts(alloc, &cut).ok()?;
+    let both = start.elapsed(rt).ok()?.as_millis();
+    Some(Timed { told, first, both })
+}
+
+/// A row in the columns of the program's own tables.
+fn print_row(rt: &impl Print, name: &str, row: &Row) -> io::Result<()> {
+    println!(rt;
+        "{name},{},{},{},{},{},{},{},{}",
+        row.count,
+        row.local,
+        row.site_count,
+        row.site_work,
+        row.site_span,
+        row.caller_count,
+        row.caller_work,
+        row.caller_span
+    )
+}
+
+/// The root's row, and that of each site.
+fn print_rows(rt: &impl Print, trace: &Trace<'_>, told: &Tabled) -> io::Result<()> {
+    print_row(rt, "(root)", &told.dag.root_row())?;
+    for site in 0..trace.sites() {
+        print_row(rt, trace.site_name(site), &told.dag.row(site))?;
+    }
+    Ok(())
+}
+
+fn main(rt: HostRuntime) -> io::Result<ExitCode> {
+    let alloc = rt.alloc();
+    let Some(parts) = number(&rt) else {
+        return Ok(ExitCode::FAILURE);
+    };
+    let Ok(bytes) = read_all(alloc, &mut InSource::new(rt.reader())) else {
+        return Ok(ExitCode::FAILURE);
+    };
+    let Ok(trace) = open_trace(alloc, bytes.as_slice()) else {
+        return Ok(ExitCode::FAILURE);
+    };
+    let Some(timed) = measured(&rt, alloc, &trace, parts) else {
+        return Ok(ExitCode::FAILURE);
+    };
+    eprintln!(rt;
+        "survey {} ms, survey and table {} ms",
+        timed.first, timed.both
+    )?;
+    print_rows(&rt, &trace, &timed.told)?;
+    Ok(ExitCode::SUCCESS)
+}
