@@ -2,10 +2,12 @@
 # Refuses each request for memory in turn, over the built programs. Whatever is refused, spprof ends with status 4,
 # nothing on standard output and the line `out of memory`, or with the answer that it gives when nothing is refused.
 # The probe calls each function that allocates twice: one answer at most becomes `Memory`, and no other changes.
-# usage: tests/memory.sh SPPROF PROBE
+# The table by way of parts is the right one, or there is none.
+# usage: tests/memory.sh SPPROF PROBE PARTS_PRINTER
 set -u
 spprof=$1
 probe=$2
+parts_printer=$3
 tests=$(cd "$(dirname "${BASH_SOURCE[0]}")" && pwd)
 folder=$(mktemp -d)
 trap 'rm -rf "$folder"' EXIT
@@ -54,8 +56,8 @@ probe_refused() {
         [ "$(requests)" -ge $at ] || break
         at=$((at + 1))
     done
-    # 46 calls, each with a request at least
-    [ $told -ge 46 ] || { fails "the calls: $told refusals were told"; return; }
+    # each call has a request at least
+    [ $told -ge "$(wc -l < "$tests/../crates/memory_probe/stdout")" ] || { fails "the calls: $told refusals were told"; return; }
     echo "memory: the calls: $((at - 1)) requests refused in turn, $told times told by the call"
     passed=$((passed + 1))
 }
@@ -86,6 +88,27 @@ each_refused() { # NAME STATUS OUT ERR INPUT WORDS..: what the program ends with
     passed=$((passed + 1))
 }
 
+parts_refused() { # NAME INPUT PARTS: the table by so many parts
+    local name=$1 input=$2 at=1 told=0 status
+    run 0 "$input" "$parts_printer" "$3" || { fails "$name, nothing refused"; return; }
+    cp "$folder/out" "$folder/wanted.out"
+    while true; do
+        run $at "$input" "$parts_printer" "$3"
+        status=$?
+        if [ $status -eq 1 ] && [ ! -s "$folder/out" ]; then
+            told=$((told + 1))
+        elif [ $status -ne 0 ] || ! cmp -s "$folder/out" "$folder/wanted.out"; then
+            fails "$name, request $at refused: status $status"
+            return
+        fi
+        [ "$(requests)" -ge $at ] || break
+        at=$((at + 1))
+    done
+    [ $told -gt 0 ] || { fails "$name: no refusal was told"; return; }
+    echo "memory: $name: $((at - 1)) requests refused in turn, $told times told"
+    passed=$((passed + 1))
+}
+
 probe_refused
 
 examples=$tests/../examples
@@ -105,6 +128,9 @@ each_refused 'figures, a bad event in the second part' 1 '' 'bad event 4: tag' "
 each_refused 'profile, a recorded trace' 0 'work 32744*' '' "$examples/nqueens.sptrace" profile
 each_refused 'profile as tables alone' 0 'name,count*' '' "$examples/nqueens.sptrace" profile --csv
 each_refused 'encode, a good text' 0 'SPTRACE1*' '' "$examples/small.txt" encode
+parts_refused 'the table in one part' "$examples/small.sptrace" 1
+parts_refused 'the table in parts of one event' "$examples/small.sptrace" 7
+parts_refused 'the table of a recorded trace in parts' "$examples/nqueens.sptrace" 20
 printf 'func f\nsync\nsync 1 2 3 4 5\n' > "$folder/text"
 each_refused 'encode, a bad text' 1 '' 'bad text line 3: count' "$folder/text" encode
 printf 'func f\n\377' > "$folder/bytes"

@@ -1,6 +1,6 @@
 //! Prints the rows of the trace on standard input on its whole dag, as the shares of its parts make them: for the test
-//! that each number of even parts, which is the only word, gives another program's rows. How long the two rounds took is
-//! told on standard error.
+//! that each number of even parts, which is the only word, gives another program's rows. How long the two rounds took
+//! is told on standard error.
 #![tactic(auto)]
 
 use spp_cut::cut_even;
@@ -29,8 +29,8 @@ struct Timed {
     both: u128,
 }
 
-/// The rows of a trace by so many parts; none where that number isn't allowed, the trace isn't well-formed, or no memory
-/// was left.
+/// The rows of a trace by so many parts; none where that number isn't allowed, the trace isn't well-formed, or no
+/// memory was left.
 fn measured<R: Clock>(rt: &R, alloc: Global, trace: &Trace<'_>, parts: u32) -> Option<Timed> {
     if parts == 0 || parts > 65536 {
         return None;

@@ -1,7 +1,7 @@
 //! Prints what the reference profiler answers for each of the traces on standard input. They stand there as text, each
 //! ended by a line `---`. For the test that it gives the numbers of another program, which was written from the
-//! definitions alone in another language. Where the profiler on one thread says anything else, or the table by way of parts
-//! of one event, that is told.
+//! definitions alone in another language. Where the profiler on one thread says anything else, or the table by way of
+//! parts of one event, that is told.
 #![tactic(auto)]
 
 use spp_cut::cut_even;

@@ -24,7 +24,8 @@ IsRising cuts k = 0 < k → slice_index_or cuts (k - 1) 0 < slice_index_or cuts 
 abbrev pub AreGoodTo : ℕ → List ℕ → ℕ → Type 0
 AreGoodTo events cuts k = (j : ℕ) → j < k → IsInRange events cuts j × IsRising cuts j
 
--- what is told of cuts that are refused: too many of them, else the first that is out of range or not above the one before
+-- what is told of cuts that are refused: too many of them, else the first that is out of range or not above the one
+-- before
 abbrev pub IsCutFault : ℕ → List ℕ → CutFault → Type 0
 IsCutFault events cuts TooMany = 65535 < length cuts
 IsCutFault events cuts (OutOfRange k) = (length cuts ≤ 65535) × (k < length cuts) × AreGoodTo events cuts k × (IsInRange events cuts k → ⊥)

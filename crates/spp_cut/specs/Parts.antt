@@ -16,8 +16,8 @@ part_of t number first count = record { trace = t; number = number; first = firs
 abbrev pub records_in : PartOf → List Record
 records_in p = take p.count (drop p.first p.trace.records)
 
--- These parts of the trace, numbered from `number` on, hold the events from position `from` on up to `end`, in order and
--- each once.
+-- These parts of the trace, numbered from `number` on, hold the events from position `from` on up to `end`, in order
+-- and each once.
 abbrev pub Cover : Recording → ℕ → ℕ → List PartOf → ℕ → Type 0
 Cover t number from [] end = from ≡ end
 Cover t number from (p ∷ ps) end =

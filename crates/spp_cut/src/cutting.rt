@@ -1,7 +1,7 @@
 //! Cutting a trace into parts.
 
-ghost use Rattle.std.specs.Prelude.{◌≡◌, ◌-◌, ◌<◌, ◌≤◌, ◌∷◌, ◌++◌, [], length, IfOk, IfErr, OnOk, Some};
-ghost use Rattle.spp_cut.specs.Parts.{IsCut, part_of};
+ghost use Rattle.std.specs.Prelude.{◌≡◌, ◌-◌, ◌<◌, ◌≤◌, ◌∷◌, ◌++◌, [], flat_map, length, IfOk, IfErr, OnOk, Some};
+ghost use Rattle.spp_cut.specs.Parts.{IsCut, part_of, records_in};
 ghost use Rattle.spp_cut.specs.Cuts.{AreEven, BeginAt, AreGoodTo, IsCutFault};
 ghost use Rattle.spp_cut.specs.Texts.{cut_fault_text};
 ghost use Rattle.spp_cut.specs.declared.cutting.CutFault.TheVariants.{Memory as MemoryFault};
@@ -41,10 +41,12 @@ impl<'t, 'a> Cut<'t, 'a> {
         self.trace
     }
 
-    /// Its parts, in order. Its clause `cut` gives out that they hold all its events, each once.
+    /// Its parts, in order. Its clause `all` gives out that they hold all its events, each once.
+    #[tactic(auto, using(crate::proofs::Whole::all_records))]
     pub fn parts(&self) -> &[Part<'t, 'a>]
         ensures parts { result.now ≡ self.now.parts }
         ensures cut { IsCut self.now }
+        ensures all { flat_map records_in self.now.parts ≡ self.now.trace.records }
     {
         &self.parts
     }
@@ -113,8 +115,8 @@ fn push_part<'t, 'a>(
     Ok(())
 }
 
-/// Cuts a trace of E events into `parts` parts of about the same size: part k begins at k * E / `parts`, rounded down. Some
-/// have no event where there are more parts than events. It takes time and memory linear in the number of parts.
+/// Cuts a trace of E events into `parts` parts of about the same size: part k begins at k * E / `parts`, rounded down.
+/// Some have no event where there are more parts than events. It takes time and memory linear in the number of parts.
 ///
 /// # Errors
 ///
@@ -164,13 +166,13 @@ fn check_cuts(events: u32, cuts: &[u32]) -> Result<(), CutFault>
     Ok(())
 }
 
-/// Cuts a trace at these positions, each 0 to the number of events and above the one before it: n cuts make n + 1 parts. It
-/// takes time and memory linear in the number of cuts.
+/// Cuts a trace at these positions, each 0 to the number of events and above the one before it: n cuts make n + 1
+/// parts. It takes time and memory linear in the number of cuts.
 ///
 /// # Errors
 ///
-/// `TooMany` where there are more than 65,535, else the first bad cut, `OutOfRange` before `NotRising`, or `Memory` where
-/// an allocation was refused.
+/// `TooMany` where there are more than 65,535, else the first bad cut, `OutOfRange` before `NotRising`, or `Memory`
+/// where an allocation was refused.
 pub fn cut_at<'t, 'a>(
     alloc: Global,
     trace: &'t Trace<'a>,
@@ -178,6 +180,8 @@ pub fn cut_at<'t, 'a>(
 ) -> Result<Cut<'t, 'a>, CutFault>
     ensures trace { IfOk result (λ c. c.trace ≡ trace.now) }
     ensures cut { IfOk result IsCut }
+    ensures good { IfOk result (λ _. AreGoodTo (length trace.now.records) cuts.now (length cuts.now)) }
+    ensures few { IfOk result (λ _. length cuts.now ≤ 65535) }
     ensures begins { IfOk result (λ c. BeginAt cuts.now c.parts) }
     ensures fault { IfErr result (λ f. IsCutFault (length trace.now.records) cuts.now f) }
 {

@@ -404,7 +404,8 @@ module _ (es : List Event) (wf : IsWellFormed es) (burdens : Burdens) where
       let y = passes_exit es wf B to co re (suc s) (length es) x.second s x.after x.right o (let z : s < suc s = omega arith in z) i c.within in
       subst (λ r. On 0 r (partner es s)) (sym x.is) (on_right es wf B to co re 0 (suc s) (partner es s) x.first x.before x.after x.left y)
 
-  -- the path enters a spawned child exactly where it enters the child's parent and the parent takes that child at its join
+  -- the path enters a spawned child exactly where it enters the child's parent and the parent takes that child at its
+  -- join
   pub path_enters : (ps : List ℕ) → IsPath es burdens 0 (length es) ps → (s : ℕ) → spawns (event_at es s) ≡ true → (h : Plain1 (join es s))
       → On 0 ps (suc s) ↔ (On 0 ps (owner es s) × (taken h.top.state ≡ Some s))
   path_enters ps p s t h =
@@ -452,7 +453,8 @@ module _ (es : List Event) (wf : IsWellFormed es) (burdens : Burdens) where
       next [] v b = absurd (let z = inside_opens es c t in omega (arith, b.0))
       next (u ∷ bs) v b = inr (subst (λ k. On u bs k) (calls_step c u b.0 (event_at es c) t n b.2) (on_head es wf B to co re u bs))
 
-  -- the path passes a position exactly where it enters its frame, and that frame has then no entered child still to be waited for
+  -- the path passes a position exactly where it enters its frame, and that frame has then no entered child still to be
+  -- waited for
   pub path_passes : (ps : List ℕ) → IsPath es burdens 0 (length es) ps → (i : ℕ) → i ≤ length es
       → On 0 ps i ↔ (On 0 ps (owner es i) × ((s : ℕ) → spawns (event_at es s) ≡ true → owner es s ≡ owner es i → s < i → i < join es s → On 0 ps (suc s) → ⊥))
   path_passes ps p i l =
@@ -498,7 +500,8 @@ module _ (es : List Event) (wf : IsWellFormed es) (burdens : Burdens) where
           let r = on_bounds es wf B to co re u (length es) i b.1 bs b.3 e in
           omega (arith, z.0, r.0)
 
-  -- of the children that join at k the first greatest walk of the frame goes through the one taken there, and through no other
+  -- of the children that join at k the first greatest walk of the frame goes through the one taken there, and through
+  -- no other
   pub path_takes : (k : ℕ) → k ≤ length es → (k < length es → syncs (event_at es k) ≡ true) → (h : Plain1 k) (qs : List ℕ) → IsPath es burdens (owner es k) k qs
       → (s : ℕ) → spawns (event_at es s) ≡ true → join es s ≡ k → On (owner es k) qs (suc s) ↔ (taken h.top.state ≡ Some s)
   path_takes k l n h qs p s t e =

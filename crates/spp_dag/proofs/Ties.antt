@@ -235,7 +235,8 @@ module _ (es : List Event) (wf : IsWellFormed es) (burdens : Burdens) where
       let own : owner es k ≡ h.top.first = owner_is es (room es 0) (λ _. room es 0 * burdens.on_continuation) (λ s. prize es s + room es 0 * burdens.on_return) wf k h in
       subst (λ (f : ℕ). (rest : List ℕ) × IsPath es burdens f k rest) (sym own) (g.0.0, winner_is_path h.top.first k l g.0.0 (close h.top.state) g.0.1 g.1)
 
--- the law: of two walks with the same ends, the one that comes first in dictionary order enters a child where the other goes on
+-- the law: of two walks with the same ends, the one that comes first in dictionary order enters a child where the other
+-- goes on
 pub first_enters : (es : List Event) → IsWellFormed es → (burdens : Burdens) (x y v w : ℕ) (ps qs : List ℕ) → Walk es burdens x ps y v → Walk es burdens x qs y w → Before ps qs → FirstEnters es x ps qs
 first_enters es wf burdens x y v w ps qs s t b =
     elim (one_enters es wf 1 (λ _. 0) (λ _. burdens.on_continuation) (λ _. burdens.on_return) x y v w ps qs (trail_of es burdens x y v ps s) (trail_of es burdens x y w qs t)) [

@@ -1,4 +1,5 @@
--- Walks for any scale of the weights and any burdens of each spawn: its spawn edge bears `into`, its continuation edge `go`, its return edge `out`.
+-- Walks for any scale of the weights and any burdens of each spawn: its spawn edge bears `into`, its continuation edge
+-- `go`, its return edge `out`.
 use Rattle.std.proofs.Common.{◌≡◌, ℕ, zero, suc, ◌+◌, ◌*◌, Bool, true, false, refl, arith, sym, subst, ◌⊎◌, List, [], ◌∷◌, ◌++◌, Option, Some, None}
 use Rattle.spp_event.specs.declared.records.Event.{Event}
 use Rattle.spp_event.specs.declared.records.Event.TheVariants.{Strand, Call, Spawn, Ret, Sync}

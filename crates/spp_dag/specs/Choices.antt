@@ -55,8 +55,8 @@ IsChoice es burdens k None = (s : ℕ) → JoinsAt es k s
 abbrev pub HasChoice : List Event → ℕ → Type 0
 HasChoice es k = (s : ℕ) × JoinsAt es k s
 
--- For a frame f that is open at i: it runs on at i on the path `ps`, as the path enters it, and no entered child spawned before i joins at i
--- or later.
+-- For a frame f that is open at i: it runs on at i on the path `ps`, as the path enters it, and no entered child
+-- spawned before i joins at i or later.
 abbrev pub IsRunning : List Event → List ℕ → ℕ → ℕ → Type 0
 IsRunning es ps f i = On 0 ps f
     × ((s : ℕ) → spawns (event_at es s) ≡ true → owner es s ≡ f → s < i → i ≤ join es s → On 0 ps (suc s) → ⊥)

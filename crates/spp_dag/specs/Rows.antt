@@ -79,8 +79,8 @@ abbrev pub is_of : List Event → Option ℕ → ℕ → Bool
 is_of es None f = nat_eq f 0
 is_of es (Some site) f = same_site (entered_by es f) (Some site)
 
--- the row of a site, or of the root: of its frames those whose first position passes, and of the positions that its frames
--- directly own those that pass
+-- the row of a site, or of the root: of its frames those whose first position passes, and of the positions that its
+-- frames directly own those that pass
 abbrev pub row : List Event → ℕ → (ℕ → ℕ) → (ℕ → Bool) → Option ℕ → Row
 row es root span on key =
     row_over es root span (λ f. on f && is_of es key f) (λ k. on k && is_of es key (owner es k))

@@ -33,9 +33,9 @@ ghost use Rattle.spp_dag.specs.WorkedRows.{Empty, LargeStrands, OneChild, EqualW
 ghost use Rattle.spp_dag.specs.Limits.{WorkFits, WalkFits, StackFits, RowsFit};
 
 /// The laws of the stack machine: on a well-formed trace it ends with one frame, and each frame closes with the
-/// greatest weight of a walk from its first position to where it closes, without burdens and with any; else it finds what
-/// is wrong with the nesting; and a run over two lists of events is one over the first and, if that didn't stop, one over
-/// the second. Its contract is what it is for.
+/// greatest weight of a walk from its first position to where it closes, without burdens and with any; else it finds
+/// what is wrong with the nesting; and a run over two lists of events is one over the first and, if that didn't stop,
+/// one over the second. Its contract is what it is for.
 pub fn stack_laws()
     ensures stands { StackStands }
     ensures ends { MachineGivesSpans }
@@ -45,15 +45,16 @@ pub fn stack_laws()
     ensures follows { RunsFollow }
 {}
 
-/// The laws of walks: two different walks with the same ends part first at a spawn, and the one that comes first in dictionary
-/// order enters its child. Its contract is what it is for.
+/// The laws of walks: two different walks with the same ends part first at a spawn, and the one that comes first in
+/// dictionary order enters its child. Its contract is what it is for.
 pub fn walk_laws()
     ensures parting { WalksPartAtSpawns }
     ensures ordered { WalksAreOrdered }
 {}
 
 /// The laws of the path: there is one, the choices of the stack machine are those of the path, and of the children that
-/// join at a place it goes through the first of those that a greatest walk goes through. Its contract is what it is for.
+/// join at a place it goes through the first of those that a greatest walk goes through. Its contract is what it is
+/// for.
 pub fn path_laws()
     ensures exists { PathExists }
     ensures exists_to { PathExistsTo }
@@ -66,9 +67,9 @@ pub fn path_laws()
     ensures least { PathTakesLeast }
 {}
 
-/// The laws of what is told of ranges: each position has one entry; an event other than a sync or a return is on the path
-/// exactly where its frame runs on there; and where children join the stack machine knows so, and takes what the path
-/// chooses. Its contract is what it is for.
+/// The laws of what is told of ranges: each position has one entry; an event other than a sync or a return is on the
+/// path exactly where its frame runs on there; and where children join the stack machine knows so, and takes what the
+/// path chooses. Its contract is what it is for.
 pub fn choice_laws()
     ensures entry { EntryIsOne }
     ensures running { RunningPasses }

@@ -36,8 +36,8 @@ synced = record { head = Some 0; add = 0; offer = None }
 
 -- ---- one list after another
 
--- The second list has a sync, and m is the greatest weight from the last sync that the first list counts from, or from its
--- beginning, to there.
+-- The second list has a sync, and m is the greatest weight from the last sync that the first list counts from, or from
+-- its beginning, to there.
 abbrev pub then_headed : Option ℕ → ℕ → Seg → Seg
 then_headed None m b = record { head = Some m; add = b.add; offer = b.offer }
 then_headed (Some h) m b = record { head = Some h; add = m + b.add; offer = shifted m b.offer }

@@ -25,7 +25,8 @@ abbrev pub after_call : ℕ → State → State
 after_call weight s = record { spine = s.spine + weight; child = s.child }
 
 -- A spawned child has returned, which closed with that weight and was spawned at that position. Where the parent next
--- waits, the way through the child bears the burden of its return edge, and the way past it that of the continuation edge.
+-- waits, the way through the child bears the burden of its return edge, and the way past it that of the continuation
+-- edge.
 abbrev pub after_spawn : ℕ → ℕ → Burdens → State → State
 after_spawn at weight burdens s = record {
   spine = s.spine + burdens.on_continuation;

@@ -1,5 +1,5 @@
-//! What a profiler knows of an open frame, two weights, and what the events of a run do to them, also as values that can be
-//! kept and applied later. All weights, spans and burdens are in instructions.
+//! What a profiler knows of an open frame, two weights, and what the events of a run do to them, also as values that
+//! can be kept and applied later. All weights, spans and burdens are in instructions.
 #![tactic(auto)]
 
 mod candidate;

@@ -8,8 +8,8 @@ ghost use Rattle.spp_maxplus.specs.Seg.{act, idle as idle_seg, along as along_se
 use crate::candidate::{better, greatest, shifted};
 use crate::state::{Burdens, State};
 
-/// What a list of strands, whole children and syncs of one frame does to the state of that frame. Of the children that its
-/// first sync waits for some may have been spawned before it.
+/// What a list of strands, whole children and syncs of one frame does to the state of that frame. Of the children that
+/// its first sync waits for some may have been spawned before it.
 #[derive(Clone, Copy, Debug, Default, PartialEq, Eq)]
 pub struct Seg {
     /// The greatest weight along the frame from the list's beginning to its first sync, which joins what was waited for
@@ -17,8 +17,8 @@ pub struct Seg {
     pub head: Option<u128>,
     /// The greatest weight along the frame from there on, later syncs included.
     pub add: u128,
-    /// The greatest weight through a child that was spawned after that and is still waited for, counted from there, with
-    /// the position of its spawn; of equal ones the first.
+    /// The greatest weight through a child that was spawned after that and is still waited for, counted from there,
+    /// with the position of its spawn; of equal ones the first.
     pub offer: Option<(u128, u32)>,
 }
 
@@ -115,8 +115,8 @@ impl Seg {
         }
     }
 
-    /// What the list makes of a state. The greatest weight of the state and what the list can add to it must come to less
-    /// than 2^127.
+    /// What the list makes of a state. The greatest weight of the state and what the list can add to it must come to
+    /// less than 2^127.
     pub fn apply(&self, state: State) -> State
         requires { peak state + rise self.now < 2 ^ 127 }
         ensures value { result ≡ act self.now state }

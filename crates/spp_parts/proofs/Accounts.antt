@@ -8,6 +8,7 @@ use Rattle.std.proofs.Math.Seq.{get_or-take, get_or-drop}
 use Rattle.spp_event.specs.declared.records.Event.{Event}
 use Rattle.spp_event.specs.Recordings.{Record, Recording}
 use Rattle.spp_cut.specs.Parts.{PartOf, records_in, Cover}
+use Rattle.spp_cut.proofs.Whole.{cover_le}
 use Rattle.spp_maxplus.specs.declared.state.Burdens.{Burdens}
 use Rattle.spp_dag.specs.Trace.{records}
 use Rattle.spp_dag.specs.Limits.{IsSmall}
@@ -47,12 +48,6 @@ pub accounts_all : (b : Burdens) (ps : List PartOf) (i : ℕ) (xs : List Account
 accounts_all b ps i xs some le so_far =
     let within : length (rest_of ps) ≡ length ps - 1 = length-take-le (length ps - 1) (drop 1 ps) (omega (arith, length-drop 1 ps)) in
     so_far ∙ ap (map (account_in b)) (take_all (i + 1) ps (omega arith))
-
-cover_le : (t : Recording) (number from end : ℕ) (ps : List PartOf) → Cover t number from ps end → from ≤ end
-cover_le t number from end [] h = let e : from ≡ end = h in omega arith
-cover_le t number from end (p ∷ ps) h =
-    let l = cover_le t (suc number) (from + p.count) end ps h.3 in
-    omega arith
 
 -- parts that cover the records from a position on have their accounts
 pub cover_accounts : (t : Recording) (b : Burdens) (number from : ℕ) (ps : List PartOf) → Cover t number from ps (length t.records)

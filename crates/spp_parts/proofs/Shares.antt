@@ -8,6 +8,7 @@ use Rattle.spp_event.specs.Recordings.{Record, Recording}
 use Rattle.spp_frame.specs.Nesting as nesting
 use Rattle.spp_frame.specs.Nesting.{AreEvents}
 use Rattle.spp_cut.specs.Parts.{PartOf, records_in, Cover}
+use Rattle.spp_cut.proofs.Whole.{cover_le}
 use Rattle.spp_maxplus.specs.declared.state.Burdens.{Burdens}
 use Rattle.spp_maxplus.specs.State.{unburdened}
 use Rattle.spp_dag.specs.declared.row.Row.{Row}
@@ -68,12 +69,6 @@ begin_in (p ∷ ps) (suc k) = p.count + begin_in ps k
 pub begin_zero : (ps : List PartOf) → begin_in ps 0 ≡ 0
 begin_zero [] = refl
 begin_zero (p ∷ ps) = refl
-
-cover_le : (t : Recording) (number from end : ℕ) (ps : List PartOf) → Cover t number from ps end → from ≤ end
-cover_le t number from end [] h = let e : from ≡ end = h in omega arith
-cover_le t number from end (p ∷ ps) h =
-    let l = cover_le t (suc number) (from + p.count) end ps h.3 in
-    omega arith
 
 -- a part of the trace t
 pub record PartAt (t : Recording) (from : ℕ) (ps : List PartOf) (k : ℕ) (p : PartOf) : Type 0 where

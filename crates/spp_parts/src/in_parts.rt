@@ -33,13 +33,13 @@ fn root_row(whole: &Figures) -> Row
     closed.row()
 }
 
-/// The rows by call site of a cut trace on its whole dag, which are the shares of all parts with what the root frame adds
-/// itself; and the choices in each part.
+/// The rows by call site of a cut trace on its whole dag, which are the shares of all parts with what the root frame
+/// adds itself; and the choices in each part.
 ///
 /// The events are read twice, once for the frames that are open where parts begin, and once for the shares. The time is
 /// linear in the number of events, and for each part in the numbers of sites and functions that are open before it or
-/// come in it, and in the greatest of these numbers. The choices take up to 16 bytes for each spawned child, or twice
-/// that.
+/// come in it, and in the greatest of these numbers. The memory is what `survey` and `entries` take, one part's table
+/// at a time, and for the choices up to 16 bytes for each spawned child, or twice that where the lists grew bit by bit.
 ///
 /// # Errors
 ///

@@ -203,6 +203,10 @@ fn stacks_share_their_frames(rt: HostRuntime) -> Result<(), Fail> {
         return Err(AllocError.into());
     };
     let top = inner(FrameKind::Called, 999, 0, 500, false, false);
+    if stacks.parts() >= 1500 {
+        let number = stacks.top(1500) as usize;
+        assert_eq!(rt; stacks.nodes().get(number).map(|node| node.frame), Some(top));
+    }
     assert_eq!(rt; frames.first(), Some(&top));
     assert_eq!(rt; depth, 1000);
     assert_eq!(rt; work, 500);
@@ -352,6 +356,7 @@ fn parts_come_to_the_table_of_the_whole(rt: HostRuntime) -> Result<(), Fail> {
         s(1),
     ];
     assert!(rt; rows_in_parts(alloc, &[]) == Some((root_row(0, 0, 0), Row::default())));
+    assert!(rt; rows_in_parts(alloc, &spawns).is_some());
     assert!(rt; rows_in_parts(alloc, &spawns) == rows_at_once(alloc, &spawns));
     let deep = thousand(alloc)?;
     assert!(rt; rows_in_parts(alloc, &deep).is_some());

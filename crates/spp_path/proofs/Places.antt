@@ -130,8 +130,8 @@ module _ (es : List Event) (wf : IsWellFormed es) (root : ℕ) (rest : List ℕ)
   AllEntered i [] = Unit {0}
   AllEntered i (k ∷ ks) = On 0 rest (first k.entry) × ((k.running ≡ true) ↔ IsRunning es rest (first k.entry) i) × AllEntered i ks
 
-  -- Before the event at i, where w is the work so far, the machine has these frames open: `outs`, which the path doesn't
-  -- enter, within `ks`, which it enters.
+  -- Before the event at i, where w is the work so far, the machine has these frames open: `outs`, which the path
+  -- doesn't enter, within `ks`, which it enters.
   pub record Place (i w : ℕ) (outs : List EntryFrame) (ks : List PathFrame) : Type 0 where
     pub entry : IsEntry es root i (outs ++ entries ks) w
     pub beside : AllBeside outs

@@ -43,8 +43,8 @@ rises (x ∷ xs) i zero r a l = absurd (omega arith)
 rises (x ∷ xs) zero (suc j) r a l = rises_next x xs j r (omega arith)
 rises (x ∷ xs) (suc i) (suc j) r a l = rises xs i j (rest_rises x xs r) (omega arith) (omega arith)
 
--- Of a list of positions the first m are left: those lie before the time, and the others at it or after it. The one at k
--- has the time 2k + d.
+-- Of a list of positions the first m are left: those lie before the time, and the others at it or after it. The one at
+-- k has the time 2k + d.
 pub record Left (d : ℕ) (xs : List ℕ) (m t : ℕ) : Type 0 where
   pub before : (i : ℕ) → i < m → 2 * get_or xs i 0 + d < t
   pub after : (i : ℕ) → m ≤ i → i < length xs → t ≤ 2 * get_or xs i 0 + d

@@ -24,8 +24,8 @@ runs_to at Live = true
 runs_to at (Skip s) = nat_le at s
 runs_to at (Seek s) = false
 
--- How the path goes before the return of a child: that child was sought, or the path came to here and so goes beside the
--- child, or nothing changes.
+-- How the path goes before the return of a child: that child was sought, or the path came to here and so goes beside
+-- the child, or nothing changes.
 abbrev pub ended : End → Walk → Walk
 ended e Live = Skip e.spawn
 ended e (Skip s) = cond (nat_le e.at s) (Skip e.spawn) (Skip s)

@@ -9,8 +9,8 @@ pub struct End {
     pub spawn: u32,
 }
 
-/// A place where a frame waits, at a sync, at its return or at the end, and the path through the frame to there comes from
-/// a child that joins there.
+/// A place where a frame waits, at a sync, at its return or at the end, and the path through the frame to there comes
+/// from a child that joins there.
 #[derive(Clone, Copy, Debug, PartialEq, Eq)]
 pub struct Join {
     /// The position of the sync or the return, or the number of events at the end.

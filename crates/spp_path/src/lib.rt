@@ -1,5 +1,5 @@
-//! The first greatest path of a run: which spawned children it enters, and its rows by call site. Its span is that of the
-//! run; Cilkprof calls the same numbers those "on the span".
+//! The first greatest path of a run: which spawned children it enters, and its rows by call site. Its span is that of
+//! the run; Cilkprof calls the same numbers those "on the span".
 #![tactic(auto)]
 
 mod choices;

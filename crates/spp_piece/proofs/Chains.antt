@@ -2,7 +2,7 @@
 use Rattle.std.proofs.Common.{◌≡◌, ℕ, ◌+◌, ◌-◌, ◌≤◌, ◌<◌, Bool, true, false, List, [], ◌∷◌, ◌++◌, length, reverse, get_or, set, map, refl, sym, ◌∙◌, ap, ap₂, subst, arith}
 use Rattle.std.proofs.lemmas.List.{reverse-append}
 use Rattle.spp_piece.specs.declared.opens.Open.{Open}
-use Rattle.spp_piece.specs.declared.pieces.States.{States}
+use Rattle.spp_piece.specs.declared.opens.Kept.{Kept}
 use Rattle.spp_piece.specs.Summary.{later}
 use Rattle.spp_piece.specs.Told.{kept_of, past, HasKept, frame_of, frames_of, outside, AreLaid}
 use Rattle.spp_piece.specs.Joining.{raised, run_on, before_on}
@@ -29,41 +29,44 @@ raised_front gap (y ∷ ys) x lt e =
     reverse-append (z ∷ []) ys ∙ ap (λ (o : Open). reverse ys ++ record o { gap = gap } ∷ []) e
     ∙ sym (ap (raised gap) (reverse-append (y ∷ []) ys) ∙ raised_end gap (reverse ys) y)
 
-pub frames_count : (run before : ℕ) (os : List Open) (ss : List States) → length (frames_of run before os ss) ≡ length os
+pub frames_count : (run before : ℕ) (os : List Open) (ss : List Kept) → length (frames_of run before os ss) ≡ length os
 frames_count run before [] ss = refl
 frames_count run before (o ∷ os) ss = omega (arith, frames_count o.gap (before - o.gap) os (past o.kept ss))
 
 -- ---- the kept states of both
 
-kept-append : (k : Bool) (rs ls : List States) → HasKept k rs → kept_of k (rs ++ ls) ≡ kept_of k rs
+kept-append : (k : Bool) (rs ls : List Kept) → HasKept k rs → kept_of k (rs ++ ls) ≡ kept_of k rs
 kept-append false rs ls h = refl
 kept-append true [] ls h = absurd h
 kept-append true (r ∷ rs) ls h = refl
 
-past-append : (k : Bool) (rs ls : List States) → HasKept k rs → past k (rs ++ ls) ≡ past k rs ++ ls
+counted-append : (k : Bool) (rs ls : List Kept) (run : ℕ) → HasKept k rs → (kept_of k rs).counted ≤ run → (kept_of k (rs ++ ls)).counted ≤ run
+counted-append k rs ls run h le = omega (arith, ap (λ (k : Kept). k.counted) (kept-append k rs ls h))
+
+past-append : (k : Bool) (rs ls : List Kept) → HasKept k rs → past k (rs ++ ls) ≡ past k rs ++ ls
 past-append false rs ls h = refl
 past-append true [] ls h = absurd h
 past-append true (r ∷ rs) ls h = refl
 
-has-append : (k : Bool) (rs ls : List States) → HasKept k rs → HasKept k (rs ++ ls)
+has-append : (k : Bool) (rs ls : List Kept) → HasKept k rs → HasKept k (rs ++ ls)
 has-append false rs ls h = tt
 has-append true [] ls h = absurd h
 has-append true (r ∷ rs) ls h = tt
 
 -- no more states are kept than there are frames
-pub few_kept : (run before since : ℕ) (os : List Open) (ss : List States) → AreLaid run before os ss since → length ss ≤ length os
+pub few_kept : (run before since : ℕ) (os : List Open) (ss : List Kept) → AreLaid run before os ss since → length ss ≤ length os
 few_kept run before since [] ss h = omega (arith, ap length h.2)
 few_kept run before since (o ∷ os) ss h = by o.kept ss (few_kept o.gap (before - o.gap) since os (past o.kept ss) h.3)
   where
-    by : (k : Bool) (ss : List States) → length (past k ss) ≤ length os → length ss ≤ length (o ∷ os)
+    by : (k : Bool) (ss : List Kept) → length (past k ss) ≤ length os → length ss ≤ length (o ∷ os)
     by false ss le = omega arith
     by true [] le = omega arith
     by true (s ∷ ss) le = omega arith
 
 -- ---- both together
 
-module _ (work low base next since : ℕ) (lo : List Open) (ls : List States) where
-  pub frames-chained : (run before own : ℕ) (ro : List Open) (rs : List States) → low + base ≡ work → next ≡ base + outside run ro → AreLaid run before ro rs own
+module _ (work low base next since : ℕ) (lo : List Open) (ls : List Kept) where
+  pub frames-chained : (run before own : ℕ) (ro : List Open) (rs : List Kept) → low + base ≡ work → next ≡ base + outside run ro → AreLaid run before ro rs own
       → frames_of (run_on next run ro) (before_on work low before ro) (raised next ro ++ lo) (rs ++ ls) ≡ map (later work) (frames_of run before ro rs) ++ frames_of next low lo ls
   frames-chained run before own [] rs s n h = ap (λ rs. frames_of next low lo (rs ++ ls)) h.2
   frames-chained run before own (o ∷ []) rs s n h =
@@ -81,16 +84,16 @@ module _ (work low base next since : ℕ) (lo : List Open) (ls : List States) wh
   outside-chained run (o ∷ []) = refl
   outside-chained run (o ∷ p ∷ os) = outside-chained o.gap (p ∷ os)
 
-  pub laid-chained : (run before own : ℕ) (ro : List Open) (rs : List States) → low + base ≡ work → next ≡ base + outside run ro → AreLaid run before ro rs own → AreLaid next low lo ls since
+  pub laid-chained : (run before own : ℕ) (ro : List Open) (rs : List Kept) → low + base ≡ work → next ≡ base + outside run ro → AreLaid run before ro rs own → AreLaid next low lo ls since
       → AreLaid (run_on next run ro) (before_on work low before ro) (raised next ro ++ lo) (rs ++ ls) since
   laid-chained run before own [] rs s n h g = subst (λ rs. AreLaid next low lo (rs ++ ls) since) (sym h.2) g
   laid-chained run before own (o ∷ []) rs s n h g =
       let e : (work + before) - next ≡ low = omega (arith, h.1, h.3.1) in
       let p : past o.kept (rs ++ ls) ≡ ls = past-append o.kept rs ls h.2 ∙ ap (λ rs. rs ++ ls) h.3.2 in
-      (h.0, omega (arith, h.1, h.3.1), has-append o.kept rs ls h.2, subst (λ b. AreLaid next b lo (past o.kept (rs ++ ls)) since) (sym e) (subst (λ ss. AreLaid next low lo ss since) (sym p) g))
+      (counted-append o.kept rs ls run h.2 h.0, omega (arith, h.1, h.3.1), has-append o.kept rs ls h.2, subst (λ b. AreLaid next b lo (past o.kept (rs ++ ls)) since) (sym e) (subst (λ ss. AreLaid next low lo ss since) (sym p) g))
   laid-chained run before own (o ∷ p ∷ os) rs s n h g =
       let e : (work + before) - o.gap ≡ work + (before - o.gap) = omega (arith, h.1) in (
-        h.0,
+        counted-append o.kept rs ls run h.2 h.0,
         omega (arith, h.1),
         has-append o.kept rs ls h.2,
         subst (λ b. AreLaid o.gap b (raised next (p ∷ os) ++ lo) (past o.kept (rs ++ ls)) since) (sym e)

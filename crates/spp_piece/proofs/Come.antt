@@ -1,5 +1,5 @@
--- How far the machine has come in the records of a trace, whatever they count; and what a run over all of them comes to:
--- the figures, or the first bad event.
+-- How far the machine has come in the records of a trace, whatever they count; and what a run over all of them comes
+-- to: the figures, or the first bad event.
 use Rattle.std.proofs.Common.{◌≡◌, ℕ, zero, suc, ◌+◌, ◌-◌, ◌<◌, ◌≤◌, cond, List, [], ◌∷◌, ◌++◌, length, take, drop, Option, Some, None, Result, Ok, Err, IfOk, IfErr, refl, sym, ap, subst, ◌∙◌, arith}
 use Rattle.std.proofs.lemmas.List.{length-drop, map-append, take_all, take_more}
 use Rattle.spp_event.specs.declared.records.Event.{Event}

@@ -4,17 +4,17 @@ use Rattle.std.proofs.lemmas.List.{append-nil, append_assoc}
 use Rattle.spp_maxplus.specs.declared.state.Burdens.{Burdens}
 use Rattle.spp_event.specs.declared.records.EventFault.{EventFault}
 use Rattle.spp_piece.specs.declared.opens.Open.{Open}
+use Rattle.spp_piece.specs.declared.opens.Kept.{Kept}
 use Rattle.spp_piece.specs.declared.pieces.Segs.{Segs}
-use Rattle.spp_piece.specs.declared.pieces.States.{States}
 use Rattle.spp_piece.specs.declared.pieces.Frame.{Frame}
 use Rattle.spp_piece.specs.declared.pieces.Unmatched.{Unmatched}
-use Rattle.spp_piece.specs.Pair.{act, then, idle, fed, strand, after_strand}
+use Rattle.spp_piece.specs.Pair.{act, then, idle, fed, strand}
 use Rattle.spp_piece.specs.Machine.{Ops}
 use Rattle.spp_piece.specs.Summary.{Sum, later, along_by, summary_ops, play_returns, play_frames, play_fault}
 use Rattle.spp_piece.specs.Returns.{return_of}
 use Rattle.spp_piece.specs.Bound.{cost, worst, load, load_returns}
 use Rattle.spp_piece.specs.Pile.{with_work}
-use Rattle.spp_piece.specs.Told.{kept_of, past, with_kept, frames_of, outside, told, AreLaid}
+use Rattle.spp_piece.specs.Told.{kept_of, past, ran, with_kept, frames_of, outside, told, AreLaid}
 use Rattle.spp_piece.specs.Joining.{raised, run_on, before_on}
 use Rattle.spp_piece.proofs.Piles.{sum}
 use Rattle.spp_piece.proofs.Bounds.{cost-then, cost-fed, height-act, load_push, load-append}
@@ -45,20 +45,20 @@ module _ (burden : Burdens) where
   child_parts rs m f fs w v n at (Some p) g e = absurd (cc)
 
   -- of a frame that is kept
-  pub child_returned : (rs : List Unmatched) (m : Segs) (since run before : ℕ) (c : Open) (os : List Open) (ss : List States) (q : Option (ℕ × EventFault)) (g r : Segs) (at n : ℕ) → q ≡ None
-      → r ≡ fed burden (with_kept before c (act g (after_strand (run - c.counted) (kept_of c.kept ss))))
+  pub child_returned : (rs : List Unmatched) (m : Segs) (since run before : ℕ) (c : Open) (os : List Open) (ss : List Kept) (q : Option (ℕ × EventFault)) (g r : Segs) (at n : ℕ) → q ≡ None
+      → r ≡ fed burden (with_kept before c (act g (ran run (kept_of c.kept ss))))
       → o.along r (with_work n (told rs m since os (past c.kept ss) c.gap (before - c.gap) q)) ≡ o.ret at (o.along g (with_work n (told rs m since (c ∷ os) ss run before q)))
   child_returned rs m since run before c os ss q g r at n e er =
       let s : Sum = told rs m since os (past c.kept ss) c.gap (before - c.gap) q in
       let t : Sum = told rs m since (c ∷ os) ss run before q in
       ap (λ r. o.along r (with_work n s)) er
-      ∙ child_parts s.returns s.middle (with_kept before c (after_strand (run - c.counted) (kept_of c.kept ss))) s.frames t.work s.work n at q g e
+      ∙ child_parts s.returns s.middle (with_kept before c (ran run (kept_of c.kept ss))) s.frames t.work s.work n at q g e
 
-  pub child_load : (rs : List Unmatched) (m : Segs) (since run before : ℕ) (c : Open) (os : List Open) (ss : List States) (q : Option (ℕ × EventFault)) (g r : Segs)
-      → r ≡ fed burden (with_kept before c (act g (after_strand (run - c.counted) (kept_of c.kept ss))))
+  pub child_load : (rs : List Unmatched) (m : Segs) (since run before : ℕ) (c : Open) (os : List Open) (ss : List Kept) (q : Option (ℕ × EventFault)) (g r : Segs)
+      → r ≡ fed burden (with_kept before c (act g (ran run (kept_of c.kept ss))))
       → load burden (told rs m since os (past c.kept ss) c.gap (before - c.gap) q) + cost r ≤ load burden (told rs m since (c ∷ os) ss run before q) + cost g + worst burden
   child_load rs m since run before c os ss q g r er =
-      let x = after_strand (run - c.counted) (kept_of c.kept ss) in
+      let x = ran run (kept_of c.kept ss) in
       omega (arith, ap cost er, cost-fed burden (with_kept before c (act g x)), height-act g x)
 
   none_parts : (rs : List Unmatched) (m : Segs) (fs : List Frame) (w n at : ℕ) (q : Option (ℕ × EventFault)) (g : Segs) → q ≡ None → fs ≡ [] → with_work n (sum (rs ++ record { segs = then m g; at = at } ∷ []) idle fs w q) ≡ o.ret at (o.along g (with_work n (sum rs m fs w q)))
@@ -113,11 +113,11 @@ module _ (burden : Burdens) where
 
   -- ---- both summaries as they lie
 
-  work_both : (w low next run before since : ℕ) (ro : List Open) (ks : List States) → low ≤ w → low + next ≡ w + outside run ro → AreLaid run before ro ks since → before_on w low before ro + run_on next run ro ≡ w + (before + run)
+  work_both : (w low next run before since : ℕ) (ro : List Open) (ks : List Kept) → low ≤ w → low + next ≡ w + outside run ro → AreLaid run before ro ks since → before_on w low before ro + run_on next run ro ≡ w + (before + run)
   work_both w low next run before since [] ks le e h = omega (arith, h.1)
   work_both w low next run before since (o ∷ os) ks le e h = omega arith
 
-  pub chained_told : (rs : List Unmatched) (m : Segs) (since : ℕ) (lo : List Open) (ls : List States) (next low w run before own : ℕ) (ro : List Open) (ks : List States) (p q : Option (ℕ × EventFault)) (s : Sum)
+  pub chained_told : (rs : List Unmatched) (m : Segs) (since : ℕ) (lo : List Open) (ls : List Kept) (next low w run before own : ℕ) (ro : List Open) (ks : List Kept) (p q : Option (ℕ × EventFault)) (s : Sum)
       → p ≡ None → low ≤ w → low + next ≡ w + outside run ro → AreLaid run before ro ks own
       → with_work w (told rs m since lo ls next low p) ≡ s
       → told rs m since (raised next ro ++ lo) (ks ++ ls) (run_on next run ro) (before_on w low before ro) q ≡ play_fault o q (o.worked (before + run) (play_frames o (frames_of run before ro ks) s))

@@ -8,6 +8,7 @@ use Rattle.spp_event.specs.Recordings.{Record, Recording}
 use Rattle.spp_frame.specs.declared.Fault.{Fault}
 use Rattle.spp_frame.specs.Nesting.{IsFirstBad}
 use Rattle.spp_cut.specs.Parts.{PartOf, records_in, Cover}
+use Rattle.spp_cut.proofs.Whole.{cover_le}
 use Rattle.spp_maxplus.specs.declared.state.Burdens.{Burdens}
 use Rattle.spp_piece.specs.declared.figures.Figures.{Figures}
 use Rattle.spp_piece.specs.declared.pieces.Segs.{Segs}
@@ -27,12 +28,6 @@ use Rattle.spp_piece.proofs.Joins.{both_account}
 use Rattle.spp_piece.proofs.Finish.{root_return, bad_record, unclosed}
 use Rattle.spp_piece.proofs.Come.{run_told}
 use Rattle.spp_piece.proofs.Prefix.{first_of_front}
-
-cover_le : (t : Recording) (number from end : ℕ) (ps : List PartOf) → Cover t number from ps end → from ≤ end
-cover_le t number from end [] h = let e : from ≡ end = h in omega arith
-cover_le t number from end (p ∷ ps) h =
-    let l = cover_le t (suc number) (from + p.count) end ps h.3 in
-    omega arith
 
 -- the account of the parts before these, which are left
 pub record Summed (t : Recording) (b : Burdens) (ps : List PartOf) (a : Account) : Type 0 where

@@ -9,12 +9,13 @@ use Rattle.spp_piece.specs.declared.pieces.States.{States}
 use Rattle.spp_piece.specs.declared.pieces.Frame.{Frame}
 use Rattle.spp_piece.specs.declared.pieces.Unmatched.{Unmatched}
 use Rattle.spp_piece.specs.declared.opens.Open.{Open}
+use Rattle.spp_piece.specs.declared.opens.Kept.{Kept}
 use Rattle.spp_piece.specs.Pair.{act, then, strand, sync, start, after_strand, after_sync, after_return, after_return_by}
 use Rattle.spp_piece.specs.Summary.{Sum, along_by, ret_by, working}
 use Rattle.spp_piece.specs.declared.changes.Weights.{Weights}
 use Rattle.spp_maxplus.specs.Candidate.{greatest}
 use Rattle.spp_piece.specs.Pile.{open_load, with_work}
-use Rattle.spp_piece.specs.Told.{kept_of, past, with_kept, frame_of, frames_of, outside, told, HasKept, AreLaid, weights_of}
+use Rattle.spp_piece.specs.Told.{kept_of, past, ran, with_kept, frame_of, frames_of, outside, told, HasKept, AreLaid, weights_of}
 use Rattle.spp_piece.proofs.Lists.{reverse_last, reverse_set_last}
 use Rattle.spp_piece.proofs.Pairs.{act-strand, act-sync, act-fed, then_assoc}
 
@@ -42,12 +43,22 @@ ends_at xs n k y z lt en ek e =
       new = ap (λ n. reverse (set xs n z)) en ∙ reverse_set_last xs m z h;
     }
 
+-- a list that stays as it is
+pub same_end : {X : Type 0} (xs ys : List X) (y : X) → ys ≡ xs → 0 < length ys → y ≡ get_or ys (length ys - 1) y → Ends xs xs y y
+same_end xs ys y same lt e =
+    let at = ends_at ys _ _ y y lt refl refl e in
+    let old = ap reverse (sym same) ∙ at.old in
+    record { below = at.below; old = old; new = old }
+
 -- one strand after another
 pub after_strands : (a b : ℕ) (s : States) → after_strand b (after_strand a s) ≡ after_strand (a + b) s
 after_strands a b s =
     let p = add_assoc s.plain.spine a b in
     let q = add_assoc s.burdened.spine a b in
     cc
+
+abbrev pub as_kept : States → ℕ → Kept
+as_kept states counted = record { states = states; counted = counted }
 
 pub no_strand : (w : ℕ) (s : States) → after_strand (w - w) s ≡ s
 no_strand w s =
@@ -60,65 +71,69 @@ then_strands m a b = then_assoc m (strand a) (strand b)
 
 module _ (rs : List Unmatched) (m : Segs) (since : ℕ) (q : Option (ℕ × EventFault)) where
   -- with this innermost frame above those, and that work
-  abbrev headed : List Open → List States → ℕ → ℕ → Frame → ℕ → Sum
+  abbrev headed : List Open → List Kept → ℕ → ℕ → Frame → ℕ → Sum
   headed os ss gap before f work = record { returns = rs; middle = then m (strand (outside gap os - since)); frames = f ∷ frames_of gap before os ss; work = work; fault = q }
 
-  pub strand_told : (ss : List States) (run before : ℕ) (os : List Open) (n : ℕ) → AreLaid run before os ss since → told rs m since os ss (run + n) before q ≡ working n (along_by (frames_of run before os ss) (strand n) (told rs m since os ss run before q))
+  pub strand_told : (ss : List Kept) (run before : ℕ) (os : List Open) (n : ℕ) → AreLaid run before os ss since → told rs m since os ss (run + n) before q ≡ working n (along_by (frames_of run before os ss) (strand n) (told rs m since os ss run before q))
   strand_told ss run before [] n h =
       let e : (run - since) + n ≡ run + n - since = omega (arith, h.0) in
       ap₂ (λ g w. let s : Sum = record { returns = rs; middle = g; frames = []; work = w; fault = q } in s) (ap (λ k. then m (strand k)) (sym e) ∙ sym (then_strands m (run - since) n)) (sym (add_assoc before run n))
   strand_told ss run before (o ∷ os) n h =
-      let e : (run - o.counted) + n ≡ run + n - o.counted = omega (arith, h.0) in
-      let s = kept_of o.kept ss in
+      let k = kept_of o.kept ss in
+      let e : (run - k.counted) + n ≡ run + n - k.counted = omega (arith, h.0) in
       ap₂ (λ x w. headed os (past o.kept ss) o.gap (before - o.gap) (with_kept before o x) w)
-      (ap (λ k. after_strand k s) (sym e) ∙ sym (after_strands (run - o.counted) n s) ∙ sym (act-strand n (after_strand (run - o.counted) s)))
+      (ap (λ j. after_strand j k.states) (sym e) ∙ sym (after_strands (run - k.counted) n k.states) ∙ sym (act-strand n (ran run k)))
       (sym (add_assoc before run n))
 
   -- the innermost frame has these states now, which are kept
-  pub kept_told : (ss : List States) (run before : ℕ) (p : Open) (ps : List Open) (s : States) → told rs m since (record p { counted = run; kept = true } ∷ ps) (s ∷ past p.kept ss) run before q ≡ headed ps (past p.kept ss) p.gap (before - p.gap) (with_kept before p s) (before + run)
+  pub kept_told : (ss : List Kept) (run before : ℕ) (p : Open) (ps : List Open) (s : States) → told rs m since (record p { kept = true } ∷ ps) (as_kept s run ∷ past p.kept ss) run before q ≡ headed ps (past p.kept ss) p.gap (before - p.gap) (with_kept before p s) (before + run)
   kept_told ss run before p ps s = ap (λ x. headed ps (past p.kept ss) p.gap (before - p.gap) (with_kept before p x) (before + run)) (no_strand run s)
 
-  pub sync_told : (ss : List States) (run before : ℕ) (p : Open) (ps : List Open) → told rs m since (record p { counted = run; kept = true } ∷ ps) (after_sync (after_strand (run - p.counted) (kept_of p.kept ss)) ∷ past p.kept ss) run before q ≡ along_by (frames_of run before (p ∷ ps) ss) sync (told rs m since (p ∷ ps) ss run before q)
+  pub sync_told : (ss : List Kept) (run before : ℕ) (p : Open) (ps : List Open) → told rs m since (record p { kept = true } ∷ ps) (as_kept (after_sync (ran run (kept_of p.kept ss))) run ∷ past p.kept ss) run before q ≡ along_by (frames_of run before (p ∷ ps) ss) sync (told rs m since (p ∷ ps) ss run before q)
   sync_told ss run before p ps =
-      let x = after_strand (run - p.counted) (kept_of p.kept ss) in
+      let x = ran run (kept_of p.kept ss) in
       kept_told ss run before p ps (after_sync x)
       ∙ ap (λ x. headed ps (past p.kept ss) p.gap (before - p.gap) (with_kept before p x) (before + run)) (sym (act-sync x))
 
   -- a frame's return to another one
-  pub feed_told : (ss : List States) (run before : ℕ) (burden : Burdens) (at : ℕ) (c p : Open) (ps : List Open) (x : States)
+  pub feed_told : (ss : List Kept) (run before : ℕ) (burden : Burdens) (at : ℕ) (c p : Open) (ps : List Open) (x : States)
       → (let k = past c.kept ss in
       let f : Frame = frame_of run before c (kept_of c.kept ss) in
-      AreLaid run before (c ∷ p ∷ ps) ss since → x ≡ after_return burden f (after_strand (c.gap - p.counted) (kept_of p.kept k)) →
-      told rs m since (record p { counted = run + c.gap; kept = true } ∷ ps) (x ∷ past p.kept k) (run + c.gap) (before - c.gap) q ≡ ret_by (frames_of run before (c ∷ p ∷ ps) ss) burden at (told rs m since (c ∷ p ∷ ps) ss run before q))
+      AreLaid run before (c ∷ p ∷ ps) ss since → x ≡ after_return burden f (ran c.gap (kept_of p.kept k)) →
+      told rs m since (record p { kept = true } ∷ ps) (as_kept x (run + c.gap) ∷ past p.kept k) (run + c.gap) (before - c.gap) q ≡ ret_by (frames_of run before (c ∷ p ∷ ps) ss) burden at (told rs m since (c ∷ p ∷ ps) ss run before q))
   feed_told ss run before burden at c p ps x h e =
       let k = past c.kept ss in
       let f : Frame = frame_of run before c (kept_of c.kept ss) in
       let under = before - c.gap in
       kept_told k (run + c.gap) under p ps x
-      ∙ ap₂ (λ x w. headed ps (past p.kept k) p.gap (under - p.gap) (with_kept under p x) w) (e ∙ sym (act-fed burden f (after_strand (c.gap - p.counted) (kept_of p.kept k)))) (omega (arith, h.1))
+      ∙ ap₂ (λ x w. headed ps (past p.kept k) p.gap (under - p.gap) (with_kept under p x) w) (e ∙ sym (act-fed burden f (ran c.gap (kept_of p.kept k)))) (omega (arith, h.1))
 
   -- the same where the frame was called and its states aren't kept
-  skipped : (run gap counted pcounted : ℕ) (s : States) (burden : Burdens) (at : ℕ) → counted ≤ run → pcounted ≤ gap
-      → after_strand (run + gap - (pcounted + counted)) s ≡ after_return_by Called burden at (0 + (run - counted)) (0 + (run - counted)) (after_strand (gap - pcounted) s)
-  skipped run gap counted pcounted s burden at a b =
-      let p : s.plain.spine + (run + gap - (pcounted + counted)) ≡ s.plain.spine + (gap - pcounted) + (0 + (run - counted)) = omega arith in
-      let q : s.burdened.spine + (run + gap - (pcounted + counted)) ≡ s.burdened.spine + (gap - pcounted) + (0 + (run - counted)) = omega arith in
+  skipped : (run gap counted : ℕ) (s : States) (burden : Burdens) (at : ℕ) → counted ≤ gap
+      → after_strand (run + gap - counted) s ≡ after_return_by Called burden at (0 + (run - 0)) (0 + (run - 0)) (after_strand (gap - counted) s)
+  skipped run gap counted s burden at le =
+      let p : s.plain.spine + (run + gap - counted) ≡ s.plain.spine + (gap - counted) + (0 + (run - 0)) = omega arith in
+      let q : s.burdened.spine + (run + gap - counted) ≡ s.burdened.spine + (gap - counted) + (0 + (run - 0)) = omega arith in
       cc
 
-  pub skip_told : (ss : List States) (run before : ℕ) (burden : Burdens) (at : ℕ) (gap counted cat site func : ℕ) (kind : Kind) (kept : Bool) (p : Open) (ps : List Open)
+  pub skip_told : (ss : List Kept) (run before : ℕ) (burden : Burdens) (at : ℕ) (gap cat site func : ℕ) (kind : Kind) (kept : Bool) (os : List Open)
       → kind ≡ Called → kept ≡ false
-      → (let c : Open = record { gap = gap; counted = counted; at = cat; site = site; func = func; kind = kind; kept = kept } in
-      AreLaid run before (c ∷ p ∷ ps) ss since →
-      told rs m since (record p { counted = p.counted + counted } ∷ ps) ss (run + gap) (before - gap) q ≡ ret_by (frames_of run before (c ∷ p ∷ ps) ss) burden at (told rs m since (c ∷ p ∷ ps) ss run before q))
-  skip_told ss run before burden at gap counted cat site func Called false p ps ek ef h =
-      let f : Frame = record { kind = Called; at = cat; site = site; func = func; before = before; states = after_strand (run - counted) start } in
-      let s = kept_of p.kept ss in
+      → (let c : Open = record { gap = gap; at = cat; site = site; func = func; kind = kind; kept = kept } in
+      AreLaid run before (c ∷ os) ss since →
+      told rs m since os ss (run + gap) (before - gap) q ≡ ret_by (frames_of run before (c ∷ os) ss) burden at (told rs m since (c ∷ os) ss run before q))
+  skip_told ss run before burden at gap cat site func Called false [] ek ef h =
+      let e : (gap - since) + (0 + (run - 0)) ≡ run + gap - since = omega (arith, h.3.0) in
+      ap₂ (λ g w. let s : Sum = record { returns = rs; middle = g; frames = []; work = w; fault = q } in s)
+      (ap (λ k. then m (strand k)) (sym e) ∙ sym (then_strands m (gap - since) (0 + (run - 0)))) (omega (arith, h.1))
+  skip_told ss run before burden at gap cat site func Called false (p ∷ ps) ek ef h =
+      let f : Frame = record { kind = Called; at = cat; site = site; func = func; before = before; states = after_strand (run - 0) start } in
+      let k = kept_of p.kept ss in
       let under = before - gap in
       ap₂ (λ x w. headed ps (past p.kept ss) p.gap (under - p.gap) (with_kept under p x) w)
-      (skipped run gap counted p.counted s burden cat h.0 h.3.0 ∙ sym (act-fed burden f (after_strand (gap - p.counted) s))) (omega (arith, h.1))
-  skip_told ss run before burden at gap counted cat site func Called true p ps ek ef h = absurd (cc)
-  skip_told ss run before burden at gap counted cat site func Spawned false p ps ek ef h = absurd (cc)
-  skip_told ss run before burden at gap counted cat site func Spawned true p ps ek ef h = absurd (cc)
+      (skipped run gap k.counted k.states burden cat h.3.0 ∙ sym (act-fed burden f (ran gap k))) (omega (arith, h.1))
+  skip_told ss run before burden at gap cat site func Called true os ek ef h = absurd (cc)
+  skip_told ss run before burden at gap cat site func Spawned false os ek ef h = absurd (cc)
+  skip_told ss run before burden at gap cat site func Spawned true os ek ef h = absurd (cc)
 
 -- ---- how large the sums get
 
@@ -130,110 +145,106 @@ pub record Fits (x : States) (run : ℕ) (g : Weights) : Type 0 where
   pub plain : x.plain.spine + run + g.plain < 2 ^ 127
   pub burdened : x.burdened.spine + run + g.burdened < 2 ^ 127
 
-pub feed_fits : (rs : List Unmatched) (m : Segs) (since : ℕ) (ss : List States) (run before : ℕ) (q : Option (ℕ × EventFault)) (burden : ℕ) (c p : Open) (os ps : List Open) (x : States) (g : Weights)
+pub feed_fits : (rs : List Unmatched) (m : Segs) (since : ℕ) (ss : List Kept) (run before : ℕ) (q : Option (ℕ × EventFault)) (burden : ℕ) (c p : Open) (os ps : List Open) (x : Kept) (g : Weights)
     → os ≡ p ∷ ps → open_load (told rs m since (c ∷ os) ss run before q) + burden < 2 ^ 127
-    → x ≡ kept_of p.kept (past c.kept ss) → g ≡ weights_of (after_strand (run - c.counted) (kept_of c.kept ss)) → Fits x (c.gap - p.counted) g
+    → x ≡ kept_of p.kept (past c.kept ss) → g ≡ weights_of (ran run (kept_of c.kept ss)) → Fits x.states (c.gap - x.counted) g
 feed_fits rs m since ss run before q burden c p os ps x g e load ex eg =
-    let s = kept_of p.kept (past c.kept ss) in
-    let gone = c.gap - p.counted in
+    let k = kept_of p.kept (past c.kept ss) in
+    let s = k.states in
+    let gone = c.gap - k.counted in
+    let w = weights_of (ran run (kept_of c.kept ss)) in
     let l : open_load (told rs m since (c ∷ p ∷ ps) ss run before q) + burden < 2 ^ 127 = subst (λ os. open_load (told rs m since (c ∷ os) ss run before q) + burden < 2 ^ 127) e load in
     let a = le_greatest (s.plain.spine + gone) s.plain.child in
     let b = le_greatest (s.burdened.spine + gone) s.burdened.child in
-    let f : Fits s gone (weights_of (after_strand (run - c.counted) (kept_of c.kept ss))) = record { plain = omega arith; burdened = omega arith } in
-    subst (λ g. Fits x gone g) (sym eg) (subst (λ x. Fits x gone (weights_of (after_strand (run - c.counted) (kept_of c.kept ss)))) (sym ex) f)
+    let f : Fits s gone w = record { plain = omega arith; burdened = omega arith } in
+    subst (λ g. Fits x.states (c.gap - x.counted) g) (sym eg) (subst (λ (x : Kept). Fits x.states (c.gap - x.counted) w) (sym ex) f)
 
-pub settle_fits : (rs : List Unmatched) (m : Segs) (since : ℕ) (ss : List States) (run before : ℕ) (q : Option (ℕ × EventFault)) (more : ℕ) (p : Open) (os ps : List Open) (x : States)
-    → os ≡ p ∷ ps → open_load (told rs m since os ss run before q) + more < 2 ^ 127 → x ≡ kept_of p.kept ss → Fits x (run - p.counted) (record { plain = 0; burdened = 0 })
+pub settle_fits : (rs : List Unmatched) (m : Segs) (since : ℕ) (ss : List Kept) (run before : ℕ) (q : Option (ℕ × EventFault)) (more : ℕ) (p : Open) (os ps : List Open) (x : Kept)
+    → os ≡ p ∷ ps → open_load (told rs m since os ss run before q) + more < 2 ^ 127 → x ≡ kept_of p.kept ss → Fits x.states (run - x.counted) (record { plain = 0; burdened = 0 })
 settle_fits rs m since ss run before q more p os ps x e load ex =
-    let s = kept_of p.kept ss in
-    let gone = run - p.counted in
+    let k = kept_of p.kept ss in
+    let s = k.states in
+    let gone = run - k.counted in
     let l : open_load (told rs m since (p ∷ ps) ss run before q) + more < 2 ^ 127 = subst (λ os. open_load (told rs m since os ss run before q) + more < 2 ^ 127) e load in
     let a = le_greatest (s.plain.spine + gone) s.plain.child in
     let b = le_greatest (s.burdened.spine + gone) s.burdened.child in
     let f : Fits s gone (record { plain = 0; burdened = 0 }) = record { plain = omega arith; burdened = omega arith } in
-    subst (λ x. Fits x gone (record { plain = 0; burdened = 0 })) (sym ex) f
+    subst (λ (x : Kept). Fits x.states (run - x.counted) (record { plain = 0; burdened = 0 })) (sym ex) f
 
 -- ---- the order stays
 
-pub laid_kept : (run before since : ℕ) (ss : List States) (p : Open) (ps : List Open) (x : States) → AreLaid run before (p ∷ ps) ss since → AreLaid run before (record p { counted = run; kept = true } ∷ ps) (x ∷ past p.kept ss) since
+pub laid_kept : (run before since : ℕ) (ss : List Kept) (p : Open) (ps : List Open) (x : States) → AreLaid run before (p ∷ ps) ss since → AreLaid run before (record p { kept = true } ∷ ps) (as_kept x run ∷ past p.kept ss) since
 laid_kept run before since ss p ps x h = (omega arith, h.1, tt, h.3)
 
-pub laid_later : (run more before since : ℕ) (ss : List States) (os : List Open) → run ≤ more → AreLaid run before os ss since → AreLaid more before os ss since
+pub laid_later : (run more before since : ℕ) (ss : List Kept) (os : List Open) → run ≤ more → AreLaid run before os ss since → AreLaid more before os ss since
 laid_later run more before since ss [] le h = (omega (arith, h.0), h.1, h.2)
 laid_later run more before since ss (o ∷ os) le h = (omega (arith, h.0), h.1, h.2, h.3)
 
 -- where a frame that is open no longer ran
-pub laid_under : (run before since : ℕ) (ss : List States) (c : Open) (os : List Open) → AreLaid run before (c ∷ os) ss since → AreLaid (run + c.gap) (before - c.gap) os (past c.kept ss) since
+pub laid_under : (run before since : ℕ) (ss : List Kept) (c : Open) (os : List Open) → AreLaid run before (c ∷ os) ss since → AreLaid (run + c.gap) (before - c.gap) os (past c.kept ss) since
 laid_under run before since ss c os h = laid_later c.gap (run + c.gap) (before - c.gap) since (past c.kept ss) os (omega arith) h.3
 
-pub laid_skipped : (run before since : ℕ) (ss : List States) (c p : Open) (ps : List Open) → c.kept ≡ false → AreLaid run before (c ∷ p ∷ ps) ss since → AreLaid (run + c.gap) (before - c.gap) (record p { counted = p.counted + c.counted } ∷ ps) ss since
-laid_skipped run before since ss c p ps e h =
-    let g : AreLaid c.gap (before - c.gap) (p ∷ ps) ss since = subst (λ k. AreLaid c.gap (before - c.gap) (p ∷ ps) (past k ss) since) e h.3 in
-    (omega (arith, g.0, h.0), g.1, g.2, g.3)
+pub laid_skipped : (run before since : ℕ) (ss : List Kept) (c : Open) (os : List Open) → c.kept ≡ false → AreLaid run before (c ∷ os) ss since → AreLaid (run + c.gap) (before - c.gap) os ss since
+laid_skipped run before since ss c os e h =
+    subst (λ k. AreLaid (run + c.gap) (before - c.gap) os (past k ss) since) e (laid_under run before since ss c os h)
 
 -- ---- the lists as they lie, the innermost last
 
-some_kept : (k : Bool) (ts : List States) → k ≡ true → HasKept k (reverse ts) → 0 < length ts
+some_kept : (k : Bool) (ts : List Kept) → k ≡ true → HasKept k (reverse ts) → 0 < length ts
 some_kept true [] e h = absurd h
 some_kept false [] e h = absurd (cc)
 some_kept k (t ∷ ts) e h = omega arith
 
-pub top_kept : (run before since : ℕ) (xs : List Open) (ts : List States) (p : Open) (ps : List Open) → reverse xs ≡ p ∷ ps → p.kept ≡ true → AreLaid run before (reverse xs) (reverse ts) since → 0 < length ts
+pub top_kept : (run before since : ℕ) (xs : List Open) (ts : List Kept) (p : Open) (ps : List Open) → reverse xs ≡ p ∷ ps → p.kept ≡ true → AreLaid run before (reverse xs) (reverse ts) since → 0 < length ts
 top_kept run before since xs ts p ps e k h =
     let g : AreLaid run before (p ∷ ps) (reverse ts) since = subst (λ os. AreLaid run before os (reverse ts) since) e h in
     some_kept p.kept ts k g.2
 
+-- no more of it is counted than has run
+pub top_counted : (run before since : ℕ) (os ps : List Open) (p : Open) (ss : List Kept) (k : Kept) → os ≡ p ∷ ps → k ≡ kept_of p.kept ss → AreLaid run before os ss since → k.counted ≤ run
+top_counted run before since os ps p ss k e is h =
+    let g : AreLaid run before (p ∷ ps) ss since = subst (λ os. AreLaid run before os ss since) e h in
+    omega (arith, g.0, ap (λ (k : Kept). k.counted) is)
+
 -- no more of the outermost frame's strand is done than there is
-pub laid_since : (run before since : ℕ) (os : List Open) (ss : List States) → AreLaid run before os ss since → since ≤ outside run os
+pub laid_since : (run before since : ℕ) (os : List Open) (ss : List Kept) → AreLaid run before os ss since → since ≤ outside run os
 laid_since run before since [] ss h = h.0
 laid_since run before since (o ∷ os) ss h = laid_since o.gap (before - o.gap) since os (past o.kept ss) h.3
 
-pub outside_within : (run before since : ℕ) (os : List Open) (ss : List States) → AreLaid run before os ss since → outside run os ≤ before + run
+pub outside_within : (run before since : ℕ) (os : List Open) (ss : List Kept) → AreLaid run before os ss since → outside run os ≤ before + run
 outside_within run before since [] ss h = omega arith
 outside_within run before since (o ∷ os) ss h = omega (arith, h.1, outside_within o.gap (before - o.gap) since os (past o.kept ss) h.3)
 
-pub laid_from : (run before since : ℕ) (os : List Open) (ss : List States) → AreLaid run before os ss since → AreLaid run before os ss 0
+pub laid_from : (run before since : ℕ) (os : List Open) (ss : List Kept) → AreLaid run before os ss since → AreLaid run before os ss 0
 laid_from run before since [] ss h = (omega arith, h.1, h.2)
 laid_from run before since (o ∷ os) ss h = (h.0, h.1, h.2, laid_from o.gap (before - o.gap) since os (past o.kept ss) h.3)
 
-module _ (rs : List Unmatched) (m : Segs) (since : ℕ) (q : Option (ℕ × EventFault)) (run before : ℕ) (xs zs : List Open) (ts us : List States) (p : Open) (s x : States) where
+module _ (rs : List Unmatched) (m : Segs) (since : ℕ) (q : Option (ℕ × EventFault)) (run before : ℕ) (xs zs : List Open) (ts us : List Kept) (p : Open) (s x : Kept) where
   pub record Now (n b : ℕ) (t : Sum) : Type 0 where
     pub value : told rs m since (reverse zs) (reverse us) n b q ≡ t
     pub laid : AreLaid n b (reverse zs) (reverse us) since
 
-  pub skip_ends : (burden : Burdens) (at : ℕ) (c : Open) → c.kind ≡ Called → c.kept ≡ false → us ≡ ts → Ends xs zs p (record p { counted = p.counted + c.counted })
-      → AreLaid run before (c ∷ reverse xs) (reverse ts) since
-      → Now (run + c.gap) (before - c.gap) (ret_by (frames_of run before (c ∷ reverse xs) (reverse ts)) burden at (told rs m since (c ∷ reverse xs) (reverse ts) run before q))
-  skip_ends burden at c called plain same o h =
-      let ks = reverse ts in
-      let g : AreLaid run before (c ∷ p ∷ o.below) ks since = subst (λ os. AreLaid run before (c ∷ os) ks since) o.old h in
-      record {
-        value = ap₂ (λ os us. told rs m since os (reverse us) (run + c.gap) (before - c.gap) q) o.new same
-            ∙ skip_told rs m since q ks run before burden at c.gap c.counted c.at c.site c.func c.kind c.kept p o.below called plain g
-            ∙ sym (ap (λ os. ret_by (frames_of run before (c ∷ os) ks) burden at (told rs m since (c ∷ os) ks run before q)) o.old);
-        laid = subst (λ us. AreLaid (run + c.gap) (before - c.gap) (reverse zs) (reverse us) since) (sym same) (subst (λ os. AreLaid (run + c.gap) (before - c.gap) os ks since) (sym o.new) (laid_skipped run before since ks c p o.below plain g));
-      }
-
-  pub sync_ends : Ends xs zs p (record p { counted = run }) → Ends ts us s x → p.kept ≡ true → x ≡ after_sync (after_strand (run - p.counted) s) → AreLaid run before (reverse xs) (reverse ts) since
+  pub sync_ends : Ends xs zs p p → Ends ts us s x → p.kept ≡ true → x ≡ as_kept (after_sync (ran run s)) run → AreLaid run before (reverse xs) (reverse ts) since
       → Now run before (along_by (frames_of run before (reverse xs) (reverse ts)) sync (told rs m since (reverse xs) (reverse ts) run before q))
   sync_ends o t e ex h =
       let b = t.below in
       let ss = s ∷ b in
       let kept : s ≡ kept_of p.kept ss = sym (ap (λ k. kept_of k ss) e) in
       let rest : b ≡ past p.kept ss = sym (ap (λ k. past k ss) e) in
-      let top = ap (λ k. let y : Open = record p { counted = run; kept = k } in y) e in
-      let states : reverse us ≡ after_sync (after_strand (run - p.counted) (kept_of p.kept ss)) ∷ past p.kept ss = t.new ∙ ap₂ (λ y ys. y ∷ ys) (ex ∙ ap (λ s. after_sync (after_strand (run - p.counted) s)) kept) rest in
-      let opens : reverse zs ≡ record p { counted = run; kept = true } ∷ o.below = o.new ∙ ap (λ y. y ∷ o.below) top in
+      let top = ap (λ k. let y : Open = record p { kept = k } in y) e in
+      let now = after_sync (ran run (kept_of p.kept ss)) in
+      let states : reverse us ≡ as_kept now run ∷ past p.kept ss = t.new ∙ ap₂ (λ y ys. y ∷ ys) (ex ∙ ap (λ k. as_kept (after_sync (ran run k)) run) kept) rest in
+      let opens : reverse zs ≡ record p { kept = true } ∷ o.below = o.new ∙ ap (λ y. y ∷ o.below) top in
       let g : AreLaid run before (p ∷ o.below) ss since = subst (λ os. AreLaid run before os ss since) o.old (subst (λ ss. AreLaid run before (reverse xs) ss since) t.old h) in
       record {
         value = ap₂ (λ os ss. told rs m since os ss run before q) opens states ∙ sync_told rs m since q ss run before p o.below
             ∙ sym (ap₂ (λ os ss. along_by (frames_of run before os ss) sync (told rs m since os ss run before q)) o.old t.old);
-        laid = subst (λ os. AreLaid run before os (reverse us) since) (sym opens) (subst (λ ss. AreLaid run before (record p { counted = run; kept = true } ∷ o.below) ss since) (sym states) (laid_kept run before since ss p o.below (after_sync (after_strand (run - p.counted) (kept_of p.kept ss))) g));
+        laid = subst (λ os. AreLaid run before os (reverse us) since) (sym opens) (subst (λ ss. AreLaid run before (record p { kept = true } ∷ o.below) ss since) (sym states) (laid_kept run before since ss p o.below now g));
       }
 
-  pub feed_ends : (ss : List States) (burden : Burdens) (at : ℕ) (c y : Open) → Ends xs zs p y → y ≡ record p { counted = run + c.gap; kept = true } → Ends ts us s x
+  pub feed_ends : (ss : List Kept) (burden : Burdens) (at : ℕ) (c y : Open) → Ends xs zs p y → y ≡ record p { kept = true } → Ends ts us s x
       → reverse ts ≡ kept_of p.kept (past c.kept ss) ∷ past p.kept (past c.kept ss)
-      → x ≡ after_return burden (frame_of run before c (kept_of c.kept ss)) (after_strand (c.gap - p.counted) s) → AreLaid run before (c ∷ reverse xs) ss since
+      → x ≡ as_kept (after_return burden (frame_of run before c (kept_of c.kept ss)) (ran c.gap s)) (run + c.gap) → AreLaid run before (c ∷ reverse xs) ss since
       → Now (run + c.gap) (before - c.gap) (ret_by (frames_of run before (c ∷ reverse xs) ss) burden at (told rs m since (c ∷ reverse xs) ss run before q))
   feed_ends ss burden at c y o ey t et ex h =
       let k = past c.kept ss in
@@ -241,32 +252,33 @@ module _ (rs : List Unmatched) (m : Segs) (since : ℕ) (q : Option (ℕ × Even
       let both : s ∷ t.below ≡ kept_of p.kept k ∷ past p.kept k = sym t.old ∙ et in
       let kept : s ≡ kept_of p.kept k = cc in
       let rest : t.below ≡ past p.kept k = cc in
-      let done : x ≡ after_return burden f (after_strand (c.gap - p.counted) (kept_of p.kept k)) = ex ∙ ap (λ s. after_return burden f (after_strand (c.gap - p.counted) s)) kept in
-      let states : reverse us ≡ x ∷ past p.kept k = t.new ∙ ap (λ ys. x ∷ ys) rest in
-      let top : Open = record p { counted = run + c.gap; kept = true } in
+      let now = after_return burden f (ran c.gap (kept_of p.kept k)) in
+      let done : x ≡ as_kept now (run + c.gap) = ex ∙ ap (λ s. as_kept (after_return burden f (ran c.gap s)) (run + c.gap)) kept in
+      let states : reverse us ≡ as_kept now (run + c.gap) ∷ past p.kept k = t.new ∙ ap₂ (λ y ys. y ∷ ys) done rest in
+      let top : Open = record p { kept = true } in
       let opens : reverse zs ≡ top ∷ o.below = o.new ∙ ap (λ y. y ∷ o.below) ey in
       let g : AreLaid run before (c ∷ p ∷ o.below) ss since = subst (λ os. AreLaid run before (c ∷ os) ss since) o.old h in
       record {
-        value = ap₂ (λ os ss. told rs m since os ss (run + c.gap) (before - c.gap) q) opens states ∙ feed_told rs m since q ss run before burden at c p o.below x g done
+        value = ap₂ (λ os ss. told rs m since os ss (run + c.gap) (before - c.gap) q) opens states ∙ feed_told rs m since q ss run before burden at c p o.below now g refl
             ∙ sym (ap (λ os. ret_by (frames_of run before (c ∷ os) ss) burden at (told rs m since (c ∷ os) ss run before q)) o.old);
-        laid = subst (λ os. AreLaid (run + c.gap) (before - c.gap) os (reverse us) since) (sym opens) (subst (λ ss. AreLaid (run + c.gap) (before - c.gap) (top ∷ o.below) ss since) (sym states) (laid_kept (run + c.gap) (before - c.gap) since k p o.below x (laid_under run before since ss c (p ∷ o.below) g)));
+        laid = subst (λ os. AreLaid (run + c.gap) (before - c.gap) os (reverse us) since) (sym opens) (subst (λ ss. AreLaid (run + c.gap) (before - c.gap) (top ∷ o.below) ss since) (sym states) (laid_kept (run + c.gap) (before - c.gap) since k p o.below now (laid_under run before since ss c (p ∷ o.below) g)));
       }
 
-  pub settle_ends : (k : List States) (g : Segs) (next : ℕ) (y : Open) → Ends xs zs p y → y ≡ record p { counted = next; kept = true } → Ends ts us s x
-      → reverse ts ≡ kept_of p.kept k ∷ past p.kept k → x ≡ act g (after_strand (run - p.counted) s) → AreLaid run before (reverse xs) k since
+  pub settle_ends : (k : List Kept) (g : Segs) (next : ℕ) (y : Open) → Ends xs zs p y → y ≡ record p { kept = true } → Ends ts us s x
+      → reverse ts ≡ kept_of p.kept k ∷ past p.kept k → x ≡ as_kept (act g (ran run s)) next → AreLaid run before (reverse xs) k since
       → Now next before (with_work (before + next) (along_by (frames_of run before (reverse xs) k) g (told rs m since (reverse xs) k run before q)))
   settle_ends k g next y o ey t et ex h =
       let both : s ∷ t.below ≡ kept_of p.kept k ∷ past p.kept k = sym t.old ∙ et in
       let kept : s ≡ kept_of p.kept k = cc in
       let rest : t.below ≡ past p.kept k = cc in
-      let done : x ≡ act g (after_strand (run - p.counted) (kept_of p.kept k)) = ex ∙ ap (λ s. act g (after_strand (run - p.counted) s)) kept in
-      let states : reverse us ≡ x ∷ past p.kept k = t.new ∙ ap (λ ys. x ∷ ys) rest in
-      let top : Open = record p { counted = next; kept = true } in
+      let now = act g (ran run (kept_of p.kept k)) in
+      let done : x ≡ as_kept now next = ex ∙ ap (λ s. as_kept (act g (ran run s)) next) kept in
+      let states : reverse us ≡ as_kept now next ∷ past p.kept k = t.new ∙ ap₂ (λ y ys. y ∷ ys) done rest in
+      let top : Open = record p { kept = true } in
       let opens : reverse zs ≡ top ∷ o.below = o.new ∙ ap (λ y. y ∷ o.below) ey in
       let l : AreLaid run before (p ∷ o.below) k since = subst (λ os. AreLaid run before os k since) o.old h in
       record {
-        value = ap₂ (λ os ss. told rs m since os ss next before q) opens states ∙ kept_told rs m since q k next before p o.below x
-            ∙ ap (λ x. headed rs m since q o.below (past p.kept k) p.gap (before - p.gap) (with_kept before p x) (before + next)) done
+        value = ap₂ (λ os ss. told rs m since os ss next before q) opens states ∙ kept_told rs m since q k next before p o.below now
             ∙ sym (ap (λ os. with_work (before + next) (along_by (frames_of run before os k) g (told rs m since os k run before q))) o.old);
         laid = subst (λ os. AreLaid next before os (reverse us) since) (sym opens) (subst (λ ss. AreLaid next before (top ∷ o.below) ss since) (sym states) (omega arith, l.1, tt, l.3));
       }

@@ -2,7 +2,7 @@
 use Rattle.std.specs.Prelude.{◌≡◌, ℕ, ◌+◌, ◌-◌, ◌≤◌, ◌<◌, ◌^◌, min, take, reverse, List, [], ◌∷◌, length}
 use Rattle.std.specs.VecDeque.{deque_len, deque_capacity}
 use Rattle.spp_piece.specs.declared.opens.Open.{Open}
-use Rattle.spp_piece.specs.declared.pieces.States.{States}
+use Rattle.spp_piece.specs.declared.opens.Kept.{Kept}
 use Rattle.spp_piece.specs.Bound.{load_frames}
 use Rattle.spp_maxplus.specs.declared.state.Burdens.{Burdens}
 use Rattle.spp_piece.specs.Summary.{Sum, summary_ops, play_returns}
@@ -56,7 +56,7 @@ pub record HasRoom (p q : Pile) : Type 0 where
   pub right_states : left_of p q < deque_len q.opens → min (deque_len p.states + 1) (left_of p q) + deque_len q.states ≤ deque_capacity q.states
 
 -- what is left to read of the frames: so many of them, and so many kept states
-pub record AreRead (run before left : ℕ) (opens : List Open) (kept : ℕ) (states : List States) : Type 0 where
+pub record AreRead (run before left : ℕ) (opens : List Open) (kept : ℕ) (states : List Kept) : Type 0 where
   pub laid : AreLaid run before (reverse (take left opens)) (reverse (take kept states)) 0
   pub load : load_frames (frames_of run before (reverse (take left opens)) (reverse (take kept states))) < 2 ^ 127
   pub left_fits : left ≤ length opens

@@ -13,7 +13,7 @@ use Rattle.spp_piece.specs.Pair.{idle, then, strand}
 abbrev pub return_of : Segs → ℕ → Unmatched
 return_of segs at = record { segs = segs; at = at }
 
--- the returns, of which those that aren't after a strand alone have what happened before them in the list
+-- the returns, of which those that are kept in full have what happened before them in the list
 abbrev pub returns_of : List Close → List Segs → List Unmatched
 returns_of [] gs = []
 returns_of (Strand run at ∷ cs) gs = return_of (strand run) at ∷ returns_of cs gs
@@ -26,15 +26,14 @@ kept_count [] = 0
 kept_count (Strand run at ∷ cs) = kept_count cs
 kept_count (Kept at ∷ cs) = kept_count cs + 1
 
--- The returns; before how many of them more than a strand happened; and for how many returns, and for how many of those,
--- there is room.
+-- The returns; how many of them are kept in full; and for how many returns, and for how many of those, there is room.
 pub record Returned : Type 0 where
   pub items : List Unmatched
   pub kept : ℕ
   pub room : ℕ
   pub kept_room : ℕ
 
--- those that are left to read, and before how many of them more than a strand happened
+-- those that are left to read, and how many of them are kept in full
 pub record Left : Type 0 where
   pub items : List Unmatched
   pub kept : ℕ

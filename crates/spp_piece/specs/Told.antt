@@ -4,6 +4,7 @@ use Rattle.spp_event.specs.declared.records.EventFault.{EventFault}
 use Rattle.spp_maxplus.specs.State.{close}
 use Rattle.spp_piece.specs.declared.changes.Weights.{Weights}
 use Rattle.spp_piece.specs.declared.opens.Open.{Open}
+use Rattle.spp_piece.specs.declared.opens.Kept.{Kept}
 use Rattle.spp_piece.specs.declared.pieces.Segs.{Segs}
 use Rattle.spp_piece.specs.declared.pieces.States.{States}
 use Rattle.spp_piece.specs.declared.pieces.Frame.{Frame}
@@ -11,22 +12,30 @@ use Rattle.spp_piece.specs.declared.pieces.Unmatched.{Unmatched}
 use Rattle.spp_piece.specs.Pair.{start, after_strand, then, strand}
 use Rattle.spp_piece.specs.Summary.{Sum}
 
--- the states of a frame, which are the first of the list where they are kept
-abbrev pub kept_of : Bool → List States → States
-kept_of false ss = start
-kept_of true [] = start
-kept_of true (s ∷ ss) = s
+-- a frame that was just opened
+abbrev pub fresh : Kept
+fresh = record { states = start; counted = 0 }
 
--- the kept states of the others
-abbrev pub past : Bool → List States → List States
-past false ss = ss
+-- what is kept of a frame, the first of the list; where nothing is, all that ran since its opening is one strand
+abbrev pub kept_of : Bool → List Kept → Kept
+kept_of false ks = fresh
+kept_of true [] = fresh
+kept_of true (k ∷ ks) = k
+
+-- what is kept of the others
+abbrev pub past : Bool → List Kept → List Kept
+past false ks = ks
 past true [] = []
-past true (s ∷ ss) = ss
+past true (k ∷ ks) = ks
 
-abbrev pub HasKept : Bool → List States → Type 0
-HasKept false ss = Unit {0}
+abbrev pub HasKept : Bool → List Kept → Type 0
+HasKept false ks = Unit {0}
 HasKept true [] = ⊥
-HasKept true (s ∷ ss) = Unit {0}
+HasKept true (k ∷ ks) = Unit {0}
+
+-- the states of a frame, where that work has run since it was opened
+abbrev pub ran : ℕ → Kept → States
+ran run k = after_strand (run - k.counted) k.states
 
 -- the frame with these states, before which there is that work
 abbrev pub with_kept : ℕ → Open → States → Frame
@@ -34,35 +43,36 @@ with_kept before o s =
     record { kind = o.kind; at = o.at; site = o.site; func = o.func; before = before; states = s }
 
 -- the frame, where that work has run since it was opened
-abbrev pub frame_of : ℕ → ℕ → Open → States → Frame
-frame_of run before o s = with_kept before o (after_strand (run - o.counted) s)
+abbrev pub frame_of : ℕ → ℕ → Open → Kept → Frame
+frame_of run before o k = with_kept before o (ran run k)
 
 -- the frames: work has run since the innermost was opened, and there is work before that
-abbrev pub frames_of : ℕ → ℕ → List Open → List States → List Frame
-frames_of run before [] ss = []
-frames_of run before (o ∷ os) ss =
-    frame_of run before o (kept_of o.kept ss) ∷ frames_of o.gap (before - o.gap) os (past o.kept ss)
+abbrev pub frames_of : ℕ → ℕ → List Open → List Kept → List Frame
+frames_of run before [] ks = []
+frames_of run before (o ∷ os) ks =
+    frame_of run before o (kept_of o.kept ks) ∷ frames_of o.gap (before - o.gap) os (past o.kept ks)
 
 -- the work before the outermost frame was opened, or that in all
 abbrev pub outside : ℕ → List Open → ℕ
 outside run [] = run
 outside run (o ∷ os) = outside o.gap os
 
-abbrev pub told : List Unmatched → Segs → ℕ → List Open → List States → ℕ → ℕ → Option (ℕ × EventFault) → Sum
-told rs m since os ss run before fault =
+abbrev pub told : List Unmatched → Segs → ℕ → List Open → List Kept → ℕ → ℕ → Option (ℕ × EventFault) → Sum
+told rs m since os ks run before fault =
     record {
       returns = rs;
       middle = then m (strand (outside run os - since));
-      frames = frames_of run before os ss;
+      frames = frames_of run before os ks;
       work = before + run;
       fault = fault;
     }
 
--- no more is counted than has run, the gaps are the work before, and the kept states are those of the frames that have such
-abbrev pub AreLaid : ℕ → ℕ → List Open → List States → ℕ → Type 0
-AreLaid run before [] ss since = (since ≤ run) × (before ≡ 0) × (ss ≡ [])
-AreLaid run before (o ∷ os) ss since =
-    (o.counted ≤ run) × (o.gap ≤ before) × HasKept o.kept ss × AreLaid o.gap (before - o.gap) os (past o.kept ss) since
+-- no more is counted than has run, the gaps are the work before, and the kept states are those of the frames that have
+-- such
+abbrev pub AreLaid : ℕ → ℕ → List Open → List Kept → ℕ → Type 0
+AreLaid run before [] ks since = (since ≤ run) × (before ≡ 0) × (ks ≡ [])
+AreLaid run before (o ∷ os) ks since =
+    ((kept_of o.kept ks).counted ≤ run) × (o.gap ≤ before) × HasKept o.kept ks × AreLaid o.gap (before - o.gap) os (past o.kept ks) since
 
 -- the weights with which a frame closes
 abbrev pub weights_of : States → Weights

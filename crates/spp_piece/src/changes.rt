@@ -131,9 +131,9 @@ impl Segs {
         self.burdened.add += weights.burdened;
     }
 
-    /// Its instructions where it does just what a strand of them does.
+    /// Its instructions where it does just what a strand of them does, and they fit into 64 bits.
     #[inline(always)]
-    pub(crate) fn as_strand(&self) -> Option<u128>
+    pub(crate) fn as_strand(&self) -> Option<u64>
         ensures { IfSome result (λ n. self.now ≡ both_strand n) }
     {
         if self.plain.head.is_some() || self.plain.offer.is_some() {
@@ -145,7 +145,7 @@ impl Segs {
         if self.plain.add != self.burdened.add {
             return None;
         }
-        Some(self.plain.add)
+        u64::try_from(self.plain.add).ok()
     }
 
     /// A sync.

@@ -81,8 +81,9 @@ impl Course {
     {
         match next {
             Return::Strand { run, .. } => {
-                self.added.plain += *run;
-                self.added.burdened += *run;
+                let run = u128::from(*run);
+                self.added.plain += run;
+                self.added.burdened += run;
             }
             Return::Kept { segs, .. } => {
                 self.first = Some(self.segs().then(**segs));
@@ -91,19 +92,17 @@ impl Course {
         }
     }
 
-    /// A called frame that just opened, and has run for so long, closes after these events; then they are what that does
-    /// to the frame below. None of it is done where they do more than add to weights.
+    /// A called frame that just opened, and has run for so long, closes after these events; then they are what that
+    /// does to the frame below. None of it is done where they do more than add to weights.
     #[inline(always)]
     pub(crate) fn pass(&mut self, run: u128, child: &Open) -> bool
-        requires counted { child.now.counted ≤ run }
-        requires load { run - child.now.counted + cost self.old < 2 ^ 127 }
-        ensures done { result ≡ true → (child.now.kept ≡ false) × ((burden : BurdensValue) (before : ℕ) → self.new ≡ fed_to burden (with_kept before child.now (act self.old (after_strand (run - child.now.counted) start)))) }
+        requires { child.now.kept ≡ false → run + cost self.old < 2 ^ 127 }
+        ensures done { result ≡ true → (child.now.kept ≡ false) × ((burden : BurdensValue) (before : ℕ) → self.new ≡ fed_to burden (with_kept before child.now (act self.old (after_strand run start)))) }
         ensures not { result ≡ false → self.new ≡ self.old }
     {
         if child.kept || child.kind == Kind::Spawned || self.first.is_some() {
             return false;
         }
-        let run = run - child.counted;
         self.added.plain += run;
         self.added.burdened += run;
         true

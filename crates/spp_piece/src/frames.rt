@@ -4,8 +4,8 @@ ghost use Rattle.spp_piece.specs.Bound.{load_frames};
 ghost use Rattle.spp_piece.specs.Pile.{seen, IsLaid};
 ghost use Rattle.spp_piece.specs.Told.{kept_of, past};
 
-use crate::opens::Open;
-use crate::pieces::{Frame, States};
+use crate::opens::{Kept, Open};
+use crate::pieces::Frame;
 use crate::pile::Pile;
 use std::collections::VecDeque;
 use std::marker::Model;
@@ -15,7 +15,7 @@ use std::marker::Model;
 #[derive(Drop)]
 pub struct FrameReader<'a> {
     opens: &'a VecDeque<Open>,
-    states: &'a VecDeque<States>,
+    states: &'a VecDeque<Kept>,
     /// How many of the frames are left, the outermost ones.
     left: usize,
     /// How many of the kept states.
@@ -64,11 +64,10 @@ impl<'a> FrameReader<'a> {
             return None;
         }
         let open = self.opens[self.left - 1];
-        let (mut states, kept) = last_kept(self.states, self.kept, open.kept);
-        states.run(self.run - open.counted);
-        let frame = open.frame(self.before, states);
+        let (kept, others) = last_kept(self.states, self.kept, open.kept);
+        let frame = open.frame(self.before, kept.ran(self.run));
         self.left -= 1;
-        self.kept = kept;
+        self.kept = others;
         self.run = open.gap;
         self.before -= open.gap;
         Some(frame)
@@ -76,14 +75,14 @@ impl<'a> FrameReader<'a> {
 }
 
 /// The states of a frame, which are the last of so many where they are kept, and how many are left before them.
-fn last_kept(states: &VecDeque<States>, left: usize, kept: bool) -> (States, usize)
+fn last_kept(states: &VecDeque<Kept>, left: usize, kept: bool) -> (Kept, usize)
     requires { left ≤ length states.now.items }
     ensures value { result.0 ≡ kept_of kept (reverse (take left states.now.items)) }
     ensures rest { reverse (take result.1 states.now.items) ≡ past kept (reverse (take left states.now.items)) }
     ensures fits { result.1 ≤ left }
 {
     if !kept || left == 0 {
-        return (States::start(), left);
+        return (Kept::fresh(), left);
     }
     (states[left - 1], left - 1)
 }

@@ -10,6 +10,7 @@ mod pieces;
 mod pile;
 mod reading;
 mod returns;
+mod spare;
 mod summary;
 mod whole;
 

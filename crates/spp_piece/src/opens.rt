@@ -1,23 +1,20 @@
 //! Open frames as they are kept.
 ghost use Rattle.std.specs.Prelude.{◌≡◌, ◌+◌, ◌-◌, ◌<◌, ◌≤◌, ◌^◌, ℕ, true, ◌∷◌, reverse, OnOk};
 ghost use Rattle.spp_piece.specs.Bound.{height};
-ghost use Rattle.spp_piece.specs.Pair.{after_strand};
-ghost use Rattle.spp_piece.specs.Told.{with_kept, kept_of, past, HasKept, weights_of};
+ghost use Rattle.spp_piece.specs.Told.{with_kept, fresh, kept_of, past, ran, HasKept, weights_of};
 
 use crate::changes::Weights;
 use crate::pieces::{Frame, Kind, States};
 use std::alloc::AllocError;
 
 /// An open frame, as it is kept: by how far it's from the one around it. Its states are told by those that are kept,
-/// and by what has run since then, up to where the next frame was opened or to the end, as one strand.
+/// or else by those of a frame that was just opened, and by what has run since then, up to where the next frame was
+/// opened or to the end, as one strand.
 #[derive(Clone, Copy)]
 pub(crate) struct Open {
     /// The work from where the frame around it was opened, or from the beginning of the range, to its own opening, in
     /// instructions.
     pub(crate) gap: u128,
-    /// The part of the work since its opening that isn't in that strand: its kept states tell of it, or its span leaves
-    /// it out.
-    pub(crate) counted: u128,
     /// The position of the event that opened it.
     pub(crate) at: u32,
     /// The call site by which it was entered.
@@ -28,6 +25,39 @@ pub(crate) struct Open {
     pub(crate) kind: Kind,
     /// Whether its states are in the list of kept ones. If not they are those of a frame that was just opened.
     pub(crate) kept: bool,
+}
+
+/// The kept states of an open frame.
+#[derive(Clone, Copy)]
+pub(crate) struct Kept {
+    /// The states, once it had run for as long as is counted.
+    pub(crate) states: States,
+    /// The part of the work since its opening that they tell of, or that its span leaves out, in instructions.
+    pub(crate) counted: u128,
+}
+
+impl Kept {
+    /// Those of a frame that was just opened.
+    pub(crate) fn fresh() -> Self
+        ensures { result ≡ fresh }
+    {
+        Kept {
+            states: States::start(),
+            counted: 0,
+        }
+    }
+
+    /// The states where that work has run since the frame was opened.
+    #[inline(always)]
+    pub(crate) fn ran(&self, run: u128) -> States
+        requires counted { self.now.counted ≤ run }
+        requires small { height (ran run self.now) < 2 ^ 127 }
+        ensures { result ≡ ran run self.now }
+    {
+        let mut states = self.states;
+        states.run(run - self.counted);
+        states
+    }
 }
 
 impl Open {
@@ -48,17 +78,17 @@ impl Open {
 
 /// The weights with which a frame closes where that work has run since it was opened; its kept states go.
 #[inline(always)]
-pub(crate) fn leave(states: &mut Vec<States>, child: &Open, run: u128) -> Weights
+pub(crate) fn leave(states: &mut Vec<Kept>, child: &Open, run: u128) -> Weights
     requires has { HasKept child.now.kept (reverse states.old.items) }
-    requires counted { child.now.counted ≤ run }
-    requires small { height (after_strand (run - child.now.counted) (kept_of child.now.kept (reverse states.old.items))) < 2 ^ 127 }
-    ensures weights { result ≡ weights_of (after_strand (run - child.now.counted) (kept_of child.now.kept (reverse states.old.items))) }
+    requires counted { (kept_of child.now.kept (reverse states.old.items)).counted ≤ run }
+    requires small { height (ran run (kept_of child.now.kept (reverse states.old.items))) < 2 ^ 127 }
+    ensures weights { result ≡ weights_of (ran run (kept_of child.now.kept (reverse states.old.items))) }
     ensures states { reverse states.new.items ≡ past child.now.kept (reverse states.old.items) }
 {
-    let run = run - child.counted;
     if child.kept {
         let last = states.len() - 1;
-        let weights = states[last].weights(run);
+        let kept = &states[last];
+        let weights = kept.states.weights(run - kept.counted);
         states.truncate(last);
         weights
     } else {
@@ -71,13 +101,13 @@ pub(crate) fn leave(states: &mut Vec<States>, child: &Open, run: u128) -> Weight
 
 /// From now on the states of the innermost frame are kept.
 #[inline(always)]
-pub(crate) fn keep(states: &mut Vec<States>, top: &mut Open) -> Result<(), AllocError>
+pub(crate) fn keep(states: &mut Vec<Kept>, top: &mut Open) -> Result<(), AllocError>
     requires has { HasKept top.old.kept (reverse states.old.items) }
     ensures states { OnOk result (reverse states.new.items ≡ kept_of top.old.kept (reverse states.old.items) ∷ past top.old.kept (reverse states.old.items)) }
     ensures top { OnOk result (top.new ≡ record top.old { kept = true }) }
 {
     if !top.kept {
-        states.push(States::start())?;
+        states.push(Kept::fresh())?;
         top.kept = true;
     }
     Ok(())

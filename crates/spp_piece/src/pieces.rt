@@ -25,7 +25,7 @@ pub struct States {
 }
 
 /// What events do to both states of a frame.
-#[derive(Clone, Copy, Debug, PartialEq, Eq)]
+#[derive(Clone, Copy, Debug, Default, PartialEq, Eq)]
 pub struct Segs {
     /// Without burdens.
     pub plain: Seg,

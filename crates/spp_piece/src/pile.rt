@@ -2,16 +2,17 @@
 ghost use Rattle.std.specs.Prelude.{◌≡◌, ◌+◌, ◌*◌, ◌<◌, ◌≤◌, ◌^◌, ◌-◌, ℕ, Bool, true, false, List, [], ◌∷◌, ◌++◌, length, reverse, IfOk, OnErr, OnOk, IsOk, Some, None};
 ghost use Rattle.std.specs.VecDeque.{deque_len, deque_capacity};
 ghost use Rattle.spp_piece.specs.Bound.{worst, cost, height, load, load_returns};
-ghost use Rattle.spp_piece.specs.Pair.{act, idle, then as both_then, after_strand, fed as fed_to};
+ghost use Rattle.spp_piece.specs.Pair.{act, idle, then as both_then, fed as fed_to};
 ghost use Rattle.spp_piece.specs.Pile.{seen, seen_with, open_load, with_work, IsLaid};
 ghost use Rattle.spp_piece.specs.Joining.{raised, run_on, before_on, went, left_of, SamePile, HasRoom};
-ghost use Rattle.spp_piece.specs.Told.{kept_of, past, with_kept, HasKept, AreLaid, outside as outside_of};
+ghost use Rattle.spp_piece.specs.Told.{kept_of, past, ran, with_kept, HasKept, AreLaid, outside as outside_of};
 ghost use Rattle.spp_piece.specs.Summary.{along_by, summary_ops, play_returns, joined};
 
 use crate::course::Course;
-use crate::opens::Open;
-use crate::pieces::{Segs, States};
+use crate::opens::{Kept, Open};
+use crate::pieces::Segs;
 use crate::returns::Returns;
+use crate::spare::Spare;
 use spp_event::EventFault;
 use spp_maxplus::Burdens;
 use std::alloc::{AllocError, Global};
@@ -25,7 +26,7 @@ pub(crate) struct Pile {
     /// The open frames, the outermost first.
     pub(crate) opens: VecDeque<Open>,
     /// The states of those frames that have kept ones, in the same order.
-    pub(crate) states: VecDeque<States>,
+    pub(crate) states: VecDeque<Kept>,
     /// What the events after the last unmatched return and up to the work `since` do to the frame that is then the
     /// innermost.
     pub(crate) middle: Segs,
@@ -41,11 +42,12 @@ pub(crate) struct Pile {
 }
 
 /// The list of the one and then that of the other, where the one of the two that takes the other's elements has room
-/// for them.
-fn chained<T: Drop>(left: VecDeque<T>, right: VecDeque<T>, into_left: bool) -> VecDeque<T>
+/// for them; and the other of the two, empty.
+fn chained<T: Drop>(left: VecDeque<T>, right: VecDeque<T>, into_left: bool) -> (VecDeque<T>, Vec<T>)
     requires left { into_left ≡ true → deque_len left + deque_len right ≤ deque_capacity left }
     requires right { into_left ≡ false → deque_len left + deque_len right ≤ deque_capacity right }
-    ensures { result.items ≡ left.items ++ right.items }
+    ensures all { result.0.items ≡ left.items ++ right.items }
+    ensures emptied { result.1.items ≡ [] }
 {
     let mut left = left;
     let mut right = right;
@@ -53,12 +55,12 @@ fn chained<T: Drop>(left: VecDeque<T>, right: VecDeque<T>, into_left: bool) -> V
         while let Some(first) = right.pop_front() {
             left.push_back_reserved(first);
         }
-        left
+        (left, right.into_vec())
     } else {
         while let Some(last) = left.pop_back() {
             right.push_front_reserved(last);
         }
-        right
+        (right, left.into_vec())
     }
 }
 
@@ -74,17 +76,17 @@ fn copied<T: Copy>(alloc: Global, list: &VecDeque<T>) -> Result<VecDeque<T>, All
 }
 
 /// The states of a frame, which are kept no longer.
-fn take_kept(states: &mut VecDeque<States>, kept: bool) -> States
+fn take_kept(states: &mut VecDeque<Kept>, kept: bool) -> Kept
     ensures value { result ≡ kept_of kept (reverse states.old.items) }
     ensures states { reverse states.new.items ≡ past kept (reverse states.old.items) }
     ensures capacity { deque_capacity states.new ≡ deque_capacity states.old }
     ensures len { deque_len states.new ≤ deque_len states.old }
 {
     if !kept {
-        return States::start();
+        return Kept::fresh();
     }
     match states.pop_back() {
-        None => States::start(),
+        None => Kept::fresh(),
         Some(last) => last,
     }
 }
@@ -92,16 +94,10 @@ fn take_kept(states: &mut VecDeque<States>, kept: bool) -> States
 /// What the return of a frame does to the one below, in the place of what is still to be done to the frame, where that
 /// work has run since it was opened.
 #[inline(always)]
-fn feed(
-    states: &mut VecDeque<States>,
-    child: &Open,
-    run: u128,
-    burden: Burdens,
-    pending: &mut Course,
-)
-    requires counted { child.now.counted ≤ run }
-    requires load { height (after_strand (run - child.now.counted) (kept_of child.now.kept (reverse states.old.items))) + cost pending.old + worst burden < 2 ^ 127 }
-    ensures value { (before : ℕ) → pending.new ≡ fed_to burden (with_kept before child.now (act pending.old (after_strand (run - child.now.counted) (kept_of child.now.kept (reverse states.old.items))))) }
+fn feed(states: &mut VecDeque<Kept>, child: &Open, run: u128, burden: Burdens, pending: &mut Course)
+    requires counted { (kept_of child.now.kept (reverse states.old.items)).counted ≤ run }
+    requires load { height (ran run (kept_of child.now.kept (reverse states.old.items))) + cost pending.old + worst burden < 2 ^ 127 }
+    ensures value { (before : ℕ) → pending.new ≡ fed_to burden (with_kept before child.now (act pending.old (ran run (kept_of child.now.kept (reverse states.old.items))))) }
     ensures states { reverse states.new.items ≡ past child.now.kept (reverse states.old.items) }
     ensures capacity { deque_capacity states.new ≡ deque_capacity states.old }
     ensures len { deque_len states.new ≤ deque_len states.old }
@@ -109,14 +105,13 @@ fn feed(
     if pending.pass(run, child) {
         return;
     }
-    let mut now = take_kept(states, child.kept);
-    now.run(run - child.counted);
-    let now = pending.segs().apply(now);
+    let kept = take_kept(states, child.kept);
+    let now = pending.segs().apply(kept.ran(run));
     *pending = Course::fed(burden, &child.frame(0, now));
 }
 
 /// From now on the states of the innermost frame are kept.
-fn keep(states: &mut VecDeque<States>, top: &mut Open)
+fn keep(states: &mut VecDeque<Kept>, top: &mut Open)
     requires has { HasKept top.old.kept (reverse states.old.items) }
     requires room { deque_len states.old < deque_capacity states.old }
     ensures states { reverse states.new.items ≡ kept_of top.old.kept (reverse states.old.items) ∷ past top.old.kept (reverse states.old.items) }
@@ -125,7 +120,7 @@ fn keep(states: &mut VecDeque<States>, top: &mut Open)
     ensures len { deque_len states.new ≤ deque_len states.old + 1 }
 {
     if !top.kept {
-        states.push_back_reserved(States::start());
+        states.push_back_reserved(Kept::fresh());
         top.kept = true;
     }
 }
@@ -237,10 +232,10 @@ impl Pile {
         };
         keep(&mut self.states, top);
         let last = self.states.len() - 1;
-        let states = &mut self.states[last];
-        states.run(self.run - top.counted);
-        *states = segs.apply(*states);
-        top.counted = next;
+        let kept = &mut self.states[last];
+        kept.states.run(self.run - kept.counted);
+        kept.states = segs.apply(kept.states);
+        kept.counted = next;
         self.run = next;
     }
 
@@ -323,34 +318,51 @@ impl Pile {
         self.settle(&pending.segs().then(right.middle()), next);
     }
 
-    /// This piece and a later one, for the join with which there is room.
-    pub(crate) fn absorb(self, burden: Burdens, right: Pile) -> Pile
+    /// This piece and a later one, for the join with which there is room; and the lists that are needed no longer.
+    pub(crate) fn absorb(self, burden: Burdens, right: Pile) -> (Pile, Spare)
         requires left { IsLaid self }
         requires right { IsLaid right }
         requires room { HasRoom self right }
         requires load { load burden (seen self) + load burden (seen right) < 2 ^ 127 }
         requires work { self.before + self.run + (right.before + right.run) < 2 ^ 127 }
-        ensures value { seen result ≡ joined burden (seen self) (seen right) }
-        ensures laid { IsLaid result }
+        ensures value { seen result.0 ≡ joined burden (seen self) (seen right) }
+        ensures laid { IsLaid result.0 }
     {
         let mut left = self;
         let mut right = right;
         if let Some(_) = left.fault {
-            return left;
+            return (left, right.into_spare());
         }
         let work = left.before + left.run;
         left.go_on(burden, &right);
         let into_left = right.opens.len() <= left.opens.len();
         right.place(work, left.before, left.run);
-        Pile {
+        let (opens, no_opens) = chained(left.opens, right.opens, into_left);
+        let (states, no_states) = chained(left.states, right.states, into_left);
+        let both = Pile {
             returns: left.returns,
-            opens: chained(left.opens, right.opens, into_left),
-            states: chained(left.states, right.states, into_left),
+            opens,
+            states,
             middle: left.middle,
             since: left.since,
             run: right.run,
             before: right.before,
             fault: right.fault,
+        };
+        let spare = Spare {
+            returns: right.returns,
+            opens: no_opens,
+            states: no_states,
+        };
+        (both, spare)
+    }
+
+    /// Its lists, which are needed no longer.
+    fn into_spare(self) -> Spare {
+        Spare {
+            returns: self.returns,
+            opens: self.opens.into_vec(),
+            states: self.states.into_vec(),
         }
     }
 

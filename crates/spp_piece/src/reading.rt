@@ -11,18 +11,19 @@ ghost use Rattle.spp_piece.specs.Told.{AreLaid};
 ghost use Rattle.spp_piece.specs.Summary.{along_by, ret_by, pushed, working, summary_ops, summary_of, empty as no_events};
 ghost use Rattle.spp_piece.specs.Machine.{event, entered as entered_at};
 
-use crate::opens::{Open, keep, leave};
-use crate::pieces::{Kind, Segs, States};
+use crate::opens::{Kept, Open, keep, leave};
+use crate::pieces::{Kind, Segs};
 use crate::pile::Pile;
 use crate::returns::Returns;
+use crate::spare::Spare;
 use spp_cut::Part;
 use spp_event::{Event, EventFault};
 use spp_maxplus::Burdens;
-use std::alloc::{AllocError, Global};
+use std::alloc::AllocError;
 use std::collections::VecDeque;
 
 /// The parts of a summary. A strand changes the work alone: what has run since a frame was last changed is told by
-/// marks.
+/// counts.
 #[derive(Drop)]
 pub(crate) struct Reading {
     /// The unmatched returns, in order.
@@ -30,7 +31,7 @@ pub(crate) struct Reading {
     /// The open frames, the outermost first.
     pub(crate) opens: Vec<Open>,
     /// The states of those frames that have kept ones, in the same order.
-    pub(crate) states: Vec<States>,
+    pub(crate) states: Vec<Kept>,
     /// What the events after the last unmatched return and up to the work `since` do to the frame that is then the
     /// innermost.
     pub(crate) middle: Segs,
@@ -46,15 +47,19 @@ pub(crate) struct Reading {
 }
 
 impl Reading {
-    /// No events.
-    pub(crate) fn new(alloc: Global) -> Self
+    /// No events, in these lists' memory.
+    pub(crate) fn new(spare: Spare) -> Self
         ensures value { so_far result ≡ no_events }
         ensures laid { IsLaid result }
     {
+        let mut lists = spare;
+        lists.returns.clear();
+        lists.opens.clear();
+        lists.states.clear();
         Reading {
-            returns: Returns::new(alloc),
-            opens: Vec::new(alloc),
-            states: Vec::new(alloc),
+            returns: lists.returns,
+            opens: lists.opens,
+            states: lists.states,
             middle: Segs::idle(),
             since: 0,
             run: 0,
@@ -92,7 +97,6 @@ impl Reading {
     {
         self.opens.push(Open {
             gap: self.run,
-            counted: 0,
             at,
             site,
             func,
@@ -141,8 +145,7 @@ impl Reading {
         Ok(())
     }
 
-    /// A called frame that is open no longer, and has no kept states, returns to the one below, whose strand goes on
-    /// but for the part of the work that the frame's span leaves out.
+    /// A called frame that is open no longer, and has no kept states, returns to the one below, whose strand goes on.
     #[inline(always)]
     fn skip(&mut self, child: &Open)
         requires called { child.now.kind ≡ AsCalled }
@@ -156,10 +159,6 @@ impl Reading {
     {
         self.run += child.gap;
         self.before -= child.gap;
-        match self.opens.last_mut() {
-            None => self.since += child.counted,
-            Some(top) => top.counted += child.counted,
-        }
     }
 
     /// A frame that is open no longer returns to the one below.
@@ -184,10 +183,11 @@ impl Reading {
         };
         keep(&mut self.states, top)?;
         let last = self.states.len() - 1;
-        let states = &mut self.states[last];
-        let run = child.gap - top.counted;
-        states.receive(run, child.kind, child.at, burden, weights);
-        top.counted = self.run;
+        let kept = &mut self.states[last];
+        let run = child.gap - kept.counted;
+        kept.states
+            .receive(run, child.kind, child.at, burden, weights);
+        kept.counted = self.run;
         Ok(())
     }
 
@@ -200,7 +200,7 @@ impl Reading {
         ensures laid { IsLaid self.new }
         ensures fault { self.new.fault ≡ self.old.fault }
     {
-        match self.opens.last_mut() {
+        match self.opens.last() {
             None => {
                 self.middle.run(self.run - self.since);
                 self.middle.wait();
@@ -209,10 +209,10 @@ impl Reading {
             Some(top) => {
                 if top.kept {
                     let last = self.states.len() - 1;
-                    let states = &mut self.states[last];
-                    states.run(self.run - top.counted);
-                    states.sync();
-                    top.counted = self.run;
+                    let kept = &mut self.states[last];
+                    kept.states.run(self.run - kept.counted);
+                    kept.states.sync();
+                    kept.counted = self.run;
                 }
             }
         }
@@ -239,13 +239,13 @@ impl Reading {
         Ok(())
     }
 
-    /// Reads the events of a part, up to the first bad record.
+    /// Reads the events of a part, up to the first bad record, into these lists.
     ///
     /// # Errors
     ///
     /// Where a growth was refused.
     pub(crate) fn of_part(
-        alloc: Global,
+        spare: Spare,
         part: &Part<'_, '_>,
         burden: Burdens,
     ) -> Result<Reading, AllocError>
@@ -258,7 +258,7 @@ impl Reading {
         let trace = part.trace();
         // Its clauses tell that positions fit.
         let _all = trace.count();
-        let mut reading = Reading::new(alloc);
+        let mut reading = Reading::new(spare);
         for k in 0..events {
             match trace.event_at(first + k) {
                 Ok(event) => reading.read(burden, first + k, event)?,

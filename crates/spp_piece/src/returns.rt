@@ -2,40 +2,51 @@
 ghost use Rattle.std.specs.Prelude.{◌≡◌, ◌+◌, ◌-◌, ◌<◌, ◌≤◌, ◌^◌, [], ◌∷◌, ◌++◌, length, None, IfOk, IfSome, OnOk};
 ghost use Rattle.spp_piece.specs.Pair.{strand as both_strand};
 ghost use Rattle.spp_piece.specs.Returns.{return_of, unmatched_of};
+ghost use Rattle.spp_piece.specs.declared.returns.Close.TheVariants.{Strand as AsStrand};
 
 use crate::pieces::{Segs, Unmatched};
-use spp_maxplus::Seg;
+use smallvec::SmallVec;
 use std::alloc::{AllocError, Global};
 use std::marker::Model;
 
 /// An unmatched return, as it is kept.
 #[derive(Clone, Copy)]
 pub(crate) enum Close {
-    /// Since the last such return a strand alone has happened to its frame, or what is like one.
+    /// Since the last such return a strand alone has happened to its frame, or what is like one, whose instructions fit
+    /// into 64 bits.
     Strand {
         /// The instructions of the strand.
-        run: u128,
+        run: u64,
         /// The position of the return.
         at: u32,
     },
-    /// More has happened, which is in a list of its own.
+    /// More has happened, or a longer strand. It is in a list of its own.
     Kept {
         /// The position of the return.
         at: u32,
     },
 }
 
+impl Default for Close {
+    /// What fills an unused place: a return at position 0, after a strand of no instructions.
+    fn default() -> Close
+        ensures { result ≡ AsStrand 0 0 }
+    {
+        Close::Strand { run: 0, at: 0 }
+    }
+}
+
 /// One of them, with what has happened to its frame.
 #[derive(Clone, Copy)]
 pub(crate) enum Return<'a> {
-    /// A strand alone, or what is like one.
+    /// A strand alone, or what is like one, whose instructions fit into 64 bits.
     Strand {
         /// The instructions of the strand.
-        run: u128,
+        run: u64,
         /// The position of the return.
         at: u32,
     },
-    /// More than that.
+    /// More than that, or a longer strand.
     Kept {
         /// What the events do to the frame.
         segs: &'a Segs,
@@ -44,23 +55,26 @@ pub(crate) enum Return<'a> {
     },
 }
 
-/// Unmatched returns, in order. Before most of them a strand alone happens to the frame.
+/// Unmatched returns, in order. Before most of them a strand alone happens to the frame, whose instructions fit into 64
+/// bits; what happens before the others is kept in full. Up to four returns, of which one at most is kept in full, take
+/// no memory.
 ///
-/// Contracts see the returns, and for how many there is room.
+/// Contracts see the returns, how many of them are kept in full, and for how many of either there is room.
 #[derive(Drop)]
 pub(crate) struct Returns {
-    closes: Vec<Close>,
-    /// What happens to the frames of those that are kept, in the same order.
-    segs: Vec<Segs>,
+    closes: SmallVec<Close, 4>,
+    /// What happens to the frames of those that are kept in full, in the same order.
+    segs: SmallVec<Segs, 1>,
 }
 
 impl Model for Returns {
-    ghost use Rattle.std.specs.Prelude.{◌≡◌, length, vec_len, vec_capacity};
+    ghost use Rattle.std.specs.Prelude.{◌≡◌, length};
+    ghost use Rattle.smallvec.specs.SmallVec.{small_vec_len};
     ghost use Rattle.spp_piece.specs.Returns.{Returned, returns_of, kept_count};
 
     ghost Value = { Returned };
 
-    ghost view = { λ r. record { items = returns_of r.closes.items r.segs.items; kept = vec_len r.segs; room = vec_capacity r.closes; kept_room = vec_capacity r.segs } };
+    ghost view = { λ r. record { items = returns_of r.closes.items r.segs.items; kept = small_vec_len r.segs; room = r.closes.capacity; kept_room = r.segs.capacity } };
 
     ghost invariant = { λ r. kept_count r.closes.items ≡ length r.segs.items };
 }
@@ -105,8 +119,8 @@ impl Returns {
         ensures { result.items ≡ [] }
     {
         Returns {
-            closes: Vec::new(alloc),
-            segs: Vec::new(alloc),
+            closes: SmallVec::new(alloc),
+            segs: SmallVec::new(alloc),
         }
     }
 
@@ -118,12 +132,12 @@ impl Returns {
         self.closes.len()
     }
 
-    /// Before how many of them more than a strand happens.
+    /// How many of them are kept in full.
     pub(crate) fn kept(&self) -> usize
         ensures value { result ≡ self.now.kept }
         ensures fits { result < 2 ^ 63 }
     {
-        self.segs.len()
+        self.segs.as_slice().len()
     }
 
     /// One more, before which that happens to the frame.
@@ -158,7 +172,7 @@ impl Returns {
         }
     }
 
-    /// Takes room for so many more, and for so many before which more than a strand happens.
+    /// Takes room for so many more, and for so many that are kept in full.
     #[tactic(auto, using(crate::proofs::Closes::returns_len))]
     pub(crate) fn reserve(&mut self, more: usize, kept: usize) -> Result<(), AllocError>
         ensures items { self.new.items ≡ self.old.items }
@@ -170,7 +184,7 @@ impl Returns {
         self.closes.reserve(more)
     }
 
-    /// Takes room for those of a later piece of which no frame of that many is closed.
+    /// Takes room for those returns of a later piece that are left once so many frames have closed.
     pub(crate) fn make_room(&mut self, frames: usize, right: &Returns) -> Result<(), AllocError>
         ensures items { self.new.items ≡ self.old.items }
         ensures room { OnOk result (length self.new.items + (length right.now.items - frames) ≤ self.new.room) }
@@ -207,9 +221,18 @@ impl Returns {
         ensures { IfOk result (λ r. r.items ≡ self.now.items) }
     {
         Ok(Returns {
-            closes: self.closes.to_vec(alloc)?,
-            segs: self.segs.to_vec(alloc)?,
+            closes: SmallVec::from_slice(alloc, self.closes.as_slice())?,
+            segs: SmallVec::from_slice(alloc, self.segs.as_slice())?,
         })
+    }
+
+    /// None are left; the memory stays.
+    pub(crate) fn clear(&mut self)
+        ensures items { self.new.items ≡ [] }
+        ensures kept { self.new.kept ≡ 0 }
+    {
+        self.closes.clear();
+        self.segs.clear();
     }
 }
 
@@ -255,10 +278,7 @@ impl<'a> Return<'a> {
     {
         match self {
             Return::Strand { run, at } => Unmatched {
-                segs: Segs {
-                    plain: Seg::call(*run),
-                    burdened: Seg::call(*run),
-                },
+                segs: Segs::strand(*run),
                 at: *at,
             },
             Return::Kept { segs, at } => Unmatched {

@@ -20,6 +20,7 @@ use crate::pieces::{Segs, States};
 use crate::pile::Pile;
 use crate::reading::Reading;
 use crate::returns::ReturnReader;
+use crate::spare::Spare;
 use spp_cut::Part;
 use spp_event::EventFault;
 use spp_frame::{Fault, Why};
@@ -31,7 +32,8 @@ use std::marker::Model;
 /// opened before it; what it does to the frame that is then the innermost; and the frames that it opens and leaves
 /// open. Reading stops at a bad record.
 ///
-/// Contracts see the burdens, the range, and these. It takes memory for its unmatched returns and frames alone.
+/// Contracts see the burdens, the range, and these. It takes memory for its frames, and for unmatched returns beyond
+/// the first four, or beyond one where more than a strand of 64 bits came before.
 #[derive(Drop)]
 pub struct Summary {
     burden: Burdens,
@@ -78,11 +80,26 @@ impl Summary {
         ensures value { IfOk result (λ s. s ≡ account_of burden part.now.first (records_in part.now)) }
         ensures acts { IfOk result (λ s. (stack : Stack) → action burden s.sum (Ok stack) ≡ run burden part.now.first (records_in part.now) (Ok stack)) }
     {
+        Summary::summarise_into(Spare::new(alloc), part, burden)
+    }
+
+    /// The same in the memory of lists that are needed no longer.
+    ///
+    /// # Errors
+    ///
+    /// Where a growth was refused.
+    pub(crate) fn summarise_into(
+        spare: Spare,
+        part: &Part<'_, '_>,
+        burden: Burdens,
+    ) -> Result<Summary, AllocError>
+        ensures { IfOk result (λ s. s ≡ account_of burden part.now.first (records_in part.now)) }
+    {
         let first = part.first();
         let events = part.count();
         // Its clauses tell that positions fit.
         let _all = part.trace().count();
-        let reading = Reading::of_part(alloc, part, burden)?;
+        let reading = Reading::of_part(spare, part, burden)?;
         Ok(Summary {
             burden,
             first,
@@ -94,8 +111,9 @@ impl Summary {
     /// The summary of two neighbouring ranges together, with the same burdens: it acts as the one and then the other,
     /// and is the summary of both lists of events.
     ///
-    /// It takes time linear in the unmatched returns of the right one, and in the frames of that one of the two which
-    /// has fewer, where those of the left that the right closes don't count: they're moved into the list of the other.
+    /// It takes time linear in the unmatched returns of the right one, and, amortized, in the frames of that one of the
+    /// two which has fewer, where those of the left that the right closes don't count: they're moved into the list of
+    /// the other.
     ///
     /// # Errors
     ///
@@ -106,18 +124,40 @@ impl Summary {
         ensures ok { IfOk result (λ s. s ≡ both left right) }
         ensures err { IfErr result (λ r. (r.left ≡ left) × (r.right ≡ right)) }
     {
+        match Summary::join_sparing(left, right) {
+            Ok((both, _)) => Ok(both),
+            Err(refused) => Err(refused),
+        }
+    }
+
+    /// The same, and the lists that are needed no longer.
+    ///
+    /// # Errors
+    ///
+    /// Where a growth was refused; both are handed back.
+    pub(crate) fn join_sparing(
+        left: Summary,
+        right: Summary,
+    ) -> Result<(Summary, Spare), JoinRefused<Summary>>
+        requires burden { left.burden ≡ right.burden }
+        requires neighbours { right.first ≡ left.first + left.events }
+        ensures ok { IfOk result (λ s. s.0 ≡ both left right) }
+        ensures err { IfErr result (λ r. (r.left ≡ left) × (r.right ≡ right)) }
+    {
         let mut left = left;
         let mut right = right;
         match left.pile.make_room(&mut right.pile) {
             Ok(()) => {}
             Err(_) => return Err(JoinRefused { left, right }),
         }
-        Ok(Summary {
+        let (pile, spare) = left.pile.absorb(left.burden, right.pile);
+        let both = Summary {
             burden: left.burden,
             first: left.first,
             events: left.events + right.events,
-            pile: left.pile.absorb(left.burden, right.pile),
-        })
+            pile,
+        };
+        Ok((both, spare))
     }
 
     /// What continuation edges and return edges bear.
@@ -261,7 +301,7 @@ impl Summary {
 }
 
 /// The laws of joins: what is joined is the summary of both lists together; it acts as the one and then the other; and
-/// it's one which two of three are joined first. Its contract is what it is for.
+/// it makes no difference which two of three are joined first. Its contract is what it is for.
 pub fn piece_laws()
     ensures account { (burden : BurdensValue) (first : ℕ) (xs ys : List (Result EventValue FaultValue)) → both (account_of burden first xs) (account_of burden (first + length xs) ys) ≡ account_of burden first (xs ++ ys) }
     ensures joined { (burden : BurdensValue) (first : ℕ) (xs ys : List (Result EventValue FaultValue)) → joined burden (summary_of burden first xs) (summary_of burden (first + length xs) ys) ≡ summary_of burden first (xs ++ ys) }

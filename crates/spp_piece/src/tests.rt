@@ -2,7 +2,7 @@ use crate::{Figures, Frame, Kind, Segs, States, Summary, Unmatched};
 use spp_cut::{Cut, cut_at};
 use spp_event::{Event, EventFault, open_trace, record_of};
 use spp_frame::{Fault, Why};
-use spp_maxplus::{Burdens, State};
+use spp_maxplus::{Burdens, Seg, State};
 use std::alloc::{AllocError, Global};
 use std::test::Fail;
 
@@ -116,12 +116,12 @@ fn fault(at: u32, why: Why) -> Result<Figures, Fault> {
     Err(Fault { at, why })
 }
 
-/// What is seen of the two parts of `NESTED` at a cut behind its first strand, and of their join; none where there is no
-/// memory.
-fn halves(alloc: Global) -> Option<(Summary, Summary, Summary)> {
-    let bytes = trace_of(alloc, &NESTED).ok()?;
+/// What is seen of the two parts of a run of these events, of which the second begins at that position, and of their
+/// join; none where there is no memory.
+fn halves(alloc: Global, events: &[Event], second: u32) -> Option<(Summary, Summary, Summary)> {
+    let bytes = trace_of(alloc, events).ok()?;
     let trace = open_trace(alloc, bytes.as_slice()).ok()?;
-    let cut = cut_at(alloc, &trace, &[3]).ok()?;
+    let cut = cut_at(alloc, &trace, &[second]).ok()?;
     let [front, back] = cut.parts() else {
         return None;
     };
@@ -155,7 +155,7 @@ fn spawned(at: u32, spine: u128) -> Frame {
 
 #[test]
 fn parts_are_told_apart_and_together(rt: HostRuntime) -> Result<(), Fail> {
-    let Some((front, back, both)) = halves(rt.alloc()) else {
+    let Some((front, back, both)) = halves(rt.alloc(), &NESTED, 3) else {
         return Err(AllocError.into());
     };
     assert_eq!(rt; front.work(), 3);
@@ -191,6 +191,42 @@ fn parts_are_told_apart_and_together(rt: HostRuntime) -> Result<(), Fail> {
         burdened: State {
             spine: 5,
             child: Some((9, 0)),
+        },
+    };
+    assert_eq!(rt; both.middle().apply(States::start()), end);
+    Ok(())
+}
+
+#[test]
+fn a_return_after_more_than_a_strand_can_count(rt: HostRuntime) -> Result<(), Fail> {
+    let events = [SPAWN, s(u64::MAX), s(u64::MAX), RET];
+    let Some((_, back, both)) = halves(rt.alloc(), &events, 1) else {
+        return Err(AllocError.into());
+    };
+    let twice: u128 = 36893488147419103230;
+    let along = Seg {
+        head: None,
+        offer: None,
+        add: twice,
+    };
+    let segs = Segs {
+        plain: along,
+        burdened: along,
+    };
+    assert_eq!(rt; back.work(), twice);
+    assert_eq!(rt; back.middle(), Segs::idle());
+    let mut returns = back.returns();
+    assert_eq!(rt; returns.next(), Some(Unmatched { segs, at: 3 }));
+    assert_eq!(rt; returns.next(), None);
+    assert!(rt; both.return_count() == 0 && both.frame_count() == 0);
+    let end = States {
+        plain: State {
+            spine: 0,
+            child: Some((twice, 0)),
+        },
+        burdened: State {
+            spine: 3,
+            child: Some((twice + 3, 0)),
         },
     };
     assert_eq!(rt; both.middle().apply(States::start()), end);
@@ -233,6 +269,10 @@ fn parts_of_one_event_come_to_the_figures(rt: HostRuntime) -> Result<(), Fail> {
             figures(10, 5, 11),
         ),
         ([SPAWN, s(7), RET, s(2)].as_slice(), figures(9, 7, 10)),
+        (
+            [SPAWN, s(most), s(most), RET].as_slice(),
+            figures(twice, twice, twice + 3),
+        ),
         (
             [CALL, s(1), CALL, s(1), CALL, s(1), RET, RET, RET].as_slice(),
             figures(3, 3, 3),

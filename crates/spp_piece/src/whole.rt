@@ -9,6 +9,7 @@ ghost use Rattle.spp_piece.specs.Faults.{IsFaultOf, figures_fault_text};
 ghost use Rattle.spp_piece.specs.declared.whole.FiguresFault.TheVariants.{Bad as BadFault, Memory as MemoryFault};
 
 use crate::figures::Figures;
+use crate::spare::Spare;
 use crate::summary::Summary;
 use spp_cut::{Cut, cut_even};
 use spp_event::Trace;
@@ -72,7 +73,7 @@ fn bad_event(so_far: &Summary) -> Option<Fault>
 }
 
 /// The figures of a cut trace. Each part's summary is joined to those before it as soon as it is made, up to the end of
-/// the first part with a bad event.
+/// the first part with a bad event. The next one is made in the memory of the lists that a join leaves.
 fn figures_of_cut(
     alloc: Global,
     cut: &Cut<'_, '_>,
@@ -85,13 +86,14 @@ fn figures_of_cut(
 {
     let parts = cut.parts();
     let mut all = Summary::summarise(alloc, &parts[0], burdens)?;
+    let mut spare = Spare::new(alloc);
     for part in &parts[1..] {
         if let Some(fault) = bad_event(&all) {
             return Err(FiguresFault::Bad(fault));
         }
-        let next = Summary::summarise(alloc, part, burdens)?;
-        all = match Summary::join(all, next) {
-            Ok(both) => both,
+        let next = Summary::summarise_into(spare, part, burdens)?;
+        (all, spare) = match Summary::join_sparing(all, next) {
+            Ok(joined) => joined,
             Err(_) => return Err(FiguresFault::Memory),
         };
     }
@@ -104,9 +106,9 @@ fn figures_of_cut(
 /// instructions; by way of so many even parts of its trace, 1 to 65,536, which change no answer.
 ///
 /// Each part is summarised and joined to those before it, on one thread, up to the first part with a bad event. The
-/// events are read once, in time linear in the numbers of events and parts. The memory is linear in the number of parts,
-/// and in what the summaries take of the events so far and of one part more: their open frames, and the part's returns
-/// that close frames opened before it. The work is at most 2^92.
+/// events are read once, in time linear in the numbers of events and parts. The memory is linear in the number of
+/// parts, and in the most that the summaries take of the events so far and of one part more: their open frames, and the
+/// part's returns that close frames opened before it. The work is at most 2^92.
 ///
 /// # Errors
 ///

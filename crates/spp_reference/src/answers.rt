@@ -178,8 +178,8 @@ fn profiled(
 
 /// The profile of a run with these burdens, found position by position from the definitions.
 ///
-/// The time grows with the third power of the number of events, and with its square for each site; the memory is linear in
-/// the events and sites. It is for small traces, to compare fast profilers with.
+/// The time grows with the third power of the number of events, and with its square for each site; the memory is linear
+/// in the events and sites. It is for small traces, to compare fast profilers with.
 ///
 /// # Errors
 ///

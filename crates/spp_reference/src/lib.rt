@@ -1,4 +1,5 @@
-//! A profiler that goes by the definitions, position by position: slow, for small traces, to compare the fast ones with.
+//! A profiler that goes by the definitions, position by position: slow, for small traces, to compare the fast ones
+//! with.
 //!
 //! It makes no use of the stack machine: spans are the greatest weights of walks, found from their ends backwards, and
 //! the path goes from position to position along the first edge that a greatest walk takes.

@@ -11,8 +11,8 @@ use crate::dag::{Dag, Edge};
 use spp_maxplus::Burdens;
 use std::alloc::{AllocError, Global};
 
-/// What a walk weighs at most that goes along this edge and then on, where something does: `best` has, for each position up
-/// to the end of the walk, the greatest weight from there.
+/// What a walk weighs at most that goes along this edge and then on, where something does: `best` has, for each
+/// position up to the end of the walk, the greatest weight from there.
 fn along(edge: Option<Edge>, best: &[Option<u128>]) -> Option<u128>
     requires { (x w : ℕ) → get_or best.now x None ≡ Some w → w < 2 ^ 127 }
     ensures { result ≡ weight_along edge best.now }

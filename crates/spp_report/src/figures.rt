@@ -31,8 +31,8 @@ fn text_of_ratio(alloc: Global, hundredths: Option<u128>) -> Result<String, Allo
 }
 
 /// The figures of a run as five lines: work, span and burdened span in instructions, then the parallelism and the
-/// burdened parallelism, with two digits behind the point, rounded down, or a dash where the divisor is 0. The work is below
-/// 2^120.
+/// burdened parallelism, with two digits behind the point, rounded down, or a dash where the divisor is 0. The work is
+/// below 2^120.
 ///
 /// # Errors
 ///

@@ -1,5 +1,5 @@
--- In a well-formed trace what a pass notes is all choices so far: each return of a spawned child, and each child that is
--- taken where a frame waits.
+-- In a well-formed trace what a pass notes is all choices so far: each return of a spawned child, and each child that
+-- is taken where a frame waits.
 use Rattle.std.proofs.Common.{◌≡◌, ℕ, zero, suc, ◌<◌, ◌≤◌, ◌↔◌, ◌⊎◌, true, false, List, [], ◌∷◌, ◌++◌, length, map, take, Option, Some, None, refl, sym, ap, subst, ◌∙◌, arith, inl, inr}
 use Rattle.std.specs.Prelude.{Contains, slice_index_or}
 use Rattle.std.proofs.lemmas.Bool.{cases_eq, cases_lt, both_ways}

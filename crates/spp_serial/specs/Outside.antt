@@ -69,8 +69,8 @@ abbrev pub IsOutside : Option StackOf → List EntryFrame → Type 0
 IsOutside None fs = fs ≡ []
 IsOutside (Some stack) fs = HasFrames stack fs
 
--- The frames fs were outside, and those of `left` still are. The others were come to, and if there are two frames in all
--- then two have been come to.
+-- The frames fs were outside, and those of `left` still are. The others were come to, and if there are two frames in
+-- all then two have been come to.
 pub record IsReached (old new : Seen) (fs : List EntryFrame) (left : Option StackOf) : Type 0 where
   pub outside : List EntryFrame
   pub are : IsOutside left outside

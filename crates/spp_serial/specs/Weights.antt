@@ -1,5 +1,5 @@
--- The stack machine with weights alone: of a child that is waited for only its weight is kept, 0 where there is none, and
--- not the position of its spawn. Figures need no more.
+-- The stack machine with weights alone: of a child that is waited for only its weight is kept, 0 where there is none,
+-- and not the position of its spawn. Figures need no more.
 use Rattle.std.specs.Prelude.{ℕ, ◌+◌, max, List, [], ◌∷◌, Option, Some, None}
 use Rattle.spp_event.specs.declared.records.Event.{Event}
 use Rattle.spp_event.specs.declared.records.Event.TheVariants.{Strand, Call, Spawn, Ret, Sync}

@@ -71,13 +71,13 @@ impl From<AllocError> for ProfileFault {
     }
 }
 
-/// The profile of a run: its figures, where each continuation edge and each return edge bears `burden` instructions, and
-/// its tables on the whole dag and on the first greatest path, which have no burdens.
+/// The profile of a run: its figures, where each continuation edge and each return edge bears `burden` instructions,
+/// and its tables on the whole dag and on the first greatest path, which have no burdens.
 ///
-/// The events are read twice: once for the figures, the table of the dag and the choices that settle the path, and once for
-/// the path's table. The time is linear in the numbers of events, sites and functions; the memory too: up to 16 bytes for
-/// each spawned child, or twice that where the lists grew bit by bit, one for each event, and what the open frames, the
-/// sites and the functions take. The work is at most 2^92.
+/// The events are read twice: once for the figures, the table of the dag and the choices that settle the path, and once
+/// for the path's table. The time is linear in the numbers of events, sites and functions; the memory too: up to 16
+/// bytes for each spawned child, or twice that where the lists grew bit by bit, one byte for each event, and what the
+/// open frames, the sites and the functions take. The work is at most 2^92.
 ///
 /// # Errors
 ///
@@ -104,7 +104,8 @@ pub fn profile_serial(
     })
 }
 
-/// The work, span and burdened span of a run, where each continuation edge and each return edge bears `burden` instructions.
+/// The work, span and burdened span of a run, where each continuation edge and each return edge bears `burden`
+/// instructions.
 ///
 /// The events are read once, in time linear in their number; the memory is linear in the number of frames that are open
 /// at a time. The work is at most 2^92.

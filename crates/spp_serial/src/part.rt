@@ -19,19 +19,20 @@ use std::alloc::{AllocError, Global};
 /// What a part of a run tells.
 #[derive(Drop)]
 pub struct PartResult {
-    /// Its share in the rows by call site on the run's whole dag: the strands in the part, and the frames that close in it.
+    /// Its share in the rows by call site on the run's whole dag: the strands in the part, and the frames that close in
+    /// it.
     pub table: Table,
     /// Of the choices that settle the run's path those in the part, by their positions in the trace.
     pub choices: Choices,
 }
 
-/// The share of a part in the table of its run, and the choices in it, where `entry` has the frames that are open before
-/// the part. Neither has burdens.
+/// The share of a part in the table of its run, and the choices in it, where `entry` has the frames that are open
+/// before the part. Neither has burdens.
 ///
-/// The events of the part are read once, each in constant time, amortized, behind a step for each site and function that
-/// is open before the part, and for each number of a site or of a function up to the greatest. A frame of the entry is come to where the frames in it have returned. The memory is linear
-/// in the numbers of frames that are opened in the part or returned to, of spawned children that return in it, of sites
-/// and of functions.
+/// The events of the part are read once, each in constant time, amortized, besides one step in all for each site and
+/// function that is open before the part, and for each number of a site or of a function up to the greatest. A frame of
+/// the entry is taken in once all frames above it have returned. The memory is linear in the numbers of frames that are
+/// opened in the part or returned to, of spawned children that return in it, of sites and of functions.
 ///
 /// # Errors
 ///

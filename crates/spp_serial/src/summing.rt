@@ -317,8 +317,8 @@ impl Summing {
         })
     }
 
-    /// The pass before the first event of a part, where these frames are open. It has come to the innermost of them; the
-    /// others are outside.
+    /// The pass before the first event of a part, where these frames are open. It has come to the innermost of them;
+    /// the others are outside.
     pub(crate) fn within(alloc: Global, entry: &Entry<'_>) -> Result<Self, AllocError>
         ensures { IfOk result (λ s. (f : FrameValue) (fs : List FrameValue) → HasFrames entry.now (f ∷ fs) → IsBegun f fs entry.now.work (seen s)) }
     {
@@ -340,8 +340,8 @@ impl Summing {
         })
     }
 
-    /// Comes to the innermost of the frames outside, if the pass has come to no more than one; gives those that are left
-    /// outside.
+    /// Comes to the innermost of the frames outside, if the pass has come to no more than one; gives those that are
+    /// left outside.
     pub(crate) fn reach<'e>(
         &mut self,
         outside: Option<Entry<'e>>,

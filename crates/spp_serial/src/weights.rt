@@ -5,8 +5,8 @@ ghost use Rattle.spp_serial.specs.Weights.{weights_of, start as opened, close as
 
 use spp_maxplus::{Burdens, State};
 
-/// What figures need of an open frame: less than a `State` of spp_maxplus, which also keeps through which child the greater
-/// weight goes. In instructions.
+/// What figures need of an open frame: less than a `State` of spp_maxplus, which also keeps through which child the
+/// greater weight goes. In instructions.
 #[derive(Clone, Copy)]
 pub(crate) struct Weights {
     /// The greatest weight from the frame's opening along its own strands, called children and joined children.

@@ -20,11 +20,11 @@ struct SiteRow {
     site: u32,
 }
 
-/// What the frames of a run, or of a part of it, add up to: a row for the root frame, and one for each call site. Works,
-/// spans and local counts are in instructions. A site that was never added to has the zero row.
+/// What the frames of a run, or of a part of it, add up to: a row for the root frame, and one for each call site.
+/// Works, spans and local counts are in instructions. A site that was never added to has the zero row.
 ///
-/// A table takes about 128 bytes for each site that was added to, and 4 bytes for each site number up to the greatest of
-/// these, or up to twice that where it grew bit by bit.
+/// A table takes about 128 bytes for each site that was added to, and 4 bytes for each site number up to the greatest
+/// of these, or up to twice that where it grew bit by bit.
 #[derive(Drop)]
 pub struct Table {
     root: Row,
@@ -87,8 +87,8 @@ impl Table {
 
     /// Adds to the row of a site, whose sums must fit their types.
     ///
-    /// It takes constant time where the site has a row. Where it has none the table grows, in constant time, amortized, for
-    /// each site number up to the greatest.
+    /// It takes constant time where the site has a row. Where it has none the table grows, in constant time, amortized,
+    /// for each site number up to the greatest.
     ///
     /// # Errors
     ///
@@ -141,8 +141,8 @@ impl Table {
         let _rows = self.rows.len();
     }
 
-    /// Adds the rows of another table, whose sums with these must fit their types. It takes time linear in the size of the
-    /// other one, besides a step, amortized, for each site number up to its greatest.
+    /// Adds the rows of another table, whose sums with these must fit their types. It takes time linear in the size of
+    /// the other one, besides a step, amortized, for each site number up to its greatest.
     ///
     /// # Errors
     ///
@@ -179,8 +179,8 @@ impl Table {
         })
     }
 
-    /// The table whose rows are the sums of those of two tables, which must fit their types. It takes time linear in the
-    /// sizes of both.
+    /// The table whose rows are the sums of those of two tables, which must fit their types. It takes time linear in
+    /// the sizes of both.
     ///
     /// # Errors
     ///

@@ -7,8 +7,8 @@ use Rattle.spp_dag.specs.Steps.{has_site, has_func}
 use Rattle.spp_stack.specs.declared.node.Node.{Node}
 use Rattle.spp_stack.specs.declared.stacks.Start.{Start}
 
--- Whether the mark of a frame of that site tells that no frame below it was entered by the site. The root was entered by
--- none, and nothing is below it.
+-- Whether the mark of a frame of that site tells that no frame below it was entered by the site. The root was entered
+-- by none, and nothing is below it.
 abbrev pub IsMarked : FrameKind → Bool → ℕ → List EntryFrame → Type 0
 IsMarked Root top site fs = fs ≡ []
 IsMarked Called top site fs = top ≡ not (has_site fs site)
@@ -35,8 +35,8 @@ IsChain nodes (Some n) [] = ⊥
 IsChain nodes (Some n) (f ∷ fs) =
     (node : Node) × (slice_get nodes n ≡ Some node) × IsNodeOf node f fs × IsUnder n node.below × IsChain nodes node.below fs
 
--- The nodes of all stacks; and for the beginning of each part, and the end, the number of its innermost frame's node and
--- the work of the trace before.
+-- The nodes of all stacks; and for the beginning of each part, and the end, the number of its innermost frame's node
+-- and the work of the trace before.
 pub record Stacks : Type 0 where
   pub nodes : List Node
   pub starts : List Start
@@ -50,8 +50,8 @@ enters Spawned top = top
 abbrev pub opens_site : Node → Bool
 opens_site node = enters node.frame.kind node.frame.top_site
 
--- The link of a node over that one, to the nearest node with a mark: to that one where it has the mark, else where its own
--- link goes. There is none over no node.
+-- The link of a node over that one, to the nearest node with a mark: to that one where it has the mark, else where its
+-- own link goes. There is none over no node.
 abbrev pub IsLink : (Node → Bool) → (Node → Option ℕ) → List Node → Option ℕ → Option ℕ → Type 0
 IsLink mark link_of nodes None link = link ≡ None
 IsLink mark link_of nodes (Some below) link =

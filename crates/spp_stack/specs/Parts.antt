@@ -10,8 +10,8 @@ use Rattle.spp_dag.specs.Choices.{IsEntry}
 use Rattle.spp_piece.specs.Account.{Account, account_of}
 use Rattle.spp_stack.specs.Chain.{Stacks, IsStart}
 
--- The accounts are those of parts into which the records, of which the first has that position, are cut: the first account
--- of as many records as it counts, the second of as many after these, and so on up to the last record.
+-- The accounts are those of parts into which the records, of which the first has that position, are cut: the first
+-- account of as many records as it counts, the second of as many after these, and so on up to the last record.
 abbrev pub AreAccounts : ℕ → List Record → List Account → Type 0
 AreAccounts first rs [] = rs ≡ []
 AreAccounts first rs (a ∷ others) =

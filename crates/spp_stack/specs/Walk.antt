@@ -41,7 +41,8 @@ moved g w = record w { top = record w.top { frame = record w.top.frame { state =
 abbrev pub AreKept : List Node → List Node → Type 0
 AreKept nodes more = (o : Option ℕ) (fs : List EntryFrame) → IsChain nodes o fs → IsChain more o fs
 
--- the site and the function of the innermost frame are no longer marked, where its own marks are set; the rest is the same
+-- the site and the function of the innermost frame are no longer marked, where its own marks are set; the rest is the
+-- same
 pub record Unmarked (w v : Walk) : Type 0 where
   pub nodes : v.nodes ≡ w.nodes
   pub top : v.top ≡ w.top

@@ -20,8 +20,8 @@ pub(crate) struct Start {
     pub(crate) work: u128,
 }
 
-/// The open frames where each part of a trace begins, and where the trace ends. Stacks share the nodes of the frames that
-/// they have in common.
+/// The open frames where each part of a trace begins, and where the trace ends. Stacks share the nodes of the frames
+/// that they have in common.
 ///
 /// Contracts see its nodes, and for each part and the end the number of a node and a work.
 #[derive(Drop)]
@@ -89,24 +89,22 @@ impl<'e> Entry<'e> {
         ensures none { (f : FrameValue) (fs : List FrameValue) → HasFrames self.now (f ∷ fs) → result ≡ None → fs ≡ [] }
         ensures less { IfSome result (λ e. (e.top < self.now.top) × (e.work ≡ self.now.work)) }
     {
+        let Entry { nodes, work, .. } = *self;
         match self.innermost().below {
             None => None,
-            Some(top) => Some(Entry {
-                nodes: self.nodes,
-                top,
-                work: self.work,
-            }),
+            Some(top) => Some(Entry { nodes, top, work }),
         }
     }
 }
 
 impl<'e> Entry<'e> {
     /// Puts into the sets the sites by which the frames were entered, but not the root's, and the functions that they
-    /// run. It visits each site and each function once, however many frames there are; besides the sets may grow.
+    /// run. It visits each site and each function once, however many frames there are; the sets may also grow to the
+    /// greatest number.
     ///
     /// # Errors
     ///
-    /// Where a growth was refused.
+    /// Where a growth was refused; some may be in then.
     pub fn mark(&self, sites: &mut Marks, funcs: &mut Marks) -> Result<(), AllocError>
         ensures sites { OnOk result ((fs : List FrameValue) → HasFrames self.now fs → (x : ℕ) → is_marked sites.new x ≡ (is_marked sites.old x || has_site fs x)) }
         ensures funcs { OnOk result ((fs : List FrameValue) → HasFrames self.now fs → (x : ℕ) → is_marked funcs.new x ≡ (is_marked funcs.old x || has_func fs x)) }
@@ -182,7 +180,7 @@ impl Entries {
     {
         let start = self.starts[k];
         Entry {
-            nodes: self.nodes.as_slice(),
+            nodes: self.nodes(),
             top: start.top,
             work: start.work,
         }

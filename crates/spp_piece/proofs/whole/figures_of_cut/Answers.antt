@@ -2,12 +2,12 @@ use Rattle.std.proofs.Common.{◌+◌, ◌-◌, length, take, drop, sym, subst, 
 use Rattle.spp_piece.proofs.InParts.{Summed, summed_next, summed_all, told_early, told_ok, told_err, told_bad, work_told}
 use Rattle.spp_piece.proofs.whole.figures_of_cut.Goals as goal
 
-pub join-requires-clause-neighbours : goal.join-requires-clause-neighbours
-join-requires-clause-neighbours c =
+pub join_sparing-requires-clause-neighbours : goal.join_sparing-requires-clause-neighbours
+join_sparing-requires-clause-neighbours c =
     let ps = c.parts-parts.result.now in
     let items = take (length ps - 1) (drop 1 ps) in
     (summed_next c.args.cut.now.trace c.args.burdens items c.loop-part.part-index c.part-item.result c.loop-part.all c.in_ok-next.next
-    c.loop-part-test.true c.part-item.is c.loop-part.invariant c.in_ok-next.ensures.value).1
+    c.loop-part-test.true c.part-item.is c.loop-part.invariant c.in_ok-next.ensures).1
 
 pub loop-part-preserved : goal.loop-part-preserved
 loop-part-preserved c =
@@ -15,7 +15,7 @@ loop-part-preserved c =
     let items = take (length ps - 1) (drop 1 ps) in
     subst (Summed c.args.cut.now.trace c.args.burdens (drop (c.loop-part.part-index + 1) items)) (sym c.in-Ok.ensures.ok)
     (summed_next c.args.cut.now.trace c.args.burdens items c.loop-part.part-index c.part-item.result c.loop-part.all c.in_ok-next.next
-    c.loop-part-test.true c.part-item.is c.loop-part.invariant c.in_ok-next.ensures.value).2
+    c.loop-part-test.true c.part-item.is c.loop-part.invariant c.in_ok-next.ensures).2
 
 pub returns-in-Some-clause-fault : goal.returns-in-Some-clause-fault
 returns-in-Some-clause-fault c =

@@ -1,11 +1,10 @@
 use Rattle.std.proofs.Common.{◌≡◌, ◌-◌, ◌<◌, ◌∷◌, true, length, reverse, sym, ap, ◌∙◌, arith, refl}
 use Rattle.std.specs.VecDeque.{deque_len}
 use Rattle.std.proofs.lemmas.List.{length-reverse}
-use Rattle.spp_piece.specs.declared.opens.Open.{Open}
 use Rattle.spp_piece.specs.Bound.{cost}
-use Rattle.spp_piece.specs.Pair.{act, after_strand}
-use Rattle.spp_piece.specs.Told.{kept_of, past}
-use Rattle.spp_piece.proofs.Laid.{ends_at, settle_ends, settle_fits}
+use Rattle.spp_piece.specs.Pair.{act}
+use Rattle.spp_piece.specs.Told.{kept_of, past, ran}
+use Rattle.spp_piece.proofs.Laid.{as_kept, ends_at, settle_ends, settle_fits}
 use Rattle.spp_piece.proofs.pile.Pile.settle.Goals as goal
 
 pub run-requires-2 : goal.run-requires-2
@@ -15,7 +14,7 @@ run-requires-2 c =
     let ts = c.keep.new.states.items in
     let k = reverse p.states.items in
     let top = c.in-Some.top.now in
-    let s = c.index_mut-states.result.now in
+    let s = c.index_mut-kept.result.now in
     let ok = p.opens.ok.0 in
     let n = c.in-Some.ensures.variant.0 refl in
     let last = deque_len p.opens - 1 in
@@ -25,10 +24,9 @@ run-requires-2 c =
     let lt : 0 < length ts = omega (arith, length-reverse ts, ap length et) in
     let end = c.len-last.result - 1 in
     let os = ends_at xs last last top top (omega arith) (omega arith) (omega arith) c.in-Some.ensures.value in
-    let us = ends_at ts end end s s lt (omega arith) (omega arith) c.index_mut-states.ensures.value in
+    let us = ends_at ts end end s s lt (omega arith) (omega arith) c.index_mut-kept.ensures.value in
     let both : s ∷ us.below ≡ kept_of top.kept k ∷ past top.kept k = sym us.old ∙ et in
     let f = settle_fits p.returns.items p.middle p.since k p.run p.before p.fault (cost c.args.segs.now) top (reverse xs) os.below s os.old c.requires.load (cc) in
-    let m = ap (λ (o : Open). o.counted) c.keep.ensures.top in
     record { plain = omega (arith, f.plain); burdened = omega (arith, f.burdened) }
 
 pub returns : goal.returns
@@ -38,7 +36,7 @@ returns c =
     let ts = c.keep.new.states.items in
     let k = reverse p.states.items in
     let top = c.in-Some.top.now in
-    let s = c.index_mut-states.result.now in
+    let s = c.index_mut-kept.result.now in
     let ok = p.opens.ok.0 in
     let n = c.in-Some.ensures.variant.0 refl in
     let last = deque_len p.opens - 1 in
@@ -47,13 +45,13 @@ returns c =
     let et = c.keep.ensures.states in
     let lt : 0 < length ts = omega (arith, length-reverse ts, ap length et) in
     let end = c.len-last.result - 1 in
-    let y : Open = record c.keep.new.top { counted = c.args.next } in
-    let x = c.apply.result in
+    let y = c.keep.new.top in
+    let x = as_kept c.apply-kept.result c.args.next in
     let os = ends_at xs last last top y (omega arith) (omega arith) (omega arith) c.in-Some.ensures.value in
-    let us = ends_at ts end end s x lt (omega arith) (omega arith) c.index_mut-states.ensures.value in
-    let ey : y ≡ record top { counted = c.args.next; kept = true } = ap (λ (o : Open). let y : Open = record o { counted = c.args.next } in y) c.keep.ensures.top in
-    let ex : x ≡ act c.args.segs.now (after_strand (p.run - top.counted) s) =
-    c.apply.ensures ∙ ap (act c.args.segs.now) (c.run-2.ensures ∙ ap (λ (o : Open). after_strand (p.run - o.counted) s) c.keep.ensures.top) in
+    let us = ends_at ts end end s x lt (omega arith) (omega arith) c.index_mut-kept.ensures.value in
+    let ey : y ≡ record top { kept = true } = c.keep.ensures.top in
+    let ex : x ≡ as_kept (act c.args.segs.now (ran p.run s)) c.args.next =
+    ap (λ x. as_kept x c.args.next) (c.apply-kept.ensures ∙ ap (act c.args.segs.now) c.run-2.ensures) in
     let now = settle_ends p.returns.items p.middle p.since p.fault p.run p.before xs _ ts _ top s x k c.args.segs.now c.args.next y os ey us et ex c.requires.laid in
     record {
       value = now.value;

@@ -1,28 +1,26 @@
-use Rattle.std.proofs.Common.{◌≡◌, List, ◌++◌, length, Result, Ok, Err, IsOk, is_ok, if◌then◌else◌, refl, ap, ap₂, ◌∙◌, arith}
+use Rattle.std.proofs.Common.{◌≡◌, ◌++◌, length, Result, Ok, Err, IsOk, OnOk, ap, ap₂, ◌∙◌, arith}
 use Rattle.std.proofs.lemmas.List.{length-append}
 use Rattle.spp_piece.specs.Returns.{Returned, Left, returns_of, kept_count}
 use Rattle.spp_piece.proofs.Closes.{count-append, returns_len, returns-append}
 use Rattle.spp_piece.proofs.returns.Returns.append.Goals as goal
 
--- what grew where there was room
-grown : {T E X : Type 0} (r : Result T E) (a b : List X) → IsOk r → (if is_ok r then a else b) ≡ a
-grown (Ok t) a b h = refl
-grown (Err e) a b h = absurd (cc)
+-- what holds of an answer that is no error
+held : {T E P : Type 0} (r : Result T E) → OnOk r P → IsOk r → P
+held (Ok t) p h = p
+held (Err e) p h = absurd (cc)
 
 closes_are : (c : goal.After-extend_from_slice-segs) → c.extend_from_slice-closes.new.self.items ≡ c.self.inside.closes.items ++ c.rest.inside.closes.now
 closes_are c =
     let r = c.self.inside in
     let q = c.rest.inside in
-    c.extend_from_slice-closes.ensures.items
-    ∙ grown c.extend_from_slice-closes.result (r.closes.items ++ q.closes.now) r.closes.items
-    (c.extend_from_slice-closes.ensures.succeeds (omega (arith, c.requires.room, returns_len r.closes.items r.segs.items, returns_len q.closes.now q.segs.now, ap (λ (x : Returned). length x.items) c.self.view_is, ap (λ (x : Returned). x.room) c.self.view_is, ap (λ (x : Left). length x.items) c.rest.view_is, r.closes.ok.0)))
+    held c.extend_from_slice-closes.result c.extend_from_slice-closes.ensures.ok
+    (c.extend_from_slice-closes.ensures.succeeds (omega (arith, c.requires.room, returns_len r.closes.items r.segs.items, returns_len q.closes.now q.segs.now, ap (λ (x : Returned). length x.items) c.self.view_is, ap (λ (x : Returned). x.room) c.self.view_is, ap (λ (x : Left). length x.items) c.rest.view_is)))
 
 segs_are : (c : goal.After-extend_from_slice-segs) → c.extend_from_slice-segs.new.self.items ≡ c.self.inside.segs.items ++ c.rest.inside.segs.now
 segs_are c =
     let r = c.self.inside in
     let q = c.rest.inside in
-    c.extend_from_slice-segs.ensures.items
-    ∙ grown c.extend_from_slice-segs.result (r.segs.items ++ q.segs.now) r.segs.items
+    held c.extend_from_slice-segs.result c.extend_from_slice-segs.ensures.ok
     (c.extend_from_slice-segs.ensures.succeeds (omega (arith, c.requires.kept, ap (λ (x : Returned). x.kept) c.self.view_is, ap (λ (x : Returned). x.kept_room) c.self.view_is, ap (λ (x : Left). x.kept) c.rest.view_is)))
 
 pub invariant_of-self : goal.invariant_of-self

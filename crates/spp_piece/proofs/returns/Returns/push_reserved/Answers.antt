@@ -8,7 +8,7 @@ use Rattle.spp_piece.proofs.returns.Returns.push_reserved.Goals as goal
 pub push_reserved-requires : goal.push_reserved-requires
 push_reserved-requires c =
     let r = c.self.inside in
-    omega (arith, c.requires.room, returns_len r.closes.items r.segs.items, ap (λ (x : Returned). length x.items) c.self.view_is, ap (λ (x : Returned). x.room) c.self.view_is, r.closes.ok.0)
+    omega (arith, c.requires.room, returns_len r.closes.items r.segs.items, ap (λ (x : Returned). length x.items) c.self.view_is, ap (λ (x : Returned). x.room) c.self.view_is)
 
 pub invariant_of-self : goal.invariant_of-self
 invariant_of-self c =
@@ -18,7 +18,7 @@ invariant_of-self c =
 pub push_reserved-requires-in-None-2 : goal.push_reserved-requires-in-None-2
 push_reserved-requires-in-None-2 c =
     let r = c.self.inside in
-    omega (arith, c.requires.room, returns_len r.closes.items r.segs.items, ap (λ (x : Returned). length x.items) c.self.view_is, ap (λ (x : Returned). x.room) c.self.view_is, r.closes.ok.0)
+    omega (arith, c.requires.room, returns_len r.closes.items r.segs.items, ap (λ (x : Returned). length x.items) c.self.view_is, ap (λ (x : Returned). x.room) c.self.view_is)
 
 pub invariant_of-self-in-None : goal.invariant_of-self-in-None
 invariant_of-self-in-None c =

@@ -5,14 +5,17 @@ use Rattle.spp_stack.specs.declared.stacks.Start.{Start}
 use Rattle.spp_stack.specs.Chain.{Stacks, IsChain, IsStart, IsTree, AreLinked}
 use Rattle.spp_stack.proofs.stacks.Entries.entry.Goals as goal
 
-start_is : (c : goal.After-as_slice) → slice_get c.self.inside.starts.items c.args.k ≡ Some c.index-start.result.now
+start_is : (c : goal.After-nodes) → slice_get c.self.inside.starts.items c.args.k ≡ Some c.index-start.result.now
 start_is c =
     let s = c.self.inside.starts in
     slice_get_read s.items _ c.args.k c.index-start.result.now refl (omega (arith, c.requires, ap (λ (z : Stacks). length z.starts) c.self.view_is)) c.index-start.ensures
 
+nodes_are : (c : goal.After-nodes) → c.nodes.result.now ≡ c.self.inside.nodes.items
+nodes_are c = c.nodes.ensures ∙ ap (λ (z : Stacks). z.nodes) (sym c.self.view_is)
+
 pub invariant_of-result : goal.invariant_of-result
 invariant_of-result c =
-    let e = c.as_slice.ensures.value in
+    let e = nodes_are c in
     let lt = c.self.invariant.tops c.args.k c.index-start.result.now (start_is c) in
     record {
       top = omega (arith, lt, ap length e);
@@ -27,7 +30,7 @@ returns c fs work h =
     let i = subst (λ (z : Stacks). IsStart z c.args.k fs work) (sym c.self.view_is) h in
     let got = i.is in
     let is : i.start ≡ s = cc in (
-      subst (λ l. IsChain l (Some s.top) fs) (sym c.as_slice.ensures.value)
+      subst (λ l. IsChain l (Some s.top) fs) (sym (nodes_are c))
           (subst (λ (z : Start). IsChain c.self.inside.nodes.items (Some z.top) fs) is i.chain),
       sym (i.work ∙ ap (λ (z : Start). z.work) is),
     )
