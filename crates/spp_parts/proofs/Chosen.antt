@@ -1,7 +1,6 @@
 -- The choices of the parts so far.
-use Rattle.std.proofs.Common.{◌≡◌, ℕ, suc, ◌+◌, ◌<◌, ◌≤◌, List, [], ◌∷◌, ◌++◌, length, get_or, take, sym, ap, subst, ◌∙◌, arith}
+use Rattle.std.proofs.Common.{◌≡◌, ℕ, suc, ◌+◌, ◌<◌, List, [], ◌∷◌, ◌++◌, length, get_or, take, sym, ap, subst, ◌∙◌, arith}
 use Rattle.std.proofs.Math.Seq.{take-suc, take-length}
-
 use Rattle.spp_event.specs.declared.records.Event.{Event}
 use Rattle.spp_event.specs.Recordings.{Recording}
 use Rattle.spp_frame.specs.Nesting.{AreEvents}
@@ -29,7 +28,7 @@ chosen_next t ps read k p cs c at same is lt h more es are =
     let l : k < length ps = (let z : length read ≡ length ps = ap (λ (l : List PartOf). length l) same in omega arith) in
     let here : p ≡ get_or ps k p = is ∙ ap (λ (l : List PartOf). get_or l k p) same in
     let next : take (k + 1) ps ≡ take k ps ++ p ∷ [] =
-        ap (λ n. take n ps) (let z : k + 1 ≡ suc k = omega arith in z) ∙ take-suc ps k p l ∙ ap (λ q. take k ps ++ q ∷ []) (sym here) in
+    ap (λ n. take n ps) (let z : k + 1 ≡ suc k = omega arith in z) ∙ take-suc ps k p l ∙ ap (λ q. take k ps ++ q ∷ []) (sym here) in
     subst (λ qs. AreChoicesOf es qs (cs ++ c ∷ [])) (sym next)
     (chosen_more es (take k ps) p cs c (h es are) (more es (subst (λ (u : Recording). AreEvents u.records es) (sym at.trace) are)))
 

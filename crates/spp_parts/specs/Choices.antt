@@ -1,5 +1,5 @@
 -- What the parts of a cut tell of a run's choices.
-use Rattle.std.specs.Prelude.{ℕ, ◌+◌, List, [], ◌∷◌}
+use Rattle.std.specs.Prelude.{◌+◌, List, [], ◌∷◌}
 use Rattle.spp_event.specs.declared.records.Event.{Event}
 use Rattle.spp_cut.specs.Parts.{PartOf}
 use Rattle.spp_path.specs.declared.choices.Choices.{Choices}

@@ -205,7 +205,10 @@ fn stacks_share_their_frames(rt: HostRuntime) -> Result<(), Fail> {
     let top = inner(FrameKind::Called, 999, 0, 500, false, false);
     if stacks.parts() >= 1500 {
         let number = stacks.top(1500) as usize;
-        assert_eq!(rt; stacks.nodes().get(number).map(|node| node.frame), Some(top));
+        assert_eq!(rt;
+            stacks.nodes().get(number).map(|node| node.frame),
+            Some(top)
+        );
     }
     assert_eq!(rt; frames.first(), Some(&top));
     assert_eq!(rt; depth, 1000);
@@ -369,7 +372,10 @@ fn are_at(told: &Choices, at: usize, ends: &[End], joins: &[Join]) -> bool {
     let mut more_ends = ends.iter().filter(|end| end.at as usize == at);
     let mut more_joins = joins.iter().filter(|join| join.at as usize == at);
     let same_ends = told.ends.iter().all(|end| more_ends.next() == Some(end));
-    let same_joins = told.joins.iter().all(|join| more_joins.next() == Some(join));
+    let same_joins = told
+        .joins
+        .iter()
+        .all(|join| more_joins.next() == Some(join));
     same_ends && same_joins && more_ends.next().is_none() && more_joins.next().is_none()
 }
 
