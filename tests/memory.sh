@@ -1,8 +1,9 @@
 #!/usr/bin/env bash
 # Refuses each request for memory in turn, over the built programs. Whatever is refused, spprof ends with status 4,
 # nothing on standard output and the line `out of memory`, or with the answer that it gives when nothing is refused.
-# The probe calls each function that allocates twice: one answer at most becomes `Memory`, and no other changes.
-# The table by way of parts is the right one, or there is none.
+# The probe calls the functions that allocate and that commands stand on, each twice: one answer at most becomes
+# `Memory`, and no other changes. The table by way of parts, for which there is no command, is the right one or there is
+# none.
 # usage: tests/memory.sh SPPROF PROBE PARTS_PRINTER
 set -u
 spprof=$1
