@@ -171,7 +171,7 @@ judge 'tables of a million children' 0 "name,*${lf}(root),1,0,1,5000000,5,1,5000
 (ulimit -v 500000 && timeout 30 "$parts_printer" 65536 < "$folder/nested" > "$folder/out" 2> "$folder/err")
 status=$?
 judge 'rows of a million nested calls in parts' 0 "(root),1,0,1,5,5,1,5,5${lf}A,1000000,5,1,5,5,1,5,5$lf" 'survey *'
-# The same frames left open are told, and the memory for them is given back.
+# The same frames left open, in a trace that ends within them, end as a bad event.
 head -c 1000000 "$folder/nested" > "$folder/open"
 expect 'figures of frames left open' 1 '' "bad event *: truncated$lf" "$folder/open" figures
 

@@ -4,16 +4,19 @@
 
 ghost use Rattle.std.specs.Prelude.{◌≡◌};
 
+use spp_command_line::read_request;
+use spp_cut::Parts;
+use spp_dag::Figures;
 use spp_event::{HeaderFault, open_trace};
-use spp_frame::check;
+use spp_frame::{ProfileFault, check};
 use spp_maxplus::Burdens;
-use spp_piece::{Figures, FiguresFault, figures_in_parts};
-use spp_reference::{ReferenceFault, profile};
+use spp_reference::profile;
 use spp_report::{Named, OutSink, csv_text, figures_text, plain_text};
-use spp_request::{Command, Parts, Request, UsageFault, read_request};
-use spp_serial::{Profile, ProfileFault, figures_serial, profile_serial};
+use spp_request::{Command, Request, UsageFault};
+use spp_serial::profile_serial;
 use spp_shell::{InSource, ReadFault, read_all, read_within, run};
-use spp_site::Table;
+use spp_site::{Profile, Table};
+use spp_summary::figures_in_parts;
 use spp_text::{PrintFault, TextFault, TextWhy, parse_text, print_text};
 use std::alloc::Global;
 use std::io;
@@ -113,7 +116,7 @@ fn profiled(alloc: Global) -> Answer {
         Err(HeaderFault::Memory) => return Answer::Memory,
         Err(_) => return Answer::Other,
     };
-    match profile_serial(alloc, &trace, 3) {
+    match profile_serial(alloc, &trace, Burdens::equal(3)) {
         Ok(profile) if profile.dag.row(0).count == 1 => Answer::Good,
         Err(ProfileFault::Memory) => Answer::Memory,
         _ => Answer::Other,
@@ -169,30 +172,17 @@ fn reported(alloc: Global) -> Answer {
     }
 }
 
-/// The figures of the nested trace.
-fn measured(alloc: Global) -> Answer {
-    let trace = match open_trace(alloc, NESTED) {
-        Ok(trace) => trace,
-        Err(HeaderFault::Memory) => return Answer::Memory,
-        Err(_) => return Answer::Other,
-    };
-    match figures_serial(alloc, &trace, 3) {
-        Ok(figures) if figures.burdened == 0 => Answer::Good,
-        Err(ProfileFault::Memory) => Answer::Memory,
-        _ => Answer::Other,
-    }
-}
-
-/// The same by way of a part for each of its two events.
+/// The figures of the nested trace, by way of a part for each of its two events.
 fn measured_in_parts(alloc: Global) -> Answer {
     let trace = match open_trace(alloc, NESTED) {
         Ok(trace) => trace,
         Err(HeaderFault::Memory) => return Answer::Memory,
         Err(_) => return Answer::Other,
     };
-    match figures_in_parts(alloc, &trace, 3, 2) {
+    let parts = Parts::new(2).unwrap_or_default();
+    match figures_in_parts(alloc, &trace, Burdens::equal(3), parts) {
         Ok(figures) if figures.burdened == 0 => Answer::Good,
-        Err(FiguresFault::Memory) => Answer::Memory,
+        Err(ProfileFault::Memory) => Answer::Memory,
         _ => Answer::Other,
     }
 }
@@ -216,9 +206,9 @@ fn referred(alloc: Global) -> Answer {
         Err(HeaderFault::Memory) => return Answer::Memory,
         Err(_) => return Answer::Other,
     };
-    match profile(alloc, &trace, Burdens::both(3)) {
+    match profile(alloc, &trace, Burdens::equal(3)) {
         Ok(told) if told.path.as_slice() == [0, 1, 2].as_slice() => Answer::Good,
-        Err(ReferenceFault::Memory) => Answer::Memory,
+        Err(ProfileFault::Memory) => Answer::Memory,
         _ => Answer::Other,
     }
 }
@@ -298,7 +288,6 @@ fn main(rt: HostRuntime) -> io::Result<()> {
         println!(rt; "print_text: {:?}", printed(alloc))?;
         println!(rt; "parse_text: {:?}", parsed(alloc))?;
         println!(rt; "parse_text, a fault: {:?}", misparsed(alloc))?;
-        println!(rt; "figures_serial: {:?}", measured(alloc))?;
         println!(rt; "figures_in_parts: {:?}", measured_in_parts(alloc))?;
         println!(rt; "profile_serial: {:?}", profiled(alloc))?;
         println!(rt; "csv_text: {:?}", summed(alloc))?;

@@ -3,7 +3,7 @@
 //! is told on standard error.
 #![tactic(auto)]
 
-use spp_cut::cut_even;
+use spp_cut::{Parts, cut_even};
 use spp_dag::Row;
 use spp_event::{Trace, open_trace};
 use spp_maxplus::Burdens;
@@ -32,10 +32,7 @@ struct Timed {
 /// The rows of a trace by so many parts; none where that number isn't allowed, the trace isn't well-formed, or no
 /// memory was left.
 fn measured<R: Clock>(rt: &R, alloc: Global, trace: &Trace<'_>, parts: u32) -> Option<Timed> {
-    if parts == 0 || parts > 65536 {
-        return None;
-    }
-    let cut = cut_even(alloc, trace, parts).ok()?;
+    let cut = cut_even(alloc, trace, Parts::new(parts)?).ok()?;
     let count = cut.parts().len();
     if count == 0 || count > 65536 {
         return None;

@@ -4,13 +4,12 @@
 //! parts of one event, that is told.
 #![tactic(auto)]
 
-use spp_cut::cut_even;
-use spp_dag::Row;
+use spp_cut::{Parts, cut_even};
+use spp_dag::{Figures, Row};
 use spp_event::open_trace;
 use spp_maxplus::Burdens;
 use spp_parts::table_in_parts;
-use spp_piece::Figures;
-use spp_reference::{Reference, Table, profile};
+use spp_reference::{Reference, SiteRows, profile};
 use spp_serial::profile_serial;
 use spp_shell::{InSource, read_all};
 use spp_text::parse_text;
@@ -23,8 +22,8 @@ const BURDEN: u32 = 3;
 
 /// The burdens of the second.
 const BURDENS: Burdens = Burdens {
-    on_continuation: 2,
-    on_return: 7,
+    continuation: 2,
+    join: 7,
 };
 
 /// The profile of the trace that the text names, with these burdens; none where there isn't one.
@@ -36,7 +35,7 @@ fn profiled(alloc: Global, text: &str, burdens: Burdens) -> Option<Reference> {
 
 /// Whether a table of a profiler has the rows that were told, the root's and one for each of so many
 /// sites.
-fn has_rows(table: &spp_site::Table, told: &Table, sites: u32) -> bool {
+fn has_rows(table: &spp_site::Table, told: &SiteRows, sites: u32) -> bool {
     let mut same = table.root_row() == told.root;
     for site in 0..sites {
         let row = told.sites.get(site as usize).copied();
@@ -50,7 +49,7 @@ fn has_rows(table: &spp_site::Table, told: &Table, sites: u32) -> bool {
 fn is_confirmed(alloc: Global, text: &str, told: &Reference, burden: u32) -> Option<bool> {
     let bytes = parse_text(alloc, text).ok()?;
     let trace = open_trace(alloc, bytes.as_slice()).ok()?;
-    let serial = profile_serial(alloc, &trace, burden).ok()?;
+    let serial = profile_serial(alloc, &trace, Burdens::equal(burden)).ok()?;
     let figures = Figures {
         work: told.work,
         span: told.span,
@@ -66,7 +65,8 @@ fn is_confirmed(alloc: Global, text: &str, told: &Reference, burden: u32) -> Opt
 fn is_confirmed_by_parts(alloc: Global, text: &str, told: &Reference) -> Option<bool> {
     let bytes = parse_text(alloc, text).ok()?;
     let trace = open_trace(alloc, bytes.as_slice()).ok()?;
-    let cut = cut_even(alloc, &trace, trace.count().clamp(1, 65536)).ok()?;
+    let parts = Parts::new(trace.count().clamp(1, Parts::MOST))?;
+    let cut = cut_even(alloc, &trace, parts).ok()?;
     let count = cut.parts().len();
     if count == 0 || count > 65536 {
         return None;
@@ -89,7 +89,7 @@ fn print_row(rt: &impl Print, row: &Row) -> io::Result<()> {
     )
 }
 
-fn print_table(rt: &impl Print, name: &str, table: &Table) -> io::Result<()> {
+fn print_table(rt: &impl Print, name: &str, table: &SiteRows) -> io::Result<()> {
     print!(rt; "{name}, root: ")?;
     print_row(rt, &table.root)?;
     for (site, row) in table.sites.iter().enumerate() {
@@ -134,7 +134,7 @@ fn main(rt: HostRuntime) -> io::Result<ExitCode> {
         };
         rest = others;
         println!(rt; "trace {number}")?;
-        let one = profiled(alloc, text, Burdens::both(BURDEN));
+        let one = profiled(alloc, text, Burdens::equal(BURDEN));
         let other = profiled(alloc, text, BURDENS);
         match (one, other) {
             (Some(one), Some(other)) => {

@@ -4,7 +4,7 @@ use Rattle.std.specs.List.{flat_map}
 use Rattle.std.proofs.lemmas.List.{drop-drop}
 use Rattle.std.proofs.lemmas.List.Concat.{flat_map-cons}
 use Rattle.std.proofs.Math.Seq.{take-add, take-length}
-use Rattle.spp_event.specs.Recordings.{Record, Recording}
+use Rattle.spp_event.specs.Recordings.{Recording}
 use Rattle.spp_cut.specs.Parts.{PartOf, CutOf, records_in, Cover, IsCut}
 
 -- a range doesn't end before it begins

@@ -7,6 +7,7 @@ ghost use Rattle.spp_cut.specs.Texts.{cut_fault_text};
 ghost use Rattle.spp_cut.specs.declared.cutting.CutFault.TheVariants.{Memory as MemoryFault};
 
 use crate::part::Part;
+use crate::parts::Parts;
 use spp_event::Trace;
 use std::alloc::{AllocError, Global};
 use std::error::Error;
@@ -115,7 +116,7 @@ fn push_part<'t, 'a>(
     Ok(())
 }
 
-/// Cuts a trace of E events into `parts` parts of about the same size: part k begins at k * E / `parts`, rounded down.
+/// Cuts a trace of E events into so many parts of about the same size: part k of n begins at k * E / n, rounded down.
 /// Some have no event where there are more parts than events. It takes time and memory linear in the number of parts.
 ///
 /// # Errors
@@ -124,19 +125,18 @@ fn push_part<'t, 'a>(
 pub fn cut_even<'t, 'a>(
     alloc: Global,
     trace: &'t Trace<'a>,
-    parts: u32,
+    parts: Parts,
 ) -> Result<Cut<'t, 'a>, AllocError>
-    requires some { 0 < parts }
-    requires few { parts ≤ 65536 }
     ensures trace { IfOk result (λ c. c.trace ≡ trace.now) }
     ensures cut { IfOk result IsCut }
     ensures even { IfOk result (λ c. AreEven (length trace.now.records) parts c.parts) }
 {
     let events = trace.count();
-    let mut cut = Vec::with_capacity(alloc, parts as usize)?;
+    let count = parts.number();
+    let mut cut = Vec::with_capacity(alloc, count as usize)?;
     let mut first = 0;
-    for number in 0..parts {
-        let end = (u64::from(number + 1) * u64::from(events) / u64::from(parts)) as u32;
+    for number in 0..count {
+        let end = (u64::from(number + 1) * u64::from(events) / u64::from(count)) as u32;
         push_part(&mut cut, trace, number, first, end)?;
         first = end;
     }

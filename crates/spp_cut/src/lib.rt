@@ -3,9 +3,11 @@
 
 mod cutting;
 mod part;
+mod parts;
 
 pub use cutting::{Cut, CutFault, cut_at, cut_even};
 pub use part::Part;
+pub use parts::Parts;
 
 #[cfg(test)]
 mod tests;

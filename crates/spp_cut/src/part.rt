@@ -1,8 +1,8 @@
 //! A part of a trace.
 
-ghost use Rattle.std.specs.Prelude.{◌≡◌, ◌+◌, ◌<◌, ◌≤◌, length, IfOk};
+ghost use Rattle.std.specs.Prelude.{◌≡◌, ◌+◌, ◌<◌, ◌≤◌, length, IfOk, IsOk, Ok};
 ghost use Rattle.spp_event.specs.Records.{IsEventOf};
-ghost use Rattle.spp_event.specs.Recordings.{record_at};
+ghost use Rattle.spp_event.specs.Recordings.{InLimits, AreEventsOf, record_at};
 
 use spp_event::{Event, EventFault, Trace};
 use std::marker::Model;
@@ -19,22 +19,25 @@ pub struct Part<'t, 'a> {
 }
 
 impl<'t, 'a> Model for Part<'t, 'a> {
-    ghost use Rattle.std.specs.Prelude.{◌+◌, ◌≤◌, length};
+    ghost use Rattle.std.specs.Prelude.{◌+◌, ◌<◌, ◌≤◌, ◌^◌, length};
     ghost use Rattle.spp_cut.specs.Parts.{PartOf};
 
     ghost Value = { PartOf };
 
     ghost view = { λ p. record { trace = p.trace.now; number = p.number; first = p.first; count = p.count } };
 
-    ghost invariant = { λ p. p.first + p.count ≤ length p.trace.now.records };
+    ghost invariant = { λ p. (p.first + p.count ≤ length p.trace.now.records) × (p.first + p.count < 2 ^ 32) };
 }
 
 impl<'t, 'a> Part<'t, 'a> {
-    /// The trace that it is a part of.
-    pub fn trace(&self) -> &'t Trace<'a>
-        ensures { result.now ≡ self.now.trace }
+    /// What every part keeps: its events stand in its trace. The trace keeps to the limits of a trace, and each good
+    /// record in it is an event of its sites and functions. Its contract is what it is for.
+    pub fn keeps_limits(&self)
+        ensures within { self.now.first + self.now.count ≤ length self.now.trace.records }
+        ensures limits { InLimits self.now.trace }
+        ensures events { AreEventsOf (length self.now.trace.sites) (length self.now.trace.funcs) self.now.trace.records }
     {
-        self.trace
+        self.trace.keeps_limits();
     }
 
     /// How many parts of its cut come before it.
@@ -51,10 +54,9 @@ impl<'t, 'a> Part<'t, 'a> {
         self.first
     }
 
-    /// How many events it has. Its clause `within` gives out that they are events of the trace.
+    /// How many events it has.
     pub fn count(&self) -> u32
-        ensures count { result ≡ self.now.count }
-        ensures within { self.now.first + self.now.count ≤ length self.now.trace.records }
+        ensures { result ≡ self.now.count }
     {
         self.count
     }
@@ -64,13 +66,24 @@ impl<'t, 'a> Part<'t, 'a> {
     /// # Errors
     ///
     /// The first fault of the record, in the order of [`EventFault`].
+    #[inline(always)]
     pub fn event_at(&self, k: u32) -> Result<Event, EventFault>
         requires { k < self.now.count }
         ensures said { result ≡ record_at self.now.trace.records (self.now.first + k) }
         ensures within { IfOk result (λ e. IsEventOf (length self.now.trace.sites) (length self.now.trace.funcs) e) }
     {
-        // Its clauses tell that positions fit.
-        let _count = self.trace.count();
         self.trace.event_at(self.first + k)
+    }
+
+    /// The event at `k` among its events, where one is known to stand: what its tag and its numbers say. It leaves out
+    /// the tests that [`Part::event_at`] makes.
+    #[inline(always)]
+    pub fn known_event(&self, k: u32) -> Event
+        requires inside { k < self.now.count }
+        requires good { IsOk (record_at self.now.trace.records (self.now.first + k)) }
+        ensures said { record_at self.now.trace.records (self.now.first + k) ≡ Ok result }
+        ensures within { IsEventOf (length self.now.trace.sites) (length self.now.trace.funcs) result }
+    {
+        self.trace.known_event(self.first + k)
     }
 }

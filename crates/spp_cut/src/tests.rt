@@ -1,6 +1,4 @@
-ghost use Rattle.std.specs.Prelude.{◌<◌, ◌≤◌};
-
-use crate::{CutFault, cut_at, cut_even};
+use crate::{CutFault, Parts, cut_at, cut_even};
 use spp_event::{Event, open_trace, record_of};
 use std::alloc::{AllocError, Global};
 use std::test::Fail;
@@ -18,10 +16,10 @@ fn seven_strands(alloc: Global) -> Result<Vec<u8>, AllocError> {
 }
 
 /// Whether so many even parts of the seven have these numbers of events.
-fn is_even_cut(alloc: Global, parts: u32, counts: &[u32]) -> Result<bool, AllocError>
-    requires some { 0 < parts }
-    requires few { parts ≤ 65536 }
-{
+fn is_even_cut(alloc: Global, parts: u32, counts: &[u32]) -> Result<bool, AllocError> {
+    let Some(parts) = Parts::new(parts) else {
+        return Ok(false);
+    };
     let bytes = seven_strands(alloc)?;
     let Ok(trace) = open_trace(alloc, bytes.as_slice()) else {
         return Ok(false);
@@ -96,6 +94,14 @@ fn even_parts_differ_by_one_event_at_most(rt: HostRuntime) -> Result<(), Fail> {
     assert!(rt; is_even_cut(rt.alloc(), 3, &[2, 2, 3])?);
     assert!(rt; is_even_cut(rt.alloc(), 10, &[0, 1, 1, 0, 1, 1, 0, 1, 1, 1])?);
     Ok(())
+}
+
+#[test]
+fn a_number_of_parts_has_bounds(rt: HostRuntime) {
+    assert!(rt; Parts::new(0).is_none() && Parts::new(65537).is_none());
+    assert_eq!(rt; Parts::new(1).map(Parts::number), Some(1));
+    assert_eq!(rt; Parts::new(Parts::MOST).map(Parts::number), Some(65536));
+    assert_eq!(rt; Parts::default().number(), 16);
 }
 
 #[test]

@@ -104,7 +104,7 @@ module _ (es : List Event) (burdens : Burdens) where
 
   -- an edge leads on, and bears no more than both burdens
   abbrev pub Forward : ℕ → ℕ → ℕ → Type 0
-  Forward u v c = (u < v) × (c ≤ burdens.on_continuation + burdens.on_return)
+  Forward u v c = (u < v) × (c ≤ burdens.continuation + burdens.join)
 
   back_forward : (b : Bool) (o u v c : ℕ) → u ≤ partner es o → EdgeBack es burdens b o u v c → Forward u v c
   back_forward true o u v c l e = let j = join_after o in (omega (arith, e.0), (let z = e.1 in omega arith))
@@ -125,7 +125,7 @@ module _ (es : List Event) (burdens : Burdens) where
 
   -- what a position and its edges can add to a walk
   abbrev most_at : ℕ → ℕ
-  most_at k = weight es k + (burdens.on_continuation + burdens.on_return)
+  most_at k = weight es k + (burdens.continuation + burdens.join)
 
   -- no walk weighs more than what it spans
   walk_le : (rest : List ℕ) (x y w : ℕ) → Walk es burdens x rest y w → w + sum_below most_at x ≤ sum_below most_at (suc y)
@@ -263,16 +263,16 @@ split_sum : (f : ℕ → ℕ) (c n : ℕ) → sum_below (λ k. f k + c) n ≡ su
 split_sum f c zero = omega arith
 split_sum f c (suc n) = let a = split_sum f c n in let e : suc n * c ≡ n * c + c = grind arith in omega arith
 
-few_burdens : (burdens : Burdens) → AreSmall burdens → (n : ℕ) → n ≤ 268435457 → n * (burdens.on_continuation + burdens.on_return) ≤ 2305843017803628544
+few_burdens : (burdens : Burdens) → AreSmall burdens → (n : ℕ) → n ≤ 268435457 → n * (burdens.continuation + burdens.join) ≤ 2305843017803628544
 few_burdens burdens s n l =
-    let a : burdens.on_continuation + burdens.on_return ≤ 8589934592 = (let x = s.on_continuation in let y = s.on_return in omega arith) in
-    let b : n * (burdens.on_continuation + burdens.on_return) ≤ n * 8589934592 = mul-le-mul_left n a in
+    let a : burdens.continuation + burdens.join ≤ 8589934592 = (let x = s.continuation in let y = s.join in omega arith) in
+    let b : n * (burdens.continuation + burdens.join) ≤ n * 8589934592 = mul-le-mul_left n a in
     omega arith
 
 pub walk_fits : WalkFits
 walk_fits es small burdens s x y w rest l t =
     let h = walk_le es burdens rest x y w t in
-    let a = split_sum (weight es) (burdens.on_continuation + burdens.on_return) (suc y) in
+    let a = split_sum (weight es) (burdens.continuation + burdens.join) (suc y) in
     let b = weights_le es small (suc y) (omega arith) in
     let c = few_burdens burdens s (suc y) (omega (arith, small.events)) in
     omega arith
@@ -353,13 +353,13 @@ pub stack_fits : StackFits
 stack_fits es wf small burdens s k fs l t =
     let h = same_stack es wf burdens k l fs t in
     let a : closes_of (map plain_frame fs) ≡ closes_of (stack es 1 (λ _. 0) (λ _. 0) k) = ap closes_of h.plain in
-    let b : closes_of (map burdened_frame fs) ≡ closes_of (stack es 1 (λ _. burdens.on_continuation) (λ _. burdens.on_return) k) = ap closes_of h.burdened in
+    let b : closes_of (map burdened_frame fs) ≡ closes_of (stack es 1 (λ _. burdens.continuation) (λ _. burdens.join) k) = ap closes_of h.burdened in
     let c = plain_is fs in
     let d = burdened_is fs in
     let e = stack_bounded es 0 0 k in
-    let f = stack_bounded es burdens.on_continuation burdens.on_return k in
+    let f = stack_bounded es burdens.continuation burdens.join k in
     let w = weights_le es small k (omega arith) in
     let x = sum_below_same (λ i. 0) 0 k (λ i. let z : 0 ≤ 0 = omega arith in z) in
-    let y = sum_below_same (λ i. burdens.on_continuation + burdens.on_return) (burdens.on_continuation + burdens.on_return) k (λ i. let z : burdens.on_continuation + burdens.on_return ≤ burdens.on_continuation + burdens.on_return = omega arith in z) in
+    let y = sum_below_same (λ i. burdens.continuation + burdens.join) (burdens.continuation + burdens.join) k (λ i. let z : burdens.continuation + burdens.join ≤ burdens.continuation + burdens.join = omega arith in z) in
     let g = few_burdens burdens s k (omega (arith, small.events)) in
     (omega arith, omega arith)

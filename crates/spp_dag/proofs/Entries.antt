@@ -40,7 +40,7 @@ taken_is_choice es wf burdens k n top t = (plain (taken top.plain) refl, burdene
 pub child_is_waited : ChildIsWaited
 child_is_waited es wf burdens k n top t =
     let h = shape es 1 (λ _. 0) (λ _. 0) wf k n.0 in
-    let g = shape es 1 (λ _. burdens.on_continuation) (λ _. burdens.on_return) wf k n.0 in (
+    let g = shape es 1 (λ _. burdens.continuation) (λ _. burdens.join) wf k n.0 in (
       subst (λ f. IsWaited es k f.state.child) (sym (plain_top es wf burdens k n.0 top t h)) (child_waited es wf unburdened k n.0 n.1 h),
       subst (λ f. IsWaited es k f.state.child) (sym (burdened_top es wf burdens k n.0 top t g)) (child_waited es wf burdens k n.0 n.1 g),
     )

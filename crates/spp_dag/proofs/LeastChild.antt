@@ -24,10 +24,10 @@ before_after (p ∷ ps) as' bs b = inr (refl, before_after ps as' bs b)
 
 module _ (es : List Event) (wf : IsWellFormed es) (burdens : Burdens) where
   abbrev Go : ℕ → List ℕ → ℕ → ℕ → Type 0
-  Go = Trail es 1 (none es) (λ _. burdens.on_continuation) (λ _. burdens.on_return)
+  Go = Trail es 1 (none es) (λ _. burdens.continuation) (λ _. burdens.join)
 
   abbrev Cut : ℕ → ℕ → ℕ → List ℕ → ℕ → Type 0
-  Cut = Split es wf 1 (none es) (λ _. burdens.on_continuation) (λ _. burdens.on_return)
+  Cut = Split es wf 1 (none es) (λ _. burdens.continuation) (λ _. burdens.join)
 
   -- a child of the frame that is waited for at s, where another is spawned, joins where that one does
   same_join : (s t : ℕ) → spawns (event_at es s) ≡ true → spawns (event_at es t) ≡ true → owner es t ≡ owner es s → partner es t < s → s < join es t → join es t ≡ join es s
@@ -64,7 +64,7 @@ module _ (es : List Event) (wf : IsWellFormed es) (burdens : Burdens) where
   steps s y v [] t l g = absurd (omega (arith, g.0))
   steps s y v (u ∷ ps) t l g = by (event_at es s) refl t g.2
     where
-      by : (e : Option Event) → event_at es s ≡ e → spawns e ≡ true → StepOf es 1 (none es) (λ _. burdens.on_continuation) (λ _. burdens.on_return) e s u g.0
+      by : (e : Option Event) → event_at es s ≡ e → spawns e ≡ true → StepOf es 1 (none es) (λ _. burdens.continuation) (λ _. burdens.join) e s u g.0
           → ((rest : List ℕ) × (u ∷ ps ≡ suc s ∷ rest)) ⊎ ((rest : List ℕ) × (u ∷ ps ≡ suc (partner es s) ∷ rest) × ((i : ℕ) → s < i → i ≤ partner es s → On s (u ∷ ps) i → ⊥))
       by None q h x = cc
       by (Some (Strand n)) q h x = cc
@@ -75,7 +75,7 @@ module _ (es : List Event) (wf : IsWellFormed es) (burdens : Burdens) where
         ap (λ k. k ∷ ps) x.0,
         λ i m n on. elim on [
           | inl z ↦ absurd (omega arith)
-          | inr z ↦ absurd (let b = on_bounds es wf 1 (none es) (λ _. burdens.on_continuation) (λ _. burdens.on_return) u y i g.1 ps g.3 z in omega (arith, x.0, b.0))
+          | inr z ↦ absurd (let b = on_bounds es wf 1 (none es) (λ _. burdens.continuation) (λ _. burdens.join) u y i g.1 ps g.3 z in omega (arith, x.0, b.0))
         ],
       )
       by (Some Ret) q h x = cc
@@ -84,8 +84,8 @@ module _ (es : List Event) (wf : IsWellFormed es) (burdens : Burdens) where
   -- the walk passes the spawn of each child that it enters
   passes_spawn : (x y v s : ℕ) (ps : List ℕ) → opens (event_at es s) ≡ true → x ≤ s → Go x ps y v → On x ps (suc s) → On x ps s
   passes_spawn x y v s ps t l g on =
-      let co : ℕ → ℕ = λ _. burdens.on_continuation in
-      let re : ℕ → ℕ = λ _. burdens.on_return in
+      let co : ℕ → ℕ = λ _. burdens.continuation in
+      let re : ℕ → ℕ = λ _. burdens.join in
       let c = split_at es wf 1 (none es) co re x (suc s) y ps v g on in
       let after : s < partner es s = (closed es wf s t).after in
       let p = passes_opening es wf 1 (none es) co re x (suc s) c.first s c.before c.left t l (omega arith) after in
@@ -95,8 +95,8 @@ module _ (es : List Event) (wf : IsWellFormed es) (burdens : Burdens) where
   enters : (f k s w : ℕ) (qs rs : List ℕ) → spawns (event_at es s) ≡ true → s < k
       → (p : IsPath es burdens f k qs) → Walk es burdens f rs k w → AtMost es burdens f k w → f ≤ s → On f qs s → On f rs (suc s) → On f qs (suc s)
   enters f k s w qs rs t l p r most le onq onr =
-      let co : ℕ → ℕ = λ _. burdens.on_continuation in
-      let re : ℕ → ℕ = λ _. burdens.on_return in
+      let co : ℕ → ℕ = λ _. burdens.continuation in
+      let re : ℕ → ℕ = λ _. burdens.join in
       let gq = trail_of es burdens f k p.0 qs p.1 in
       let gr = trail_of es burdens f k w rs r in
       let ons = passes_spawn f k w s rs (spawns_opens (event_at es s) t) le gr onr in
@@ -119,7 +119,7 @@ module _ (es : List Event) (wf : IsWellFormed es) (burdens : Burdens) where
           → On f qs (suc s)
       by cq cr order (inl h) other =
           let on : On s cq.after (suc s) = subst (λ l. On s l (suc s)) (sym h.1) (inr (head (suc s) h.0)) in
-          subst (λ l. On f l (suc s)) (sym cq.is) (on_right es wf 1 (none es) (λ _. burdens.on_continuation) (λ _. burdens.on_return) f s (suc s) cq.first cq.before cq.after cq.left on)
+          subst (λ l. On f l (suc s)) (sym cq.is) (on_right es wf 1 (none es) (λ _. burdens.continuation) (λ _. burdens.join) f s (suc s) cq.first cq.before cq.after cq.left on)
         where
           head : (x : ℕ) (l : List ℕ) → On x l x
           head x [] = refl
@@ -135,8 +135,8 @@ module _ (es : List Event) (wf : IsWellFormed es) (burdens : Burdens) where
       by cq cr order (inr g) (inr h) =
           let after : s < partner es s = (closed es wf s (spawns_opens (event_at es s) t)).after in
           let gr = trail_of es burdens f k w rs r in
-          let co : ℕ → ℕ = λ _. burdens.on_continuation in
-          let re : ℕ → ℕ = λ _. burdens.on_return in
+          let co : ℕ → ℕ = λ _. burdens.continuation in
+          let re : ℕ → ℕ = λ _. burdens.join in
           elim (on_either es wf 1 (none es) co re f s (suc s) cr.first cr.before cr.after cr.left (subst (λ l. On f l (suc s)) cr.is onr)) [
             | inl z ↦ absurd (let b = on_bounds es wf 1 (none es) co re f s (suc s) cr.first cr.before cr.left z in omega (arith, b.1))
             | inr z ↦ absurd (h.2 (suc s) (omega arith) (omega arith) z)
@@ -152,7 +152,7 @@ path_takes_least es wf burdens k l qs p s j rs w r most on =
     let low : s < k = omega (arith, j.1) in
     let inside : s ≤ length es = omega arith in
     let le : owner es k ≤ s = (let z = owner_le es wf s inside in omega (arith, j.2)) in
-    let g = to_won es wf burdens.on_continuation burdens.on_return (owner es k) k p.0 qs (trail_of es burdens (owner es k) k p.0 qs p.1) in
+    let g = to_won es wf burdens.continuation burdens.join (owner es k) k p.0 qs (trail_of es burdens (owner es k) k p.0 qs p.1) in
     elim (passes_or_skips es wf burdens (owner es k) k _ s qs g inside (omega (arith, j.2)) le (omega arith)) [
       | inl x ↦ (s, omega arith, j, enters es wf burdens (owner es k) k s w qs rs t low p r most le x on)
       | inr x ↦
@@ -161,8 +161,8 @@ path_takes_least es wf burdens k l qs p s j rs w r most on =
           let au : u < partner es u = (closed es wf u ou).after in
           let b : partner es u < s = x.3 in
           let same = same_join es wf burdens s u t x.1 x.2 b x.4 in
-          let co : ℕ → ℕ = λ _. burdens.on_continuation in
-          let re : ℕ → ℕ = λ _. burdens.on_return in
+          let co : ℕ → ℕ = λ _. burdens.continuation in
+          let re : ℕ → ℕ = λ _. burdens.join in
           let trail = trail_of es burdens (owner es k) k p.0 qs p.1 in
           let c = split_at es wf 1 (none es) co re (owner es k) (partner es u) k qs p.0 trail x.5 in
           let lu : owner es k ≤ u = (let z = owner_le es wf u (let y : u ≤ length es = omega arith in y) in omega (arith, j.2, x.2)) in
@@ -172,8 +172,8 @@ path_takes_least es wf burdens k l qs p s j rs w r most on =
 
 pub walks_ordered : WalksAreOrdered
 walks_ordered es wf burdens x y v w ps qs s t =
-    let co : ℕ → ℕ = λ _. burdens.on_continuation in
-    let re : ℕ → ℕ = λ _. burdens.on_return in
+    let co : ℕ → ℕ = λ _. burdens.continuation in
+    let re : ℕ → ℕ = λ _. burdens.join in
     elim (one_enters es wf 1 (λ _. 0) co re x y v w ps qs (trail_of es burdens x y v ps s) (trail_of es burdens x y w qs t)) [
       | inl e ↦ inl e
       | inr e ↦ elim e [

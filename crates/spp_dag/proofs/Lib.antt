@@ -9,7 +9,7 @@ pub mod Span
 pub mod Parting
 pub mod Crossing
 pub mod Ties
-pub mod Choices
+pub mod ChoicesOfPaths
 pub mod PathLaws
 pub mod LeastChild
 pub mod Runs
@@ -27,3 +27,6 @@ pub mod StepsFrames
 pub mod Steps
 pub mod StepsShares
 pub mod WorkedRows
+pub mod EventsOfRecords
+pub mod JoinPlaces
+pub mod OpenEntries

@@ -14,14 +14,14 @@ use Rattle.spp_dag.proofs.Bounds.{edge_forward, partner_after}
 -- the edges out of u, with what each bears, the least target first
 abbrev pub out_return : List Event → Burdens → ℕ → ℕ → List (ℕ × ℕ)
 out_return es b u zero = []
-out_return es b u (suc o) = elim (is_spawned es (suc o)) [ true ↦ (join es o, b.on_return) ∷ [] | false ↦ (suc u, 0) ∷ [] ]
+out_return es b u (suc o) = elim (is_spawned es (suc o)) [ true ↦ (join es o, b.join) ∷ [] | false ↦ (suc u, 0) ∷ [] ]
 
 abbrev pub out_of : List Event → Burdens → ℕ → Option Event → List (ℕ × ℕ)
 out_of es b u None = []
 out_of es b u (Some (Strand n)) = (suc u, 0) ∷ []
 out_of es b u (Some (Call s f)) = (suc u, 0) ∷ []
 out_of es b u (Some Sync) = (suc u, 0) ∷ []
-out_of es b u (Some (Spawn s f)) = (suc u, 0) ∷ (suc (partner es u), b.on_continuation) ∷ []
+out_of es b u (Some (Spawn s f)) = (suc u, 0) ∷ (suc (partner es u), b.continuation) ∷ []
 out_of es b u (Some Ret) = out_return es b u (owner es u)
 
 -- all walks of at most n steps from x to y, as positions after x and the weight, in dictionary order
@@ -167,11 +167,11 @@ sorted_through f a (e ∷ es) r s = sorted_both e.0 (a + e.1) (f e.0) (through_a
 -- ---- the list has all walks, in order
 
 module _ (es : List Event) (b : Burdens) where
-  back_in : (t : Bool) (o u v c : ℕ) → EdgeBack es b t o u v c → EdgeIn v c (elim t [ true ↦ (join es o, b.on_return) ∷ [] | false ↦ (suc u, 0) ∷ [] ])
+  back_in : (t : Bool) (o u v c : ℕ) → EdgeBack es b t o u v c → EdgeIn v c (elim t [ true ↦ (join es o, b.join) ∷ [] | false ↦ (suc u, 0) ∷ [] ])
   back_in true o u v c h = inl h
   back_in false o u v c h = inl h
 
-  in_back : (t : Bool) (o u v c : ℕ) → EdgeIn v c (elim t [ true ↦ (join es o, b.on_return) ∷ [] | false ↦ (suc u, 0) ∷ [] ]) → EdgeBack es b t o u v c
+  in_back : (t : Bool) (o u v c : ℕ) → EdgeIn v c (elim t [ true ↦ (join es o, b.join) ∷ [] | false ↦ (suc u, 0) ∷ [] ]) → EdgeBack es b t o u v c
   in_back true o u v c (inl h) = h
   in_back true o u v c (inr h) = absurd h
   in_back false o u v c (inl h) = h
@@ -203,11 +203,11 @@ module _ (es : List Event) (b : Burdens) where
   in_edge (Some (Strand n)) u v c h = only v c (suc u) 0 h
   in_edge (Some (Call s f)) u v c h = only v c (suc u) 0 h
   in_edge (Some (Spawn s f)) u v c (inl h) = inl h
-  in_edge (Some (Spawn s f)) u v c (inr h) = inr (only v c (suc (partner es u)) b.on_continuation h)
+  in_edge (Some (Spawn s f)) u v c (inr h) = inr (only v c (suc (partner es u)) b.continuation h)
   in_edge (Some Ret) u v c h = in_return (owner es u) u v c h
   in_edge (Some Sync) u v c h = only v c (suc u) 0 h
 
-  rising_back : (t : Bool) (o u : ℕ) → Rising (elim t [ true ↦ (join es o, b.on_return) ∷ [] | false ↦ (suc u, 0) ∷ [] ])
+  rising_back : (t : Bool) (o u : ℕ) → Rising (elim t [ true ↦ (join es o, b.join) ∷ [] | false ↦ (suc u, 0) ∷ [] ])
   rising_back true o u = (tt, tt)
   rising_back false o u = (tt, tt)
 

@@ -26,7 +26,7 @@ on_sync f = record { first = f.first; state = after_sync f.state }
 module _ (es : List Event) (scale : ℕ) (go back : ℕ → ℕ) where
   -- what the edges of the spawn at s bear
   abbrev pub at_spawn : ℕ → Burdens
-  at_spawn s = record { on_continuation = go s; on_return = back s }
+  at_spawn s = record { continuation = go s; join = back s }
 
   -- the frame g, to which its child f returned
   abbrev pub on_return : Frame → Frame → Frame

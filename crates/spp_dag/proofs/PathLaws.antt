@@ -21,7 +21,7 @@ use Rattle.spp_dag.proofs.Lower.{ChildAt, Candidate, out_of, syncs_weight}
 use Rattle.spp_dag.proofs.Span.{greatest_at, first_weight, stop_weight, reached_top}
 use Rattle.spp_dag.proofs.Parting.{forward, trail_forward}
 use Rattle.spp_dag.proofs.Ties.{room, prize, Won, winner_is_path, path_unique, room_positive}
-use Rattle.spp_dag.proofs.Choices.{same_taken, same_waiting}
+use Rattle.spp_dag.proofs.ChoicesOfPaths.{same_taken, same_waiting}
 use Rattle.spp_dag.proofs.Crossing.{within_owner, owned, owner_le, waits_for, join_spec, owner_closing, jump, passes_wait, passes_opening, passes_exit, Split, split_at, on_head, on_left, on_right, on_either, on_bounds, on_last}
 
 -- what a state that takes a child looks like
@@ -43,16 +43,16 @@ module _ (es : List Event) (wf : IsWellFormed es) (burdens : Burdens) where
 
   -- what the continuation edges bear, and the return edges
   abbrev co : ℕ → ℕ
-  co s = room es 0 * burdens.on_continuation
+  co s = room es 0 * burdens.continuation
 
   abbrev re : ℕ → ℕ
-  re s = room es 0 * burdens.on_return
+  re s = room es 0 * burdens.join
 
   abbrev to : ℕ → ℕ
   to = prize es
 
   abbrev bk : ℕ → ℕ
-  bk s = prize es s + room es 0 * burdens.on_return
+  bk s = prize es s + room es 0 * burdens.join
 
   abbrev Ways : ℕ → Type 0
   Ways = Shape es B co bk
@@ -62,8 +62,8 @@ module _ (es : List Event) (wf : IsWellFormed es) (burdens : Burdens) where
 
   -- of the walks from x to y the one that wins most
   pub record Winner (x y : ℕ) (ps : List ℕ) (w : ℕ) : Type 0 where
-    pub walk : Won es burdens.on_continuation burdens.on_return x ps y w
-    pub most : (qs : List ℕ) (v : ℕ) → Won es burdens.on_continuation burdens.on_return x qs y v → v ≤ w
+    pub walk : Won es burdens.continuation burdens.join x ps y w
+    pub most : (qs : List ℕ) (v : ℕ) → Won es burdens.continuation burdens.join x qs y v → v ≤ w
 
   pub winner_path : (x y w : ℕ) (ps : List ℕ) → y ≤ length es → Winner x y ps w → IsPath es burdens x y ps
   winner_path x y w ps l h = winner_is_path es wf burdens x y l ps w h.walk h.most
@@ -129,7 +129,7 @@ module _ (es : List Event) (wf : IsWellFormed es) (burdens : Burdens) where
     pub inside : join es s ≤ length es
     pub waits : join es s < length es → syncs (event_at es (join es s)) ≡ true
     pub own : h.top.first ≡ owner es s
-    pub bound : (ps : List ℕ) (v : ℕ) → Won es burdens.on_continuation burdens.on_return (owner es s) ps (partner es s) v → v + B * burdens.on_return ≤ child_weight h.top.state.child
+    pub bound : (ps : List ℕ) (v : ℕ) → Won es burdens.continuation burdens.join (owner es s) ps (partner es s) v → v + B * burdens.join ≤ child_weight h.top.state.child
     pub positive : 0 < child_weight h.top.state.child
 
   pub at_join : (s : ℕ) → spawns (event_at es s) ≡ true → (h : Ways (join es s)) → AtJoin s h
@@ -151,7 +151,7 @@ module _ (es : List Event) (wf : IsWellFormed es) (burdens : Burdens) where
         waits = λ z. (and_parts _ _ (spec.passes z)).0;
         own = top.0 ∙ sym own_s;
         bound = λ ps v q.
-            let b = bounded es B co bk wf to re split g.top.first p v ps (subst (λ f. Won es burdens.on_continuation burdens.on_return f ps p v) own_s q) in
+            let b = bounded es B co bk wf to re split g.top.first p v ps (subst (λ f. Won es burdens.continuation burdens.join f ps p v) own_s q) in
             let ret = is_return (event_at es p) c.return in
             let a = stop_weight es B co bk wf to re split p hp (ap stops ret) in
             let d : entry es to hp.top.first ≡ to s = ap (entry es to) r.first ∙ entry_of_spawned to s (event_at es s) t in
@@ -170,7 +170,7 @@ module _ (es : List Event) (wf : IsWellFormed es) (burdens : Burdens) where
     pub at : join es s ≡ k
     pub rest : List ℕ
     pub weight_to : ℕ
-    pub walk : Won es burdens.on_continuation burdens.on_return h.top.first rest (partner es s) weight_to
+    pub walk : Won es burdens.continuation burdens.join h.top.first rest (partner es s) weight_to
     pub winner : Winner h.top.first k (rest ++ k ∷ []) (close h.top.state)
 
   came_by : (k : ℕ) → k ≤ length es → (k < length es → syncs (event_at es k) ≡ true) → (h : Ways k) (t : ℕ × ℕ) → greatest h.top.state.spine h.top.state.child ≡ t.0
@@ -186,12 +186,12 @@ module _ (es : List Event) (wf : IsWellFormed es) (burdens : Burdens) where
         | inl i ↦ (let u = least_le (waits_for es wf s) (suc (partner es s)) (length es) k d.before i (and_from _ _ (n i) (eq-eqb _ _ (own_k ∙ sym d.own))) in let w = d.waiting in omega arith)
         | inr i ↦ (let u = spec.upper in let w = d.waiting in omega arith)
       ] in
-      let step = subst (λ j. Step es B to co re (partner es s) j (B * burdens.on_return)) at (out_of es B co bk wf to re split s d.spawned) in
+      let step = subst (λ j. Step es B to co re (partner es s) j (B * burdens.join)) at (out_of es B co bk wf to re split s d.spawned) in
       let z : weight es k ≡ 0 = elim (cases_lt k (length es)) [ inl i ↦ syncs_weight (event_at es k) (n i) | inr i ↦ ap weight_of (slice_get_past es k i) ] in
       let zk : B * weight es k ≡ B * 0 = ap (λ x. B * x) z in
       let zp : B * weight es (partner es s) ≡ B * 0 = ap (λ x. B * weight_of x) (is_return (event_at es (partner es s)) c.return) in
-      let longer = one_more es B to co re h.top.first (partner es s) k d.walk.1 (B * burdens.on_return) d.walk.0 d.walk.2 step in
-      let whole : d.walk.1 + (B * burdens.on_return + B * weight es k) ≡ close h.top.state = (let a = d.walk.3 in let b = d.is in omega arith) in
+      let longer = one_more es B to co re h.top.first (partner es s) k d.walk.1 (B * burdens.join) d.walk.0 d.walk.2 step in
+      let whole : d.walk.1 + (B * burdens.join + B * weight es k) ≡ close h.top.state = (let a = d.walk.3 in let b = d.is in omega arith) in
       record {
         spawned = d.spawned;
         own = d.own;
@@ -200,7 +200,7 @@ module _ (es : List Event) (wf : IsWellFormed es) (burdens : Burdens) where
         weight_to = d.walk.1;
         walk = d.walk.2;
         winner = record {
-          walk = subst (λ v. Won es burdens.on_continuation burdens.on_return h.top.first (d.walk.0 ++ k ∷ []) k v) whole longer;
+          walk = subst (λ v. Won es burdens.continuation burdens.join h.top.first (d.walk.0 ++ k ∷ []) k v) whole longer;
           most = (greatest_at es B co bk wf to re split k l n h).1;
         };
       }
@@ -213,7 +213,7 @@ module _ (es : List Event) (wf : IsWellFormed es) (burdens : Burdens) where
       subst (λ x. Came k x h) t.2 (came_by k l n h t.0 t.3 d)
 
   -- the step out of a spawned child goes to its join
-  leaves : (s u c : ℕ) → spawns (event_at es s) ≡ true → Step es B to co re (partner es s) u c → (u ≡ join es s) × (c ≡ B * burdens.on_return)
+  leaves : (s u c : ℕ) → spawns (event_at es s) ≡ true → Step es B to co re (partner es s) u c → (u ≡ join es s) × (c ≡ B * burdens.join)
   leaves s u c t q =
       let o = spawns_opens (event_at es s) t in
       let d = closed es wf s o in
@@ -221,7 +221,7 @@ module _ (es : List Event) (wf : IsWellFormed es) (burdens : Burdens) where
       let b = subst (λ f. ReturnStep es B to co re f (partner es s) u c) (owner_closing es wf s o) a in
       subst (λ x. ReturnsTo es B to co re x s (partner es s) u c) t b
 
-  ends_there : (k w : ℕ) (ps : List ℕ) → Won es burdens.on_continuation burdens.on_return k ps k w → w ≡ B * weight es k
+  ends_there : (k w : ℕ) (ps : List ℕ) → Won es burdens.continuation burdens.join k ps k w → w ≡ B * weight es k
   ends_there k w [] t = t.1
   ends_there k w (u ∷ ps) t =
       let f = forward es wf B to co re k u t.0 t.2 in
@@ -229,13 +229,13 @@ module _ (es : List Event) (wf : IsWellFormed es) (burdens : Burdens) where
       absurd (omega arith)
 
   -- a walk that is at the child's return goes on to the join
-  pub goes_to_join : (x y w s : ℕ) (ps : List ℕ) → spawns (event_at es s) ≡ true → Won es burdens.on_continuation burdens.on_return x ps y w → On x ps (partner es s) → partner es s < y → On x ps (join es s) × (join es s ≤ y)
+  pub goes_to_join : (x y w s : ℕ) (ps : List ℕ) → spawns (event_at es s) ≡ true → Won es burdens.continuation burdens.join x ps y w → On x ps (partner es s) → partner es s < y → On x ps (join es s) × (join es s ≤ y)
   goes_to_join x y w s ps t q a l =
       let d = split_at es wf B to co re x (partner es s) y ps w q a in
       let r = after_of d.after d.second d.right in
       (subst (λ k. On x k (join es s)) (sym d.is) (on_right es wf B to co re x (partner es s) (join es s) d.first d.before d.after d.left r.0), r.1)
     where
-      after_of : (bs : List ℕ) (v : ℕ) → Won es burdens.on_continuation burdens.on_return (partner es s) bs y v → On (partner es s) bs (join es s) × (join es s ≤ y)
+      after_of : (bs : List ℕ) (v : ℕ) → Won es burdens.continuation burdens.join (partner es s) bs y v → On (partner es s) bs (join es s) × (join es s ≤ y)
       after_of [] v b = absurd (omega (arith, b.0))
       after_of (u ∷ bs) v b =
           let e = leaves s u b.0 t b.2 in
@@ -264,7 +264,7 @@ module _ (es : List Event) (wf : IsWellFormed es) (burdens : Burdens) where
 
   -- no walk ends at a join of s coming from elsewhere than the last return
   same_last : (f k s t w : ℕ) (rest : List ℕ) → spawns (event_at es s) ≡ true → spawns (event_at es t) ≡ true → join es s ≡ k → join es t ≡ k
-      → Won es burdens.on_continuation burdens.on_return f rest (partner es t) w → On f (rest ++ k ∷ []) (partner es s) → s ≡ t
+      → Won es burdens.continuation burdens.join f rest (partner es t) w → On f (rest ++ k ∷ []) (partner es s) → s ≡ t
   same_last f k s t w rest a b p q r o =
       let os = spawns_opens (event_at es s) a in
       let ot = spawns_opens (event_at es t) b in
@@ -284,14 +284,14 @@ module _ (es : List Event) (wf : IsWellFormed es) (burdens : Burdens) where
         ]
       ]
 
-  last_step : (s y w : ℕ) (bs : List ℕ) → spawns (event_at es s) ≡ true → Won es burdens.on_continuation burdens.on_return (partner es s) bs y w → y ≡ join es s → weight es y ≡ 0 → w ≡ B * burdens.on_return
+  last_step : (s y w : ℕ) (bs : List ℕ) → spawns (event_at es s) ≡ true → Won es burdens.continuation burdens.join (partner es s) bs y w → y ≡ join es s → weight es y ≡ 0 → w ≡ B * burdens.join
   last_step s y w [] t q e z =
       let j : suc (partner es s) ≤ join es s = (join_spec es wf s (spawns_opens (event_at es s) t)).lower in
       absurd (omega (arith, q.0))
   last_step s y w (u ∷ bs) t q e z =
       let l = leaves s u q.0 t q.2 in
       let c = closed es wf s (spawns_opens (event_at es s) t) in
-      let g = ends_there y q.1 bs (subst (λ k. Won es burdens.on_continuation burdens.on_return k bs y q.1) (l.0 ∙ sym e) q.3) in
+      let g = ends_there y q.1 bs (subst (λ k. Won es burdens.continuation burdens.join k bs y q.1) (l.0 ∙ sym e) q.3) in
       let zy : B * weight es y ≡ B * 0 = ap (λ x. B * x) z in
       let zp : B * weight es (partner es s) ≡ B * 0 = ap (λ x. B * weight_of x) (is_return (event_at es (partner es s)) c.return) in
       omega (arith, l.1, q.4)
@@ -316,7 +316,7 @@ module _ (es : List Event) (wf : IsWellFormed es) (burdens : Burdens) where
       let v2 = last_step s k d.second d.after t d.right refl z in
       let bound = a.bound d.before d.first d.left in
       let g = greatest_at es B co bk wf to re split k a.inside a.waits h in
-      let most : close h.top.state ≤ v = w.most g.0.0 (close h.top.state) (subst (λ q. Won es burdens.on_continuation burdens.on_return q g.0.0 k (close h.top.state)) a.own g.0.1) in
+      let most : close h.top.state ≤ v = w.most g.0.0 (close h.top.state) (subst (λ q. Won es burdens.continuation burdens.join q g.0.0 k (close h.top.state)) a.own g.0.1) in
       let enough : close h.top.state ≤ child_weight h.top.state.child = omega (arith, d.sum) in
       let tk = taken_from h.top.state.spine h.top.state.child enough a.positive (spine_le_close h.top.state) in
       let cm = came k a.inside a.waits h tk.0.1 tk.1 in
@@ -361,7 +361,7 @@ module _ (es : List Event) (wf : IsWellFormed es) (burdens : Burdens) where
   calls_step x u c (Some Sync) t n s = s.0
 
   -- a walk from within i's frame passes i, or goes past it out of a child of that frame
-  pub passes_or_skips : (x y w i : ℕ) (ps : List ℕ) → Won es burdens.on_continuation burdens.on_return x ps y w → i ≤ length es → owner es i ≤ x → x ≤ i → i ≤ y
+  pub passes_or_skips : (x y w i : ℕ) (ps : List ℕ) → Won es burdens.continuation burdens.join x ps y w → i ≤ length es → owner es i ≤ x → x ≤ i → i ≤ y
       → On x ps i ⊎ ((s : ℕ) × (spawns (event_at es s) ≡ true) × (owner es s ≡ owner es i) × (partner es s < i) × (i < join es s) × On x ps (partner es s))
   passes_or_skips x y w i [] t l a b c = inl (omega (arith, t.0))
   passes_or_skips x y w i (u ∷ ps) t l a b c =
@@ -393,7 +393,7 @@ module _ (es : List Event) (wf : IsWellFormed es) (burdens : Burdens) where
       (close h.top.state, subst (λ q. Whole q (close h.top.state)) e w)
 
   abbrev Plain1 : ℕ → Type 0
-  Plain1 = Shape es 1 (λ _. burdens.on_continuation) (λ _. burdens.on_return)
+  Plain1 = Shape es 1 (λ _. burdens.continuation) (λ _. burdens.join)
 
   pub child_returns : (ps : List ℕ) (w s : ℕ) → Whole ps w → spawns (event_at es s) ≡ true → On 0 ps (suc s) → On 0 ps (partner es s)
   child_returns ps w s h t on =
@@ -415,7 +415,7 @@ module _ (es : List Event) (wf : IsWellFormed es) (burdens : Burdens) where
       let spec = join_spec es wf s o in
       let b = shape es B co bk wf k spec.upper in
       let a = at_join s t b in
-      let same = same_taken es wf burdens.on_continuation burdens.on_return k a.inside h b in
+      let same = same_taken es wf burdens.continuation burdens.join k a.inside h b in
       let c = closed es wf s o in
       let ls : s ≤ length es = (let z = inside_opens es s o in omega arith) in
       let own_k : owner es k ≡ owner es s = owner_is es B co bk wf k b ∙ a.own in
@@ -449,7 +449,7 @@ module _ (es : List Event) (wf : IsWellFormed es) (burdens : Burdens) where
             subst (λ r. On 0 r (suc c)) (sym s.is) (on_right es wf B to co re 0 c (suc c) s.first s.before s.after s.left (next s.after s.second s.right))),
       )
     where
-      next : (bs : List ℕ) (v : ℕ) → Won es burdens.on_continuation burdens.on_return c bs (length es) v → On c bs (suc c)
+      next : (bs : List ℕ) (v : ℕ) → Won es burdens.continuation burdens.join c bs (length es) v → On c bs (suc c)
       next [] v b = absurd (let z = inside_opens es c t in omega (arith, b.0))
       next (u ∷ bs) v b = inr (subst (λ k. On u bs k) (calls_step c u b.0 (event_at es c) t n b.2) (on_head es wf B to co re u bs))
 
@@ -492,7 +492,7 @@ module _ (es : List Event) (wf : IsWellFormed es) (burdens : Burdens) where
             ]),
       )
     where
-      skipped : (s i : ℕ) (bs : List ℕ) (v : ℕ) → spawns (event_at es s) ≡ true → Won es burdens.on_continuation burdens.on_return (partner es s) bs (length es) v → partner es s < i → i < join es s → On (partner es s) bs i → ⊥
+      skipped : (s i : ℕ) (bs : List ℕ) (v : ℕ) → spawns (event_at es s) ≡ true → Won es burdens.continuation burdens.join (partner es s) bs (length es) v → partner es s < i → i < join es s → On (partner es s) bs i → ⊥
       skipped s i [] v t b x y on = omega (arith, on)
       skipped s i (u ∷ bs) v t b x y (inl e) = omega arith
       skipped s i (u ∷ bs) v t b x y (inr e) =
@@ -511,7 +511,7 @@ module _ (es : List Event) (wf : IsWellFormed es) (burdens : Burdens) where
       let w : Winner (owner es k) k g.0.0 (close b.top.state) = subst (λ f. Winner f k g.0.0 (close b.top.state)) (sym own) (record { walk = g.0.1; most = g.1 }) in
       let q = path_unique es burdens (owner es k) k g.0.0 qs (winner_path (owner es k) k (close b.top.state) g.0.0 l w) p in
       let x : Winner (owner es k) k qs (close b.top.state) = subst (λ r. Winner (owner es k) k r (close b.top.state)) q w in
-      let same = same_taken es wf burdens.on_continuation burdens.on_return k l h b in
+      let same = same_taken es wf burdens.continuation burdens.join k l h b in
       let at = subst (λ j. (u : Ways j) → u.top.first ≡ owner es s) e (λ u. (at_join s t u).own) in
       let own_s : owner es k ≡ owner es s = own ∙ at b in
       let takes = subst (λ j. (u : Ways j) (v : ℕ) (mid : List ℕ) → Winner (owner es s) j mid v → On (owner es s) mid (suc s) → taken u.top.state ≡ Some s) e (λ u v mid. enters_takes s t u v mid) in (
@@ -523,7 +523,7 @@ module _ (es : List Event) (wf : IsWellFormed es) (burdens : Burdens) where
   pub taken_joins : (k : ℕ) → k ≤ length es → (k < length es → syncs (event_at es k) ≡ true) → (h : Plain1 k) (s : ℕ) → taken h.top.state ≡ Some s → JoinsAt es k s
   taken_joins k l n h s tk =
       let b = shape es B co bk wf k l in
-      let c = came k l n b s (sym (same_taken es wf burdens.on_continuation burdens.on_return k l h b) ∙ tk) in
+      let c = came k l n b s (sym (same_taken es wf burdens.continuation burdens.join k l h b) ∙ tk) in
       (c.spawned, c.at, c.own ∙ sym (owner_is es B co bk wf k b))
 
   -- where a frame waits, its state holds a child exactly where one joins there, and one of those that do
@@ -534,7 +534,7 @@ module _ (es : List Event) (wf : IsWellFormed es) (burdens : Burdens) where
       nobody s t h e =
           let inside = (join_spec es wf s (spawns_opens (event_at es s) t)).upper in
           let b = shape es B co bk wf (join es s) inside in
-          let c = same_waiting es wf burdens.on_continuation burdens.on_return (join es s) inside h b e in
+          let c = same_waiting es wf burdens.continuation burdens.join (join es s) inside h b e in
           let z : child_weight b.top.state.child ≡ 0 = ap child_weight c in
           let y : 0 < child_weight b.top.state.child = (at_join s t b).positive in
           omega arith
@@ -542,9 +542,9 @@ module _ (es : List Event) (wf : IsWellFormed es) (burdens : Burdens) where
       by : (o : Option (ℕ × ℕ)) → h.top.state.child ≡ o → IsWaited es k o
       by None e = λ some. subst (λ j. (u : Plain1 j) → u.top.state.child ≡ None → ⊥) some.1.1 (λ u. nobody some.0 some.1.0 u) h e
       by (Some c) e =
-          let r = reached_top es 1 (λ _. burdens.on_continuation) (λ _. burdens.on_return) wf (λ _. 0) (λ _. burdens.on_return) (λ s. let z : burdens.on_return ≡ 0 + burdens.on_return = omega arith in z) k l h in
-          let d = subst (λ o. ChildAt es 1 (λ _. 0) (λ _. burdens.on_continuation) (λ _. burdens.on_return) h.top.first k o) e r.child in
-          let own_k = owner_is es 1 (λ _. burdens.on_continuation) (λ _. burdens.on_return) wf k h in
+          let r = reached_top es 1 (λ _. burdens.continuation) (λ _. burdens.join) wf (λ _. 0) (λ _. burdens.join) (λ s. let z : burdens.join ≡ 0 + burdens.join = omega arith in z) k l h in
+          let d = subst (λ o. ChildAt es 1 (λ _. 0) (λ _. burdens.continuation) (λ _. burdens.join) h.top.first k o) e r.child in
+          let own_k = owner_is es 1 (λ _. burdens.continuation) (λ _. burdens.join) wf k h in
           let spec = join_spec es wf c.1 (spawns_opens (event_at es c.1) d.spawned) in
           let at : join es c.1 ≡ k = elim (cases_lt k (length es)) [
             | inl i ↦ (let u = least_le (waits_for es wf c.1) (suc (partner es c.1)) (length es) k d.before i (and_from _ _ (n i) (eq-eqb _ _ (own_k ∙ sym d.own))) in let w = d.waiting in omega arith)

@@ -104,7 +104,7 @@ pub has_profile : HasProfile
 has_profile es wf root burdens =
     let path = path_exists es wf unburdened 0 refl in
     let l : length es ≤ length es = omega arith in
-    let h = shape es 1 (λ _. burdens.on_continuation) (λ _. burdens.on_return) wf (length es) l in (
+    let h = shape es 1 (λ _. burdens.continuation) (λ _. burdens.join) wf (length es) l in (
       record {
         work = nesting.work (records es);
         span = spans_of es 0;

@@ -43,7 +43,7 @@ module _ (es : List Event) (wf : IsWellFormed es) (burdens : Burdens) where
   P = stack es 1 (λ _. 0) (λ _. 0)
 
   abbrev Q : ℕ → List Frame
-  Q = stack es 1 (λ _. burdens.on_continuation) (λ _. burdens.on_return)
+  Q = stack es 1 (λ _. burdens.continuation) (λ _. burdens.join)
 
   -- the machine's stack before p is the stack by position, for both burdens
   pub record Same (p : ℕ) (fs : List OpenFrame) : Type 0 where
@@ -76,12 +76,12 @@ module _ (es : List Event) (wf : IsWellFormed es) (burdens : Burdens) where
 
   -- what the return does to the parent, on either side
   return_state : (own : Burdens) (k : FrameKind) (at first : ℕ) (s t : State) → (first_of k at ≡ 0 → ⊥) → is_spawned es (first_of k at) ≡ spawned_kind k
-      → record { first = first; state = after_child own k at (close s) t } ≡ on_return es 1 (λ _. own.on_continuation) (λ _. own.on_return) (record { first = first_of k at; state = s }) (record { first = first; state = t })
+      → record { first = first; state = after_child own k at (close s) t } ≡ on_return es 1 (λ _. own.continuation) (λ _. own.join) (record { first = first_of k at; state = s }) (record { first = first; state = t })
   return_state own Root at first s t n e = absurd (n refl)
   return_state own Called at first s t n e =
-      ap (λ u. record { first = first; state = u }) (sym (returned_called es 1 (λ _. own.on_continuation) (λ _. own.on_return) (record { first = suc at; state = s }) (record { first = first; state = t }) e))
+      ap (λ u. record { first = first; state = u }) (sym (returned_called es 1 (λ _. own.continuation) (λ _. own.join) (record { first = suc at; state = s }) (record { first = first; state = t }) e))
   return_state own Spawned at first s t n e =
-      ap (λ u. record { first = first; state = u }) (sym (returned_spawned es 1 (λ _. own.on_continuation) (λ _. own.on_return) (record { first = suc at; state = s }) (record { first = first; state = t }) e))
+      ap (λ u. record { first = first; state = u }) (sym (returned_spawned es 1 (λ _. own.continuation) (λ _. own.join) (record { first = suc at; state = s }) (record { first = first; state = t }) e))
 
   advances : (p : ℕ) (e : Event) (fs : List OpenFrame) → p < length es → event_at es p ≡ Some e → Same p fs → (gs : List OpenFrame) × (advance burdens p e fs ≡ Some gs) × Same (suc p) gs
   advances p e [] l q h = absurd (not_empty p (omega arith) h)
@@ -90,7 +90,7 @@ module _ (es : List Event) (wf : IsWellFormed es) (burdens : Burdens) where
     refl,
     record {
       plain = ap (λ k. record { first = first_of f.kind f.at; state = after_strand k f.plain } ∷ map plain_frame fs) (strand_once n) ∙ sym (ap₂ (step es 1 (λ _. 0) (λ _. 0) p) q (sym h.plain));
-      burdened = ap (λ k. record { first = first_of f.kind f.at; state = after_strand k f.burdened } ∷ map burdened_frame fs) (strand_once n) ∙ sym (ap₂ (step es 1 (λ _. burdens.on_continuation) (λ _. burdens.on_return) p) q (sym h.burdened));
+      burdened = ap (λ k. record { first = first_of f.kind f.at; state = after_strand k f.burdened } ∷ map burdened_frame fs) (strand_once n) ∙ sym (ap₂ (step es 1 (λ _. burdens.continuation) (λ _. burdens.join) p) q (sym h.burdened));
       fitting = h.fitting;
     },
   )
@@ -99,7 +99,7 @@ module _ (es : List Event) (wf : IsWellFormed es) (burdens : Burdens) where
     refl,
     record {
       plain = sym (ap₂ (step es 1 (λ _. 0) (λ _. 0) p) q (sym h.plain));
-      burdened = sym (ap₂ (step es 1 (λ _. burdens.on_continuation) (λ _. burdens.on_return) p) q (sym h.burdened));
+      burdened = sym (ap₂ (step es 1 (λ _. burdens.continuation) (λ _. burdens.join) p) q (sym h.burdened));
       fitting = (ap spawns q, h.fitting);
     },
   )
@@ -108,7 +108,7 @@ module _ (es : List Event) (wf : IsWellFormed es) (burdens : Burdens) where
     refl,
     record {
       plain = sym (ap₂ (step es 1 (λ _. 0) (λ _. 0) p) q (sym h.plain));
-      burdened = sym (ap₂ (step es 1 (λ _. burdens.on_continuation) (λ _. burdens.on_return) p) q (sym h.burdened));
+      burdened = sym (ap₂ (step es 1 (λ _. burdens.continuation) (λ _. burdens.join) p) q (sym h.burdened));
       fitting = (ap spawns q, h.fitting);
     },
   )
@@ -117,7 +117,7 @@ module _ (es : List Event) (wf : IsWellFormed es) (burdens : Burdens) where
     refl,
     record {
       plain = sym (ap₂ (step es 1 (λ _. 0) (λ _. 0) p) q (sym h.plain));
-      burdened = sym (ap₂ (step es 1 (λ _. burdens.on_continuation) (λ _. burdens.on_return) p) q (sym h.burdened));
+      burdened = sym (ap₂ (step es 1 (λ _. burdens.continuation) (λ _. burdens.join) p) q (sym h.burdened));
       fitting = h.fitting;
     },
   )
@@ -128,7 +128,7 @@ module _ (es : List Event) (wf : IsWellFormed es) (burdens : Burdens) where
         refl,
         record {
           plain = ap (λ x. x ∷ map plain_frame fs) (return_state unburdened f.kind f.at (first_of g.kind g.at) f.plain g.plain n h.fitting.0) ∙ sym (ap₂ (step es 1 (λ _. 0) (λ _. 0) p) q (sym h.plain));
-          burdened = ap (λ x. x ∷ map burdened_frame fs) (return_state burdens f.kind f.at (first_of g.kind g.at) f.burdened g.burdened n h.fitting.0) ∙ sym (ap₂ (step es 1 (λ _. burdens.on_continuation) (λ _. burdens.on_return) p) q (sym h.burdened));
+          burdened = ap (λ x. x ∷ map burdened_frame fs) (return_state burdens f.kind f.at (first_of g.kind g.at) f.burdened g.burdened n h.fitting.0) ∙ sym (ap₂ (step es 1 (λ _. burdens.continuation) (λ _. burdens.join) p) q (sym h.burdened));
           fitting = h.fitting.1;
         },
       )
@@ -157,7 +157,7 @@ module _ (es : List Event) (wf : IsWellFormed es) (burdens : Burdens) where
   end_of func (f ∷ []) e h =
       let l : length es ≤ length es = omega arith in
       let s = shape es 1 (λ _. 0) (λ _. 0) wf (length es) l in
-      let t = shape es 1 (λ _. burdens.on_continuation) (λ _. burdens.on_return) wf (length es) l in
+      let t = shape es 1 (λ _. burdens.continuation) (λ _. burdens.join) wf (length es) l in
       let x : plain_frame f ≡ s.top = (let d = h.plain ∙ s.is in cc) in
       let y : burdened_frame f ≡ t.top = (let d = h.burdened ∙ t.is in cc) in
       (f, e, subst (λ k. IsSpan es unburdened (close k.state)) (sym x) (root_closes_with_span es unburdened wf s), subst (λ k. IsSpan es burdens (close k.state)) (sym y) (root_closes_with_span es burdens wf t))

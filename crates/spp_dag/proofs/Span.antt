@@ -135,50 +135,50 @@ module _ (es : List Event) (scale : ℕ) (go back : ℕ → ℕ) (wf : IsWellFor
 
 -- the walks of the definitions are those of scale 1 and one pair of burdens
 module _ (es : List Event) (burdens : Burdens) where
-  return_to : (b : Bool) (o u v c : ℕ) → EdgeBack es burdens b o u v c → ReturnsTo es 1 (λ _. 0) (λ _. burdens.on_continuation) (λ _. burdens.on_return) b o u v c
+  return_to : (b : Bool) (o u v c : ℕ) → EdgeBack es burdens b o u v c → ReturnsTo es 1 (λ _. 0) (λ _. burdens.continuation) (λ _. burdens.join) b o u v c
   return_to true o u v c s = s
   return_to false o u v c s = s
 
-  return_from : (b : Bool) (o u v c : ℕ) → ReturnsTo es 1 (λ _. 0) (λ _. burdens.on_continuation) (λ _. burdens.on_return) b o u v c → EdgeBack es burdens b o u v c
+  return_from : (b : Bool) (o u v c : ℕ) → ReturnsTo es 1 (λ _. 0) (λ _. burdens.continuation) (λ _. burdens.join) b o u v c → EdgeBack es burdens b o u v c
   return_from true o u v c s = s
   return_from false o u v c s = s
 
-  step_to : (e : Option Event) (f u v c : ℕ) → f ≡ owner es u → EdgeOf es burdens e u v c → StepOf es 1 (λ _. 0) (λ _. burdens.on_continuation) (λ _. burdens.on_return) e u v c
+  step_to : (e : Option Event) (f u v c : ℕ) → f ≡ owner es u → EdgeOf es burdens e u v c → StepOf es 1 (λ _. 0) (λ _. burdens.continuation) (λ _. burdens.join) e u v c
   step_to None f u v c q s = s
   step_to (Some (Strand n)) f u v c q s = s
   step_to (Some (Call a b)) f u v c q s = s
   step_to (Some (Spawn a b)) f u v c q s = s
   step_to (Some Ret) zero u v c q s = absurd (subst (λ k. ReturnEdge es burdens k u v c) (sym q) s)
   step_to (Some Ret) (suc o) u v c q s =
-      subst (λ k. ReturnStep es 1 (λ _. 0) (λ _. burdens.on_continuation) (λ _. burdens.on_return) k u v c) q
+      subst (λ k. ReturnStep es 1 (λ _. 0) (λ _. burdens.continuation) (λ _. burdens.join) k u v c) q
       (return_to (is_spawned es (suc o)) o u v c (subst (λ k. ReturnEdge es burdens k u v c) (sym q) s))
   step_to (Some Sync) f u v c q s = s
 
-  step_from : (e : Option Event) (f u v c : ℕ) → f ≡ owner es u → StepOf es 1 (λ _. 0) (λ _. burdens.on_continuation) (λ _. burdens.on_return) e u v c → EdgeOf es burdens e u v c
+  step_from : (e : Option Event) (f u v c : ℕ) → f ≡ owner es u → StepOf es 1 (λ _. 0) (λ _. burdens.continuation) (λ _. burdens.join) e u v c → EdgeOf es burdens e u v c
   step_from None f u v c q s = s
   step_from (Some (Strand n)) f u v c q s = s
   step_from (Some (Call a b)) f u v c q s = s
   step_from (Some (Spawn a b)) f u v c q s = s
-  step_from (Some Ret) zero u v c q s = absurd (subst (λ k. ReturnStep es 1 (λ _. 0) (λ _. burdens.on_continuation) (λ _. burdens.on_return) k u v c) (sym q) s)
+  step_from (Some Ret) zero u v c q s = absurd (subst (λ k. ReturnStep es 1 (λ _. 0) (λ _. burdens.continuation) (λ _. burdens.join) k u v c) (sym q) s)
   step_from (Some Ret) (suc o) u v c q s =
       subst (λ k. ReturnEdge es burdens k u v c) q
-      (return_from (is_spawned es (suc o)) o u v c (subst (λ k. ReturnStep es 1 (λ _. 0) (λ _. burdens.on_continuation) (λ _. burdens.on_return) k u v c) (sym q) s))
+      (return_from (is_spawned es (suc o)) o u v c (subst (λ k. ReturnStep es 1 (λ _. 0) (λ _. burdens.continuation) (λ _. burdens.join) k u v c) (sym q) s))
   step_from (Some Sync) f u v c q s = s
 
-  pub trail_of : (x y w : ℕ) (rest : List ℕ) → Walk es burdens x rest y w → Trail es 1 (λ _. 0) (λ _. burdens.on_continuation) (λ _. burdens.on_return) x rest y w
+  pub trail_of : (x y w : ℕ) (rest : List ℕ) → Walk es burdens x rest y w → Trail es 1 (λ _. 0) (λ _. burdens.continuation) (λ _. burdens.join) x rest y w
   trail_of x y w [] t = (t.0, (let z = t.1 in omega arith))
   trail_of x y w (u ∷ rest) t = (t.0, t.1, step_to (event_at es x) (owner es x) x u t.0 refl t.2, trail_of u y t.1 rest t.3, (let z = t.4 in omega arith))
 
-  pub walk_of : (x y w : ℕ) (rest : List ℕ) → Trail es 1 (λ _. 0) (λ _. burdens.on_continuation) (λ _. burdens.on_return) x rest y w → Walk es burdens x rest y w
+  pub walk_of : (x y w : ℕ) (rest : List ℕ) → Trail es 1 (λ _. 0) (λ _. burdens.continuation) (λ _. burdens.join) x rest y w → Walk es burdens x rest y w
   walk_of x y w [] t = (t.0, (let z = t.1 in omega arith))
   walk_of x y w (u ∷ rest) t = (t.0, t.1, step_from (event_at es x) (owner es x) x u t.0 refl t.2, walk_of u y t.1 rest t.3, (let z = t.4 in omega arith))
 
 -- a frame closes with the greatest weight of a walk through it
 pub closes_with_greatest : (es : List Event) (burdens : Burdens) → IsWellFormed es → (f : ℕ) → is_frame es f ≡ true
-    → (h : Shape es 1 (λ _. burdens.on_continuation) (λ _. burdens.on_return) (closing es f)) → IsGreatest es burdens f (closing es f) (close h.top.state)
+    → (h : Shape es 1 (λ _. burdens.continuation) (λ _. burdens.join) (closing es f)) → IsGreatest es burdens f (closing es f) (close h.top.state)
 closes_with_greatest es burdens wf f t h =
-    let g = greatest es 1 (λ _. burdens.on_continuation) (λ _. burdens.on_return) wf (λ _. 0) (λ _. burdens.on_return) (λ s. let z : burdens.on_return ≡ 0 + burdens.on_return = omega arith in z) f t h in
+    let g = greatest es 1 (λ _. burdens.continuation) (λ _. burdens.join) wf (λ _. 0) (λ _. burdens.join) (λ s. let z : burdens.join ≡ 0 + burdens.join = omega arith in z) f t h in
     ((g.0.0, walk_of es burdens f (closing es f) (close h.top.state) g.0.0 g.0.1), λ rest v s. g.1 rest v (trail_of es burdens f (closing es f) v rest s))
 
-pub root_closes_with_span : (es : List Event) (burdens : Burdens) → IsWellFormed es → (h : Shape es 1 (λ _. burdens.on_continuation) (λ _. burdens.on_return) (length es)) → IsSpan es burdens (close h.top.state)
+pub root_closes_with_span : (es : List Event) (burdens : Burdens) → IsWellFormed es → (h : Shape es 1 (λ _. burdens.continuation) (λ _. burdens.join) (length es)) → IsSpan es burdens (close h.top.state)
 root_closes_with_span es burdens wf h = closes_with_greatest es burdens wf 0 refl h

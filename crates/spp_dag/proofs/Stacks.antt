@@ -44,7 +44,7 @@ module _ (es : List Event) (wf : IsWellFormed es) (burdens : Burdens) where
   PlainShape = Shape es 1 (λ _. 0) (λ _. 0)
 
   abbrev BurdenedShape : ℕ → Type 0
-  BurdenedShape = Shape es 1 (λ _. burdens.on_continuation) (λ _. burdens.on_return)
+  BurdenedShape = Shape es 1 (λ _. burdens.continuation) (λ _. burdens.join)
 
   -- the run as far as k
   run_to : (func k : ℕ) → k ≤ length es → (fs : List OpenFrame) × (run burdens 0 (take k es) (root_frame func ∷ []) ≡ Some fs) × Same es wf burdens k fs
@@ -75,11 +75,11 @@ module _ (es : List Event) (wf : IsWellFormed es) (burdens : Burdens) where
 
 -- where a frame waits: the greatest weight of a walk from its first position
 waits_with_greatest : (es : List Event) (burdens : Burdens) (wf : IsWellFormed es) (k : ℕ) → Waits es k
-    → (h : Shape es 1 (λ _. burdens.on_continuation) (λ _. burdens.on_return) k) → IsGreatest es burdens (owner es k) k (close h.top.state)
+    → (h : Shape es 1 (λ _. burdens.continuation) (λ _. burdens.join) k) → IsGreatest es burdens (owner es k) k (close h.top.state)
 waits_with_greatest es burdens wf k n h =
-    let co : ℕ → ℕ = λ _. burdens.on_continuation in
-    let re : ℕ → ℕ = λ _. burdens.on_return in
-    let g = greatest_at es 1 co re wf (λ _. 0) re (λ s. let z : burdens.on_return ≡ 0 + burdens.on_return = omega arith in z) k n.0 n.1 h in
+    let co : ℕ → ℕ = λ _. burdens.continuation in
+    let re : ℕ → ℕ = λ _. burdens.join in
+    let g = greatest_at es 1 co re wf (λ _. 0) re (λ s. let z : burdens.join ≡ 0 + burdens.join = omega arith in z) k n.0 n.1 h in
     subst (λ f. IsGreatest es burdens f k (close h.top.state)) (sym (owner_is es 1 co re wf k h))
     ((g.0.0, walk_of es burdens h.top.first k (close h.top.state) g.0.0 g.0.1), λ rest v s. g.1 rest v (trail_of es burdens h.top.first k v rest s))
 
@@ -103,7 +103,7 @@ machine_gives_spans es wf burdens func = ends_with_spans es wf burdens func
 pub waits_give_spans : WaitsGiveSpans
 waits_give_spans es wf burdens k n f t =
     let h = shape es 1 (λ _. 0) (λ _. 0) wf k n.0 in
-    let g = shape es 1 (λ _. burdens.on_continuation) (λ _. burdens.on_return) wf k n.0 in (
+    let g = shape es 1 (λ _. burdens.continuation) (λ _. burdens.join) wf k n.0 in (
       subst (λ x. IsGreatest es unburdened (owner es k) k (close x.state)) (sym (plain_top es wf burdens k n.0 f t h)) (waits_with_greatest es unburdened wf k n h),
       subst (λ x. IsGreatest es burdens (owner es k) k (close x.state)) (sym (burdened_top es wf burdens k n.0 f t g)) (waits_with_greatest es burdens wf k n g),
     )
@@ -112,7 +112,7 @@ pub frames_give_spans : FramesGiveSpans
 frames_give_spans es wf burdens f is top t =
     let l = closing_inside es wf 0 0 f is in
     let h = shape es 1 (λ _. 0) (λ _. 0) wf (closing es f) l in
-    let g = shape es 1 (λ _. burdens.on_continuation) (λ _. burdens.on_return) wf (closing es f) l in (
+    let g = shape es 1 (λ _. burdens.continuation) (λ _. burdens.join) wf (closing es f) l in (
       subst (λ x. IsGreatest es unburdened f (closing es f) (close x.state)) (sym (plain_top es wf burdens (closing es f) l top t h)) (closes_with_greatest es unburdened wf f is h),
       subst (λ x. IsGreatest es burdens f (closing es f) (close x.state)) (sym (burdened_top es wf burdens (closing es f) l top t g)) (closes_with_greatest es burdens wf f is g),
     )
@@ -121,7 +121,7 @@ pub path_enters_taken : PathEntersTaken
 path_enters_taken es wf burdens s t f top =
     let spec = join_spec es wf s (spawns_opens (event_at es s) t) in
     let h = shape es 1 (λ _. 0) (λ _. 0) wf (join es s) spec.upper in
-    let g = shape es 1 (λ _. burdens.on_continuation) (λ _. burdens.on_return) wf (join es s) spec.upper in
+    let g = shape es 1 (λ _. burdens.continuation) (λ _. burdens.join) wf (join es s) spec.upper in
     let e : taken f.plain ≡ taken h.top.state = ap (λ x. taken x.state) (plain_top es wf burdens (join es s) spec.upper f top h) in
     let d : taken f.burdened ≡ taken g.top.state = ap (λ x. taken x.state) (burdened_top es wf burdens (join es s) spec.upper f top g) in (
       λ ps p.
@@ -135,7 +135,7 @@ path_enters_taken es wf burdens s t f top =
 pub path_takes_child : PathTakesChild
 path_takes_child es wf burdens k n f top s t j =
     let h = shape es 1 (λ _. 0) (λ _. 0) wf k n.0 in
-    let g = shape es 1 (λ _. burdens.on_continuation) (λ _. burdens.on_return) wf k n.0 in
+    let g = shape es 1 (λ _. burdens.continuation) (λ _. burdens.join) wf k n.0 in
     let e : taken f.plain ≡ taken h.top.state = ap (λ x. taken x.state) (plain_top es wf burdens k n.0 f top h) in
     let d : taken f.burdened ≡ taken g.top.state = ap (λ x. taken x.state) (burdened_top es wf burdens k n.0 f top g) in (
       λ qs p. let law = path_takes es wf unburdened k n.0 n.1 h qs p s t j in (λ on. e ∙ law.0 on, λ tk. law.1 (sym e ∙ tk)),
@@ -145,7 +145,7 @@ path_takes_child es wf burdens k n f top s t j =
 pub taken_join : TakenJoins
 taken_join es wf burdens k n f top s =
     let h = shape es 1 (λ _. 0) (λ _. 0) wf k n.0 in
-    let g = shape es 1 (λ _. burdens.on_continuation) (λ _. burdens.on_return) wf k n.0 in
+    let g = shape es 1 (λ _. burdens.continuation) (λ _. burdens.join) wf k n.0 in
     let e : taken f.plain ≡ taken h.top.state = ap (λ x. taken x.state) (plain_top es wf burdens k n.0 f top h) in
     let d : taken f.burdened ≡ taken g.top.state = ap (λ x. taken x.state) (burdened_top es wf burdens k n.0 f top g) in
     (λ t. taken_joins es wf unburdened k n.0 n.1 h s (sym e ∙ t), λ t. taken_joins es wf burdens k n.0 n.1 g s (sym d ∙ t))

@@ -193,29 +193,29 @@ module _ (es : List Event) (wf : IsWellFormed es) (m n : ℕ) where
 
 module _ (es : List Event) (wf : IsWellFormed es) (burdens : Burdens) where
   -- a walk that wins most through a frame is the first greatest one
-  pub winner_is_path : (f y : ℕ) → y ≤ length es → (rest : List ℕ) (w : ℕ) → Won es burdens.on_continuation burdens.on_return f rest y w
-      → ((qs : List ℕ) (v : ℕ) → Won es burdens.on_continuation burdens.on_return f qs y v → v ≤ w) → IsPath es burdens f y rest
+  pub winner_is_path : (f y : ℕ) → y ≤ length es → (rest : List ℕ) (w : ℕ) → Won es burdens.continuation burdens.join f rest y w
+      → ((qs : List ℕ) (v : ℕ) → Won es burdens.continuation burdens.join f qs y v → v ≤ w) → IsPath es burdens f y rest
   winner_is_path f y l rest w s most =
-      let p = from_won es wf burdens.on_continuation burdens.on_return f y w rest s in
-      let bound = prizes_lt es wf burdens.on_continuation burdens.on_return f y p.0 rest l p.1 in
+      let p = from_won es wf burdens.continuation burdens.join f y w rest s in
+      let bound = prizes_lt es wf burdens.continuation burdens.join f y p.0 rest l p.1 in
       let whole = room_falls es 0 f (omega arith) in (
         p.0,
         walk_of es burdens f y p.0 rest p.1,
         (λ qs v q.
             let c = trail_of es burdens f y v qs q in
-            let mm = most qs (room es 0 * v + prizes es f qs) (to_won es wf burdens.on_continuation burdens.on_return f y v qs c) in
+            let mm = most qs (room es 0 * v + prizes es f qs) (to_won es wf burdens.continuation burdens.join f y v qs c) in
             let k : room es 0 * suc p.0 ≡ room es 0 * p.0 + room es 0 = mul-suc (room es 0) p.0 in
             let e : room es 0 * v < room es 0 * suc p.0 = omega (arith, p.2) in
             let g : v < suc p.0 = lt_of_mul-lt-mul_left (room es 0) e in
             omega arith),
         (λ qs q.
             let c = trail_of es burdens f y p.0 qs q in
-            let mm = most qs (room es 0 * p.0 + prizes es f qs) (to_won es wf burdens.on_continuation burdens.on_return f y p.0 qs c) in
-            elim (one_enters es wf 1 (none es) (λ _. burdens.on_continuation) (λ _. burdens.on_return) f y p.0 p.0 qs rest c p.1) [
+            let mm = most qs (room es 0 * p.0 + prizes es f qs) (to_won es wf burdens.continuation burdens.join f y p.0 qs c) in
+            elim (one_enters es wf 1 (none es) (λ _. burdens.continuation) (λ _. burdens.join) f y p.0 p.0 qs rest c p.1) [
               | inl e ↦ inl e
               | inr e ↦ elim e [
-                | inl a ↦ absurd (let b = enters_wins es wf burdens.on_continuation burdens.on_return f y p.0 p.0 qs rest l c p.1 a in omega (arith, p.2))
-                | inr a ↦ inr (enters_before es wf 1 (none es) (λ _. burdens.on_continuation) (λ _. burdens.on_return) f rest qs a)
+                | inl a ↦ absurd (let b = enters_wins es wf burdens.continuation burdens.join f y p.0 p.0 qs rest l c p.1 a in omega (arith, p.2))
+                | inr a ↦ inr (enters_before es wf 1 (none es) (λ _. burdens.continuation) (λ _. burdens.join) f rest qs a)
               ]
             ]),
       )
@@ -223,27 +223,27 @@ module _ (es : List Event) (wf : IsWellFormed es) (burdens : Burdens) where
   -- there is a first greatest walk through each frame
   pub path_exists : (f : ℕ) → is_frame es f ≡ true → (rest : List ℕ) × IsPath es burdens f (closing es f) rest
   path_exists f t =
-      let h = shape es (room es 0) (λ _. room es 0 * burdens.on_continuation) (λ s. prize es s + room es 0 * burdens.on_return) wf (closing es f) (closing_inside es wf 0 0 f t) in
-      let g = greatest es (room es 0) (λ _. room es 0 * burdens.on_continuation) (λ s. prize es s + room es 0 * burdens.on_return) wf (prize es) (λ _. room es 0 * burdens.on_return) (λ s. refl) f t h in
+      let h = shape es (room es 0) (λ _. room es 0 * burdens.continuation) (λ s. prize es s + room es 0 * burdens.join) wf (closing es f) (closing_inside es wf 0 0 f t) in
+      let g = greatest es (room es 0) (λ _. room es 0 * burdens.continuation) (λ s. prize es s + room es 0 * burdens.join) wf (prize es) (λ _. room es 0 * burdens.join) (λ s. refl) f t h in
       (g.0.0, winner_is_path f (closing es f) (closing_inside es wf 0 0 f t) g.0.0 (close h.top.state) g.0.1 g.1)
 
   -- and to each place where a frame waits
   pub path_exists_to : (k : ℕ) → k ≤ length es → (k < length es → syncs (event_at es k) ≡ true) → (rest : List ℕ) × IsPath es burdens (owner es k) k rest
   path_exists_to k l n =
-      let h = shape es (room es 0) (λ _. room es 0 * burdens.on_continuation) (λ s. prize es s + room es 0 * burdens.on_return) wf k l in
-      let g = greatest_at es (room es 0) (λ _. room es 0 * burdens.on_continuation) (λ s. prize es s + room es 0 * burdens.on_return) wf (prize es) (λ _. room es 0 * burdens.on_return) (λ s. refl) k l n h in
-      let own : owner es k ≡ h.top.first = owner_is es (room es 0) (λ _. room es 0 * burdens.on_continuation) (λ s. prize es s + room es 0 * burdens.on_return) wf k h in
+      let h = shape es (room es 0) (λ _. room es 0 * burdens.continuation) (λ s. prize es s + room es 0 * burdens.join) wf k l in
+      let g = greatest_at es (room es 0) (λ _. room es 0 * burdens.continuation) (λ s. prize es s + room es 0 * burdens.join) wf (prize es) (λ _. room es 0 * burdens.join) (λ s. refl) k l n h in
+      let own : owner es k ≡ h.top.first = owner_is es (room es 0) (λ _. room es 0 * burdens.continuation) (λ s. prize es s + room es 0 * burdens.join) wf k h in
       subst (λ (f : ℕ). (rest : List ℕ) × IsPath es burdens f k rest) (sym own) (g.0.0, winner_is_path h.top.first k l g.0.0 (close h.top.state) g.0.1 g.1)
 
 -- the law: of two walks with the same ends, the one that comes first in dictionary order enters a child where the other
 -- goes on
 pub first_enters : (es : List Event) → IsWellFormed es → (burdens : Burdens) (x y v w : ℕ) (ps qs : List ℕ) → Walk es burdens x ps y v → Walk es burdens x qs y w → Before ps qs → FirstEnters es x ps qs
 first_enters es wf burdens x y v w ps qs s t b =
-    elim (one_enters es wf 1 (λ _. 0) (λ _. burdens.on_continuation) (λ _. burdens.on_return) x y v w ps qs (trail_of es burdens x y v ps s) (trail_of es burdens x y w qs t)) [
+    elim (one_enters es wf 1 (λ _. 0) (λ _. burdens.continuation) (λ _. burdens.join) x y v w ps qs (trail_of es burdens x y v ps s) (trail_of es burdens x y w qs t)) [
       | inl e ↦ absurd (before_not_same qs (subst (λ k. Before k qs) e b))
       | inr e ↦ elim e [
         | inl a ↦ a
-        | inr a ↦ absurd (before_not_both ps qs b (enters_before es wf 1 (λ _. 0) (λ _. burdens.on_continuation) (λ _. burdens.on_return) x qs ps a))
+        | inr a ↦ absurd (before_not_both ps qs b (enters_before es wf 1 (λ _. 0) (λ _. burdens.continuation) (λ _. burdens.join) x qs ps a))
       ]
     ]
 

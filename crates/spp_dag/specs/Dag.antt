@@ -8,7 +8,7 @@ use Rattle.spp_dag.specs.Trace.{event_at, weight, spawns, partner, owner, join, 
 
 -- out of the return at u of the frame opened at o: of a spawned one to its join, of a called one to what follows
 abbrev pub EdgeBack : List Event → Burdens → Bool → ℕ → ℕ → ℕ → ℕ → Type 0
-EdgeBack es burdens true o u v c = (v ≡ join es o) × (c ≡ burdens.on_return)
+EdgeBack es burdens true o u v c = (v ≡ join es o) × (c ≡ burdens.join)
 EdgeBack es burdens false o u v c = (v ≡ suc u) × (c ≡ 0)
 
 -- out of a return at u, by the frame that it closes
@@ -22,7 +22,7 @@ EdgeOf es burdens None u v c = ⊥
 EdgeOf es burdens (Some (Strand count)) u v c = (v ≡ suc u) × (c ≡ 0)
 EdgeOf es burdens (Some (Call site func)) u v c = (v ≡ suc u) × (c ≡ 0)
 EdgeOf es burdens (Some (Spawn site func)) u v c =
-    ((v ≡ suc u) × (c ≡ 0)) ⊎ ((v ≡ suc (partner es u)) × (c ≡ burdens.on_continuation))
+    ((v ≡ suc u) × (c ≡ 0)) ⊎ ((v ≡ suc (partner es u)) × (c ≡ burdens.continuation))
 EdgeOf es burdens (Some Ret) u v c = ReturnEdge es burdens (owner es u) u v c
 EdgeOf es burdens (Some Sync) u v c = (v ≡ suc u) × (c ≡ 0)
 

@@ -4,9 +4,11 @@ pub mod Dag
 pub mod Stack
 pub mod Rows
 pub mod Profile
+pub mod Figures
 pub mod Shares
 pub mod Laws
 pub mod Limits
 pub mod Choices
+pub mod ChoiceLists
 pub mod WorkedRows
 pub mod Steps

@@ -18,8 +18,8 @@ pub record IsSmall (es : List Event) : Type 0 where
   pub strands : (k : ℕ) → weight es k < 2 ^ 64
 
 pub record AreSmall (burdens : Burdens) : Type 0 where
-  pub on_continuation : burdens.on_continuation < 2 ^ 32
-  pub on_return : burdens.on_return < 2 ^ 32
+  pub continuation : burdens.continuation < 2 ^ 32
+  pub join : burdens.join < 2 ^ 32
 
 -- the sums of a row fit their types, with room to spare
 pub record IsSmallRow (r : Row) : Type 0 where

@@ -22,7 +22,7 @@ pub record Answer : Type 0 where
   pub path_site : Row
 
 abbrev pub both : ℕ → ℕ → Burdens
-both m n = record { on_continuation = m; on_return = n }
+both m n = record { continuation = m; join = n }
 
 -- the run is well-formed, and its profile says this, where the root frame runs the function `root`
 pub record IsWorked (root : ℕ) (es : List Event) (a : Answer) : Type 0 where

@@ -2,10 +2,14 @@
 //! each open frame enough to find the spans and the path.
 #![tactic(auto)]
 
+mod choices;
+mod figures;
 mod laws;
 mod row;
 mod stack;
 
+pub use choices::{Choices, End, Join};
+pub use figures::Figures;
 pub use laws::{
     choice_laws, limit_laws, path_laws, profile_laws, share_laws, stack_laws, step_laws, walk_laws,
     worked_rows,

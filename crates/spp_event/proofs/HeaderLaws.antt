@@ -5,10 +5,10 @@ use Rattle.spp_event.specs.Recordings.{Recording}
 use Rattle.spp_event.specs.Header.{IsTraceOf, IsHeaderFault}
 use Rattle.spp_event.specs.Checks.{trace_at}
 use Rattle.spp_event.specs.Laws.{HeaderFaultIsOne, TraceHasNoFault, TraceIsOne, TraceOrFault}
-use Rattle.spp_event.proofs.Found.{trace_found}
-use Rattle.spp_event.proofs.Refused.{trace_refused}
-use Rattle.spp_event.proofs.Again.{trace_again}
-use Rattle.spp_event.proofs.Unique.{fault_again}
+use Rattle.spp_event.proofs.PassersAreTraces.{trace_found}
+use Rattle.spp_event.proofs.RefusalsAreFaults.{trace_refused}
+use Rattle.spp_event.proofs.TracesPass.{trace_again}
+use Rattle.spp_event.proofs.FaultsAreRefused.{fault_again}
 
 same_fault : (r : Result Recording HeaderFault) (f g : HeaderFault) → r ≡ Err f → r ≡ Err g → f ≡ g
 same_fault r f g p q = cc

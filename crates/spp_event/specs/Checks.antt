@@ -18,6 +18,9 @@ abbrev pub ◌>>=◌ : {A B : Type 0} → Result A HeaderFault → (A → Result
 abbrev pub is_printable : List ℕ → Bool
 is_printable name = list_all (λ b. is_in_range 32 126 b) name
 
+abbrev pub is_name : List ℕ → Bool
+is_name name = nat_lt 0 (length name) && nat_le (length name) 200 && is_printable name
+
 -- the name at the front, which has that number, and the bytes after it
 unfoldable pub name_at : ℕ → List ℕ → Result (List ℕ × List ℕ) HeaderFault
 name_at number bytes = if nat_lt (length bytes) 2 then Err Short

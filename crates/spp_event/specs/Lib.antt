@@ -4,4 +4,5 @@ pub mod Header
 pub mod Checks
 pub mod NameSets
 pub mod Texts
+pub mod Contents
 pub mod Laws

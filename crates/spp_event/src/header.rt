@@ -7,9 +7,10 @@ ghost use Rattle.spp_event.specs.declared.header.HeaderFault.TheVariants.{Memory
 ghost use Rattle.spp_event.specs.Records.{word_at};
 ghost use Rattle.spp_event.specs.Recordings.{Recording};
 ghost use Rattle.spp_event.specs.Texts.{header_fault_text};
-ghost use Rattle.spp_event.specs.Header.{IsTraceOf, IsHeaderFault, root_name, magic};
-ghost use Rattle.spp_event.specs.Checks.{Gives, is_printable as printable, name_at, funcs_at, sites_at, trace_at, are_limits};
+ghost use Rattle.spp_event.specs.Header.{IsTraceOf, IsHeaderFault, magic};
+ghost use Rattle.spp_event.specs.Checks.{Gives, name_at, funcs_at, sites_at, trace_at, are_limits};
 
+use crate::names::{is_name, is_root_name};
 use crate::traces::Trace;
 use std::alloc::{AllocError, AllocFailed, Global};
 use std::collections::BTreeSet;
@@ -80,13 +81,6 @@ impl<T: Drop> From<AllocFailed<T>> for HeaderFault {
     }
 }
 
-/// Whether each byte is a printable one.
-fn is_printable(name: &[u8]) -> bool
-    ensures { result ≡ printable name.now }
-{
-    name.iter().all(|b| (0x20..=0x7e).contains(b))
-}
-
 /// The name at the front, and the bytes after it.
 #[tactic(auto, unfolding(crate::specs::Checks::name_at))]
 fn name_of(number: u32, bytes: &[u8]) -> Result<(&str, &[u8]), HeaderFault>
@@ -104,7 +98,7 @@ fn name_of(number: u32, bytes: &[u8]) -> Result<(&str, &[u8]), HeaderFault>
         return Err(HeaderFault::Short);
     }
     let (name, others) = rest.split_at(len);
-    if !is_printable(name) {
+    if !is_name(name) {
         return Err(HeaderFault::Name { number });
     }
     match str::from_utf8(name) {
@@ -126,13 +120,6 @@ fn funcs_of(alloc: Global, count: u32, bytes: &[u8]) -> Result<(Vec<&str>, &[u8]
         rest = others;
     }
     Ok((names, rest))
-}
-
-/// Whether it is the name of the root's row, which no site may have.
-fn is_root_name(name: &str) -> bool
-    ensures { result ≡ bytes_eq name.now root_name }
-{
-    name == "(root)"
 }
 
 /// Notes a site's name, and says whether it was new.
@@ -160,7 +147,7 @@ fn sites_of(
     for number in 0..count {
         let (name, others) = name_of(first + number, rest)?;
         let fresh = note(&mut seen, name)?;
-        if is_root_name(name) || !fresh {
+        if is_root_name(name.as_bytes()) || !fresh {
             return Err(HeaderFault::SameName {
                 number: first + number,
             });
@@ -171,11 +158,14 @@ fn sites_of(
     Ok((names, rest))
 }
 
+/// The first eight bytes of a trace.
+pub(crate) const MAGIC: &[u8] = b"SPTRACE1";
+
 /// Whether they are the first eight bytes of a trace.
 fn is_magic(front: &[u8]) -> bool
     ensures { result ≡ bytes_eq front.now magic }
 {
-    front == b"SPTRACE1".as_slice()
+    front == MAGIC
 }
 
 /// The number of four bytes at a place of the header.

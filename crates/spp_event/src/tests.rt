@@ -1,4 +1,7 @@
-use crate::{Event, EventFault, HeaderFault, open_trace, record_of};
+use crate::{
+    Contents, Event, EventFault, HeaderFault, is_name, is_root_name, open_trace, record_of,
+    trace_bytes,
+};
 use std::alloc::{AllocError, Global};
 use std::test::Fail;
 
@@ -68,6 +71,7 @@ fn a_small_trace_opens(rt: HostRuntime) -> Result<(), Fail> {
     };
     assert!(rt; trace.count() == 7 && trace.root() == 0);
     assert!(rt; trace.funcs() == 2 && trace.sites() == 1);
+    trace.keeps_limits();
     assert_eq!(rt; trace.func_name(0), "main");
     assert_eq!(rt; trace.func_name(1), "f");
     assert_eq!(rt; trace.site_name(0), "A");
@@ -76,6 +80,59 @@ fn a_small_trace_opens(rt: HostRuntime) -> Result<(), Fail> {
         assert_eq!(rt; known(rt.alloc(), SMALL, i as u32), Some(*event));
     }
     Ok(())
+}
+
+/// The bytes of a trace of these events, of the functions `main` and `f` and the site `A`; none where an event is of no
+/// such trace.
+fn written(alloc: Global, events: &[Event]) -> Result<Vec<u8>, AllocError> {
+    let contents = Contents {
+        funcs: &[b"main".as_slice(), b"f".as_slice()],
+        sites: &[b"A".as_slice()],
+        root: 0,
+        events,
+    };
+    if events.len() > 1 << 28 || !contents.has_own_events() {
+        return Err(AllocError);
+    }
+    trace_bytes(alloc, &contents)
+}
+
+#[test]
+fn a_trace_is_written(rt: HostRuntime) -> Result<(), Fail> {
+    assert_eq!(rt; written(rt.alloc(), &EVENTS)?.as_slice(), SMALL);
+    Ok(())
+}
+
+#[test]
+fn events_of_other_sites_and_functions_are_told(rt: HostRuntime) {
+    for (event, own) in [
+        (Event::Call { site: 0, func: 1 }, true),
+        (Event::Call { site: 1, func: 0 }, false),
+        (Event::Spawn { site: 0, func: 2 }, false),
+    ] {
+        let contents = Contents {
+            funcs: &[b"main".as_slice(), b"f".as_slice()],
+            sites: &[b"A".as_slice()],
+            root: 0,
+            events: &[event],
+        };
+        assert_eq!(rt; contents.has_own_events(), own);
+    }
+}
+
+#[test]
+fn a_name_is_printable_and_not_empty(rt: HostRuntime) {
+    for (name, good) in [
+        ("", false),
+        ("a name of ~", true),
+        ("(root)", true),
+        ("\u{1f}", false),
+        ("\u{7f}", false),
+        ("\u{e9}", false),
+    ] {
+        assert_eq!(rt; is_name(name.as_bytes()), good, "{name}");
+        assert_eq!(rt; is_root_name(name.as_bytes()), name == "(root)");
+    }
 }
 
 #[test]

@@ -61,15 +61,25 @@ fn are_bytes(bytes: &[u8])
 {}
 
 impl<'a> Trace<'a> {
-    /// How many events the trace has, bad ones among them: at most 2^28. Its clauses also give out what every opened
-    /// trace keeps: its limits, that its names are good, and that its events are of its sites and functions.
+    /// What every opened trace keeps: the limits of a trace, good names, and that each good record is an event of its
+    /// sites and functions. Its contract is what it is for.
+    pub fn keeps_limits(&self)
+        ensures limits { InLimits self.now }
+        ensures names { HasGoodNames self.now }
+        ensures events { AreEventsOf (length self.now.sites) (length self.now.funcs) self.now.records }
+    {
+        are_bytes(self.body);
+    }
+
+    /// How many events the trace has, bad ones among them: at most 2^28. Its clauses also give out what
+    /// [`Trace::keeps_limits`] says.
     pub fn count(&self) -> u32
         ensures count { result ≡ length self.now.records }
         ensures limits { InLimits self.now }
         ensures names { HasGoodNames self.now }
         ensures events { AreEventsOf (length self.now.sites) (length self.now.funcs) self.now.records }
     {
-        are_bytes(self.body);
+        self.keeps_limits();
         self.count
     }
 

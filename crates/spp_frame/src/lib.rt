@@ -5,6 +5,9 @@ ghost use Rattle.std.specs.Prelude.{◌≡◌, IfOk, IfErr, Some};
 ghost use Rattle.spp_frame.specs.Texts.{why_text, fault_text};
 ghost use Rattle.spp_frame.specs.Nesting.{IsWellFormed, IsFirstBad, work, FirstBadIsOne, WellFormedHasNone, WellFormedOrBad, WellFormedAreEvents};
 
+mod profile_fault;
+
+pub use profile_fault::ProfileFault;
 use spp_event::{Event, EventFault, Trace};
 use std::error::Error;
 use std::fmt;

@@ -1,5 +1,6 @@
 use crate::{Fault, Why, check};
-use spp_event::{Event, EventFault, open_trace, record_of};
+use spp_event::{Event, EventFault, open_trace};
+use spp_samples::trace_of;
 use std::alloc::{AllocError, Global};
 use std::test::Fail;
 
@@ -18,16 +19,6 @@ fn header(alloc: Global, count: u8) -> Result<Vec<u8>, AllocError> {
     )?;
     bytes.push(count)?;
     bytes.extend_from_slice(b"\x00\x04main\x00\x01f\x00\x01A")?;
-    Ok(bytes)
-}
-
-/// The bytes of a trace of these events.
-fn trace_of(alloc: Global, events: &[Event]) -> Result<Vec<u8>, AllocError> {
-    let count = u8::try_from(events.len()).unwrap_or(0);
-    let mut bytes = header(alloc, count)?;
-    for event in events {
-        bytes.extend_from_slice(&record_of(*event))?;
-    }
     Ok(bytes)
 }
 

@@ -3,6 +3,8 @@ use Rattle.std.specs.Prelude.{ℕ, ◌+◌, Option, Some, None}
 use Rattle.spp_maxplus.specs.declared.state.State.{State}
 use Rattle.spp_maxplus.specs.declared.state.Burdens.{Burdens}
 use Rattle.spp_maxplus.specs.declared.seg.Seg.{Seg}
+use Rattle.spp_maxplus.specs.declared.child.ChildKind.{ChildKind}
+use Rattle.spp_maxplus.specs.declared.child.ChildKind.TheVariants.{Called, Spawned}
 use Rattle.spp_maxplus.specs.Candidate.{greatest, better, shifted}
 
 -- up to the first sync, if there is one, which joins what was waited for before
@@ -29,7 +31,12 @@ along weight = record { head = None; add = weight; offer = None }
 -- a spawned child that closed with that weight
 abbrev pub spawned : ℕ → ℕ → Burdens → Seg
 spawned at weight burdens =
-    record { head = None; add = burdens.on_continuation; offer = Some (weight + burdens.on_return, at) }
+    record { head = None; add = burdens.continuation; offer = Some (weight + burdens.join, at) }
+
+-- a child of that kind that closed with that weight and was entered at that position
+abbrev pub received : Burdens → ChildKind → ℕ → ℕ → Seg
+received burdens Called at weight = along weight
+received burdens Spawned at weight = spawned at weight burdens
 
 abbrev pub synced : Seg
 synced = record { head = Some 0; add = 0; offer = None }

@@ -2,15 +2,17 @@
 use Rattle.std.specs.Prelude.{ℕ, ◌+◌, cond, nat_le, Option, Some, None}
 use Rattle.spp_maxplus.specs.declared.state.State.{State}
 use Rattle.spp_maxplus.specs.declared.state.Burdens.{Burdens}
+use Rattle.spp_maxplus.specs.declared.child.ChildKind.{ChildKind}
+use Rattle.spp_maxplus.specs.declared.child.ChildKind.TheVariants.{Called, Spawned}
 use Rattle.spp_maxplus.specs.Candidate.{greatest, better}
 
 -- no edge bears anything
 abbrev pub unburdened : Burdens
-unburdened = record { on_continuation = 0; on_return = 0 }
+unburdened = record { continuation = 0; join = 0 }
 
 -- edges of both kinds bear the same
-abbrev pub both : ℕ → Burdens
-both burden = record { on_continuation = burden; on_return = burden }
+abbrev pub equal : ℕ → Burdens
+equal burden = record { continuation = burden; join = burden }
 
 -- a frame that was just opened
 abbrev pub start : State
@@ -29,9 +31,14 @@ after_call weight s = record { spine = s.spine + weight; child = s.child }
 -- edge.
 abbrev pub after_spawn : ℕ → ℕ → Burdens → State → State
 after_spawn at weight burdens s = record {
-  spine = s.spine + burdens.on_continuation;
-  child = better s.child (Some (s.spine + (weight + burdens.on_return), at));
+  spine = s.spine + burdens.continuation;
+  child = better s.child (Some (s.spine + (weight + burdens.join), at));
 }
+
+-- a child of that kind has returned, which closed with that weight and was entered at that position
+abbrev pub after_child : Burdens → ChildKind → ℕ → ℕ → State → State
+after_child burdens Called at weight s = after_call weight s
+after_child burdens Spawned at weight s = after_spawn at weight burdens s
 
 -- the weight with which the frame closes: the greater of spine and child
 abbrev pub close : State → ℕ

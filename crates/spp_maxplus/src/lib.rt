@@ -3,10 +3,12 @@
 #![tactic(auto)]
 
 mod candidate;
+mod child;
 mod laws;
 mod seg;
 mod state;
 
+pub use child::ChildKind;
 pub use laws::seg_laws;
 pub use seg::Seg;
 pub use state::{Burdens, State};

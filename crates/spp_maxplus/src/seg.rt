@@ -3,9 +3,10 @@
 ghost use Rattle.std.specs.Prelude.{◌≡◌, ◌+◌, ◌<◌, ◌≤◌, ◌^◌};
 ghost use Rattle.spp_maxplus.specs.declared.state.State.{State as AState};
 ghost use Rattle.spp_maxplus.specs.State.{after_strand, after_call, after_spawn, after_sync};
-ghost use Rattle.spp_maxplus.specs.Seg.{act, idle as idle_seg, along as along_seg, spawned as spawned_seg, synced as synced_seg, then as then_seg, peak, rise};
+ghost use Rattle.spp_maxplus.specs.Seg.{act, idle as idle_seg, along as along_seg, spawned as spawned_seg, synced as synced_seg, received, then as then_seg, peak, rise};
 
-use crate::candidate::{better, greatest, shifted};
+use crate::candidate::{better, greatest, offer, shifted};
+use crate::child::ChildKind;
 use crate::state::{Burdens, State};
 
 /// What a list of strands, whole children and syncs of one frame does to the state of that frame. Of the children that
@@ -63,14 +64,14 @@ impl Seg {
     /// that it is for: none where spans are measured without them. The weight and the burden of its return must come to
     /// less than 2^127.
     pub fn spawn(at: u32, weight: u128, burdens: Burdens) -> Self
-        requires { weight + burdens.on_return < 2 ^ 127 }
+        requires { weight + burdens.join < 2 ^ 127 }
         ensures value { result ≡ spawned_seg at weight burdens }
         ensures acts { (s : AState) → act result s ≡ after_spawn at weight burdens s }
     {
         Seg {
             head: None,
-            add: u128::from(burdens.on_continuation),
-            offer: Some((weight + u128::from(burdens.on_return), at)),
+            add: u128::from(burdens.continuation),
+            offer: Some((weight + u128::from(burdens.join), at)),
         }
     }
 
@@ -100,7 +101,7 @@ impl Seg {
                 offer: better(self.offer, shifted(self.add, next.offer)),
             };
         };
-        let most = greatest(self.add + head, self.offer);
+        let most = greatest(self.add + head, &self.offer);
         match self.head {
             None => Seg {
                 head: Some(most),
@@ -115,6 +116,49 @@ impl Seg {
         }
     }
 
+    /// So many instructions of the frame itself or of called children follow, where the list lies.
+    #[inline(always)]
+    pub fn run(&mut self, count: u128)
+        requires { self.old.add + count < 2 ^ 128 }
+        ensures { self.new ≡ then_seg self.old (along_seg count) }
+    {
+        self.add += count;
+    }
+
+    /// A sync follows, where the list lies.
+    #[inline(always)]
+    pub fn wait(&mut self)
+        ensures { self.new ≡ then_seg self.old synced_seg }
+    {
+        let most = greatest(self.add, &self.offer);
+        self.offer = None;
+        match self.head {
+            None => {
+                self.head = Some(most);
+                self.add = 0;
+            }
+            Some(_) => self.add = most,
+        }
+    }
+
+    /// A child follows that was entered so at the position `at` and closed with this weight, where the list lies. The
+    /// burdens are those of the states that it is for.
+    #[inline(always)]
+    pub fn receive(&mut self, kind: ChildKind, at: u32, weight: u128, burdens: Burdens)
+        requires continuation { self.old.add + burdens.continuation < 2 ^ 128 }
+        requires through { self.old.add + (weight + burdens.join) < 2 ^ 128 }
+        ensures { self.new ≡ then_seg self.old (received burdens kind at weight) }
+    {
+        match kind {
+            ChildKind::Called => self.add += weight,
+            ChildKind::Spawned => {
+                let joined = weight + u128::from(burdens.join);
+                offer(&mut self.offer, self.add + joined, at);
+                self.add += u128::from(burdens.continuation);
+            }
+        }
+    }
+
     /// What the list makes of a state. The greatest weight of the state and what the list can add to it must come to
     /// less than 2^127.
     pub fn apply(&self, state: State) -> State
@@ -125,7 +169,7 @@ impl Seg {
         let synced = match self.head {
             None => state,
             Some(head) => State {
-                spine: greatest(state.spine + head, state.child),
+                spine: greatest(state.spine + head, &state.child),
                 child: None,
             },
         };

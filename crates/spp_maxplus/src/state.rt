@@ -2,36 +2,49 @@
 
 ghost use Rattle.std.specs.Prelude.{◌≡◌, ◌+◌, ◌<◌, ◌^◌};
 ghost use Rattle.spp_maxplus.specs.State.{
-  both as same_burden,
+  equal as equal_burdens,
   start as opened,
   after_strand as strand_added,
   after_call as call_added,
   after_spawn as spawn_added,
+  after_child as child_added,
   after_sync as synced,
   close as close_of,
   taken as taken_by,
 };
 
-use crate::candidate::{better, greatest};
+use crate::candidate::{better, greatest, offer};
+use crate::child::ChildKind;
 
 /// What edges of the dag cost beside the strands.
 #[derive(Clone, Copy, Debug, Default, PartialEq, Eq)]
 pub struct Burdens {
     /// On the edge from a spawn to what follows the child's return in the parent.
-    pub on_continuation: u32,
+    pub continuation: u32,
     /// On the edge from a spawned child's return to the place where its parent waits for it.
-    pub on_return: u32,
+    pub join: u32,
 }
 
 impl Burdens {
     /// The same burden on edges of both kinds.
-    pub fn both(burden: u32) -> Self
-        ensures { result ≡ same_burden burden }
+    pub fn equal(burden: u32) -> Self
+        ensures { result ≡ equal_burdens burden }
     {
         Burdens {
-            on_continuation: burden,
-            on_return: burden,
+            continuation: burden,
+            join: burden,
         }
+    }
+
+    /// Each is a number of 32 bits. Its contract is what it is for.
+    pub fn are_small(self)
+        ensures continuation { self.continuation < 2 ^ 32 }
+        ensures join { self.join < 2 ^ 32 }
+    {
+        let Burdens {
+            continuation: _continuation,
+            join: _join,
+        } = self;
     }
 }
 
@@ -81,13 +94,13 @@ impl State {
     /// After the return of a child that was spawned at the position `at` and closed with this weight. The burdens are
     /// those of the state: none where spans are measured without them.
     pub fn after_spawn(self, at: u32, weight: u128, burdens: Burdens) -> Self
-        requires continuation { self.spine + burdens.on_continuation < 2 ^ 128 }
-        requires through { self.spine + (weight + burdens.on_return) < 2 ^ 128 }
+        requires continuation { self.spine + burdens.continuation < 2 ^ 128 }
+        requires through { self.spine + (weight + burdens.join) < 2 ^ 128 }
         ensures { result ≡ spawn_added at weight burdens self }
     {
-        let through = self.spine + (weight + u128::from(burdens.on_return));
+        let through = self.spine + (weight + u128::from(burdens.join));
         State {
-            spine: self.spine + u128::from(burdens.on_continuation),
+            spine: self.spine + u128::from(burdens.continuation),
             child: better(self.child, Some((through, at))),
         }
     }
@@ -102,11 +115,56 @@ impl State {
         }
     }
 
+    /// So many instructions of the frame itself or of called children, where the state lies.
+    #[inline(always)]
+    pub fn run(&mut self, count: u128)
+        requires { self.old.spine + count < 2 ^ 128 }
+        ensures { self.new ≡ strand_added count self.old }
+    {
+        self.spine += count;
+    }
+
+    /// A sync, where the state lies.
+    #[inline(always)]
+    pub fn wait(&mut self)
+        ensures { self.new ≡ synced self.old }
+    {
+        self.spine = greatest(self.spine, &self.child);
+        self.child = None;
+    }
+
+    /// The return of a child that was entered so at the position `at` and closed with this weight, where the state
+    /// lies. The burdens are those of the state.
+    #[inline(always)]
+    pub fn receive(&mut self, kind: ChildKind, at: u32, weight: u128, burdens: Burdens)
+        requires continuation { self.old.spine + burdens.continuation < 2 ^ 128 }
+        requires through { self.old.spine + (weight + burdens.join) < 2 ^ 128 }
+        ensures { self.new ≡ child_added burdens kind at weight self.old }
+    {
+        match kind {
+            ChildKind::Called => self.spine += weight,
+            ChildKind::Spawned => {
+                let joined = weight + u128::from(burdens.join);
+                offer(&mut self.child, self.spine + joined, at);
+                self.spine += u128::from(burdens.continuation);
+            }
+        }
+    }
+
+    /// The weight with which the frame closes after so many instructions more.
+    #[inline(always)]
+    pub fn close_after(&self, count: u128) -> u128
+        requires { self.now.spine + count < 2 ^ 128 }
+        ensures { result ≡ close_of (strand_added count self.now) }
+    {
+        greatest(self.spine + count, &self.child)
+    }
+
     /// The weight with which the frame closes if it returns now: its span, or its burdened span.
     pub fn close(self) -> u128
         ensures { result ≡ close_of self }
     {
-        greatest(self.spine, self.child)
+        greatest(self.spine, &self.child)
     }
 
     /// The spawn of the child through which the greatest weight goes if the frame waits now; none where it goes along

@@ -3,8 +3,8 @@ use super::*;
 #[test]
 fn a_child_and_a_longer_continuation(rt: HostRuntime) {
     let burdens = Burdens {
-        on_continuation: 3,
-        on_return: 5,
+        continuation: 3,
+        join: 5,
     };
     let waiting = State::start().after_strand(1).after_spawn(1, 10, burdens);
     assert_eq!(rt;
@@ -51,7 +51,7 @@ fn a_sync_joins_the_child(rt: HostRuntime) {
 
 #[test]
 fn one_list_after_another(rt: HostRuntime) {
-    let middle = Seg::spawn(0, 6, Burdens::both(3)).then(Seg::strand(2));
+    let middle = Seg::spawn(0, 6, Burdens::equal(3)).then(Seg::strand(2));
     assert_eq!(rt;
         middle.apply(State::start()),
         State {
@@ -78,4 +78,38 @@ fn one_list_after_another(rt: HostRuntime) {
         }
     );
     assert_eq!(rt; Seg::idle().then(both).then(Seg::idle()), both);
+}
+
+#[test]
+fn the_same_steps_in_place(rt: HostRuntime) {
+    let burdens = Burdens {
+        continuation: 3,
+        join: 5,
+    };
+    let mut state = State::start();
+    let mut list = Seg::idle();
+    state.run(1);
+    list.run(1);
+    state.receive(ChildKind::Spawned, 1, 10, burdens);
+    list.receive(ChildKind::Spawned, 1, 10, burdens);
+    assert_eq!(rt; state.close_after(13), 17);
+    state.wait();
+    list.wait();
+    state.receive(ChildKind::Called, 4, 2, burdens);
+    list.receive(ChildKind::Called, 4, 2, burdens);
+    assert_eq!(rt;
+        state,
+        State {
+            spine: 18,
+            child: None
+        }
+    );
+    assert_eq!(rt;
+        list,
+        Seg {
+            head: Some(16),
+            add: 2,
+            offer: None,
+        }
+    );
 }

@@ -12,12 +12,12 @@ use Rattle.spp_cut.proofs.Whole.{cover_le}
 use Rattle.spp_maxplus.specs.declared.state.Burdens.{Burdens}
 use Rattle.spp_dag.specs.Trace.{records}
 use Rattle.spp_dag.specs.Limits.{IsSmall}
-use Rattle.spp_piece.specs.declared.figures.Figures.{Figures}
+use Rattle.spp_dag.specs.declared.figures.Figures.{Figures}
 use Rattle.spp_piece.specs.Account.{Account, account_of}
-use Rattle.spp_piece.specs.Figures.{AreFigures}
-use Rattle.spp_piece.specs.Faults.{IsFaultOf}
-use Rattle.spp_piece.specs.declared.whole.FiguresFault.{FiguresFault}
-use Rattle.spp_piece.specs.declared.whole.FiguresFault.TheVariants.{Bad}
+use Rattle.spp_dag.specs.Figures.{AreFigures}
+use Rattle.spp_frame.specs.Answers.{IsFaultOf}
+use Rattle.spp_frame.specs.declared.profile_fault.ProfileFault.{ProfileFault}
+use Rattle.spp_frame.specs.declared.profile_fault.ProfileFault.TheVariants.{Bad}
 use Rattle.spp_frame.specs.declared.Fault.{Fault}
 use Rattle.spp_frame.specs.Nesting as nesting
 use Rattle.spp_stack.specs.Parts.{AreAccounts, AreOfParts}
@@ -75,11 +75,11 @@ are_of_parts t b ps xs f es cover is figures events small = record {
 }
 
 -- each has the burdens
-pub accounts_burden : (b : Burdens) (ps : List PartOf) → All (λ (a : Account). a.burden ≡ b) (map (account_in b) ps)
-accounts_burden b ps = All-map (λ (a : Account). a.burden ≡ b) (account_in b) ps (λ k d lt. refl)
+pub accounts_burden : (b : Burdens) (ps : List PartOf) → All (λ (a : Account). a.burdens ≡ b) (map (account_in b) ps)
+accounts_burden b ps = All-map (λ (a : Account). a.burdens ≡ b) (account_in b) ps (λ k d lt. refl)
 
 -- where the first bad event is told
-pub told_bad : {X : Type 0} (rs : List Record) (fault : Fault) (x : Result X FiguresFault) → IsErrAnd x (λ e. e ≡ Bad fault) → nesting.IsFirstBad rs fault
+pub told_bad : {X : Type 0} (rs : List Record) (fault : Fault) (x : Result X ProfileFault) → IsErrAnd x (λ e. e ≡ Bad fault) → nesting.IsFirstBad rs fault
     → IfErr x (IsFaultOf rs)
 told_bad rs fault (Ok f) h bad = tt
 told_bad rs fault (Err e) h bad = subst (IsFaultOf rs) (sym h) bad

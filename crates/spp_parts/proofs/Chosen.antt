@@ -5,8 +5,8 @@ use Rattle.spp_event.specs.declared.records.Event.{Event}
 use Rattle.spp_event.specs.Recordings.{Recording}
 use Rattle.spp_frame.specs.Nesting.{AreEvents}
 use Rattle.spp_cut.specs.Parts.{PartOf}
-use Rattle.spp_path.specs.declared.choices.Choices.{Choices}
-use Rattle.spp_serial.specs.Shares.{AreChoicesIn}
+use Rattle.spp_dag.specs.declared.choices.Choices.{Choices}
+use Rattle.spp_dag.specs.ChoiceLists.{AreChoicesIn}
 use Rattle.spp_parts.specs.Choices.{AreChoicesOf}
 use Rattle.spp_parts.proofs.Shares.{PartAt}
 

@@ -7,13 +7,7 @@ use Rattle.spp_event.specs.Records.{IsEventOf}
 use Rattle.spp_event.specs.Recordings.{Record, AreEventsOf, record_at}
 use Rattle.spp_dag.specs.Trace.{records, weight, weight_of}
 use Rattle.spp_dag.specs.Limits.{IsSmall}
-
-weight_small : (sites funcs : ℕ) (e : Event) → IsEventOf sites funcs e → weight_of (Some e) < 2 ^ 64
-weight_small sites funcs (Strand n) h = h
-weight_small sites funcs (Call s f) h = omega arith
-weight_small sites funcs (Spawn s f) h = omega arith
-weight_small sites funcs Ret h = omega arith
-weight_small sites funcs Sync h = omega arith
+use Rattle.spp_dag.proofs.EventsOfRecords.{weight_small}
 
 weights_small : (sites funcs : ℕ) (es : List Event) (k : ℕ) → (k < length es → IfOk (record_at (records es) k) (IsEventOf sites funcs))
     → weight es k < 2 ^ 64

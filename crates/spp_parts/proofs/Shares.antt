@@ -27,18 +27,18 @@ use Rattle.spp_dag.proofs.Sums.{sum-same}
 use Rattle.spp_site.specs.Rows.{Fits, frame_row}
 use Rattle.spp_site.specs.Table.{Sums, empty, IsSum}
 use Rattle.spp_site.proofs.Rows.{plus-zero}
-use Rattle.spp_piece.specs.declared.figures.Figures.{Figures}
+use Rattle.spp_dag.specs.declared.figures.Figures.{Figures}
 use Rattle.spp_piece.specs.Account.{Account}
-use Rattle.spp_piece.specs.Figures.{AreFigures}
+use Rattle.spp_dag.specs.Figures.{AreFigures}
 use Rattle.spp_stack.specs.Chain.{Stacks, StackOf, IsStart, HasFrames}
 use Rattle.spp_stack.specs.Parts.{IsEntryOf, begin_of}
-use Rattle.spp_path.specs.Tables.{key_row}
-use Rattle.spp_path.specs.declared.choices.Choices.{Choices}
-use Rattle.spp_serial.specs.Outside.{StandsAt}
-use Rattle.spp_serial.specs.Shares.{IsPartOf}
-use Rattle.spp_serial.specs.Tables.{IsDagTable}
-use Rattle.spp_serial.proofs.Bounded.{empty_rows}
-use Rattle.spp_serial.proofs.Shared.{share_none}
+use Rattle.spp_site.specs.Profiles.{key_row}
+use Rattle.spp_dag.specs.declared.choices.Choices.{Choices}
+use Rattle.spp_pass.specs.Outside.{StandsAt}
+use Rattle.spp_pass.specs.Shares.{IsPartOf}
+use Rattle.spp_site.specs.Profiles.{IsDagTable}
+use Rattle.spp_pass.proofs.Bounded.{empty_rows}
+use Rattle.spp_pass.proofs.Shared.{share_none}
 use Rattle.spp_parts.proofs.Accounts.{account_in}
 
 -- ---- no share depends on the choice of spans

@@ -2,8 +2,8 @@
 use Rattle.std.specs.Prelude.{◌+◌, List, [], ◌∷◌}
 use Rattle.spp_event.specs.declared.records.Event.{Event}
 use Rattle.spp_cut.specs.Parts.{PartOf}
-use Rattle.spp_path.specs.declared.choices.Choices.{Choices}
-use Rattle.spp_serial.specs.Shares.{AreChoicesIn}
+use Rattle.spp_dag.specs.declared.choices.Choices.{Choices}
+use Rattle.spp_dag.specs.ChoiceLists.{AreChoicesIn}
 
 -- for each part, in order, those at its positions
 abbrev pub AreChoicesOf : List Event → List PartOf → List Choices → Type 0

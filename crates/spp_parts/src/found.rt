@@ -1,8 +1,8 @@
 //! What the two rounds tell.
 
-use spp_path::Choices;
-use spp_piece::{Figures, Summary};
+use spp_dag::{Choices, Figures};
 use spp_site::Table;
+use spp_summary::Summary;
 
 /// What is told of a run by way of its parts.
 #[derive(Drop)]

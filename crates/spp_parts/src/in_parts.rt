@@ -5,16 +5,16 @@ ghost use Rattle.spp_event.specs.declared.records.Event.{Event as EventValue};
 ghost use Rattle.spp_frame.specs.Nesting.{AreEvents};
 ghost use Rattle.spp_parts.specs.Choices.{AreChoicesOf};
 ghost use Rattle.spp_site.specs.Rows.{frame_row};
-ghost use Rattle.spp_piece.specs.Faults.{IsFaultOf};
-ghost use Rattle.spp_serial.specs.Tables.{IsDagTable};
+ghost use Rattle.spp_frame.specs.Answers.{IsFaultOf};
+ghost use Rattle.spp_site.specs.Profiles.{IsDagTable};
 
 use crate::found::Tabled;
 use crate::surveying::survey;
 use spp_cut::Cut;
-use spp_dag::Row;
+use spp_dag::{Figures, Row};
+use spp_frame::ProfileFault;
 use spp_maxplus::Burdens;
-use spp_piece::{Figures, FiguresFault};
-use spp_serial::run_part;
+use spp_pass::run_part;
 use spp_site::{ClosedFrame, Table};
 use spp_stack::entries;
 use std::alloc::Global;
@@ -44,7 +44,7 @@ fn root_row(whole: &Figures) -> Row
 /// # Errors
 ///
 /// The first bad event, or `Memory` where a growth was refused.
-pub fn table_in_parts(alloc: Global, cut: &Cut<'_, '_>) -> Result<Tabled, FiguresFault>
+pub fn table_in_parts(alloc: Global, cut: &Cut<'_, '_>) -> Result<Tabled, ProfileFault>
     requires some { 0 < length cut.now.parts }
     requires few { length cut.now.parts ≤ 65536 }
     ensures dag { IfOk result (λ t. IsDagTable cut.now.trace t.dag) }

@@ -6,14 +6,15 @@ ghost use Rattle.spp_cut.specs.Parts.{records_in};
 ghost use Rattle.spp_piece.specs.Account.{account_of};
 ghost use Rattle.spp_event.specs.declared.records.Event.{Event as EventValue};
 ghost use Rattle.spp_frame.specs.Nesting.{AreEvents};
-ghost use Rattle.spp_piece.specs.Faults.{IsFaultOf};
-ghost use Rattle.spp_piece.specs.Figures.{AreFigures};
+ghost use Rattle.spp_frame.specs.Answers.{IsFaultOf};
+ghost use Rattle.spp_dag.specs.Figures.{AreFigures};
 ghost use Rattle.spp_stack.specs.Parts.{AreOfParts};
 
 use crate::found::Survey;
 use spp_cut::{Cut, Part};
+use spp_frame::ProfileFault;
 use spp_maxplus::Burdens;
-use spp_piece::{FiguresFault, Summary};
+use spp_summary::Summary;
 use std::alloc::{AllocError, Global};
 
 /// Summarises a part, and keeps a copy behind those of the parts before it.
@@ -39,18 +40,17 @@ fn summarised(
 /// # Errors
 ///
 /// The first bad event, or `Memory` where a growth was refused.
-pub fn survey(alloc: Global, cut: &Cut<'_, '_>, burdens: Burdens) -> Result<Survey, FiguresFault>
+pub fn survey(alloc: Global, cut: &Cut<'_, '_>, burdens: Burdens) -> Result<Survey, ProfileFault>
     requires { 0 < length cut.now.parts }
     ensures figures { IfOk result (λ s. AreFigures cut.now.trace.records burdens s.whole) }
     ensures small { IfOk result (λ s. s.whole.work ≤ 2 ^ 92) }
     ensures count { IfOk result (λ s. length s.each.items ≡ length cut.now.parts) }
-    ensures burdens { IfOk result (λ s. All (λ a. a.burden ≡ burdens) s.each.items) }
+    ensures burdens { IfOk result (λ s. All (λ a. a.burdens ≡ burdens) s.each.items) }
     ensures each { IfOk result (λ s. s.each.items ≡ map (λ p. account_of burdens p.first (records_in p)) cut.now.parts) }
     ensures parts { IfOk result (λ s. (es : List EventValue) → AreEvents cut.now.trace.records es → AreOfParts es s.each.items) }
     ensures fault { IfErr result (λ f. IsFaultOf cut.now.trace.records f) }
 {
-    // Its clauses tell that counts fit.
-    let _count = cut.trace().count();
+    cut.trace().keeps_limits();
     let parts = cut.parts();
     let mut each = Vec::with_capacity(alloc, parts.len())?;
     let mut all = summarised(alloc, &parts[0], burdens, &mut each)?;
@@ -58,11 +58,9 @@ pub fn survey(alloc: Global, cut: &Cut<'_, '_>, burdens: Burdens) -> Result<Surv
         let next = summarised(alloc, part, burdens, &mut each)?;
         all = match Summary::join(all, next) {
             Ok(both) => both,
-            Err(_) => return Err(FiguresFault::Memory),
+            Err(_) => return Err(ProfileFault::Memory),
         };
     }
-    // Its clauses tell that the work is small.
-    let _work = all.work();
     Ok(Survey {
         each,
         whole: all.finish()?,

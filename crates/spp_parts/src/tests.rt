@@ -1,12 +1,11 @@
 //! Surveys, the open frames where parts begin, which come of them, and tables by parts.
 use crate::{Tabled, survey, table_in_parts};
-use spp_cut::{Cut, cut_at, cut_even};
-use spp_dag::{EntryFrame, FrameKind, Row};
-use spp_event::{Event, open_trace, record_of};
-use spp_frame::{Fault, Why};
+use spp_cut::{Cut, Parts, cut_at, cut_even};
+use spp_dag::{Choices, End, EntryFrame, Figures, FrameKind, Join, Row};
+use spp_event::{Event, open_trace};
+use spp_frame::{Fault, ProfileFault, Why};
 use spp_maxplus::{Burdens, State};
-use spp_path::{Choices, End, Join};
-use spp_piece::{Figures, FiguresFault};
+use spp_samples::trace_of;
 use spp_serial::profile_serial;
 use spp_stack::{Entries, entries};
 use std::alloc::{AllocError, Global};
@@ -30,18 +29,6 @@ fn s(count: u64) -> Event {
     Event::Strand { count }
 }
 
-/// The bytes of a trace of these events, of the functions `main` and `f` and the site `A`.
-fn trace_of(alloc: Global, events: &[Event]) -> Result<Vec<u8>, AllocError> {
-    let count = u32::try_from(events.len()).unwrap_or(0);
-    let mut bytes = b"SPTRACE1\x00\x00\x00\x02\x00\x00\x00\x01\x00\x00\x00\x00".to_vec(alloc)?;
-    bytes.extend_from_slice(&count.to_be_bytes())?;
-    bytes.extend_from_slice(b"\x00\x04main\x00\x01f\x00\x01A")?;
-    for event in events {
-        bytes.extend_from_slice(&record_of(*event))?;
-    }
-    Ok(bytes)
-}
-
 /// A thousand nested calls, then a thousand strands of one instruction in the innermost frame, then all returns.
 fn thousand(alloc: Global) -> Result<Vec<Event>, AllocError> {
     let mut events = Vec::new(alloc);
@@ -54,11 +41,11 @@ fn thousand(alloc: Global) -> Result<Vec<Event>, AllocError> {
 }
 
 /// What the figures of a cut trace are with a burden of 3; none where it has no part.
-fn figures_of(alloc: Global, cut: &Cut<'_, '_>) -> Option<Result<Figures, FiguresFault>> {
+fn figures_of(alloc: Global, cut: &Cut<'_, '_>) -> Option<Result<Figures, ProfileFault>> {
     if cut.parts().is_empty() {
         return None;
     }
-    match survey(alloc, cut, Burdens::both(3)) {
+    match survey(alloc, cut, Burdens::equal(3)) {
         Ok(found) => Some(Ok(found.whole)),
         Err(fault) => Some(Err(fault)),
     }
@@ -70,7 +57,7 @@ fn stacks_of(alloc: Global, cut: &Cut<'_, '_>) -> Option<Entries> {
     if count == 0 || count > 65536 {
         return None;
     }
-    let found = survey(alloc, cut, Burdens::both(3)).ok()?;
+    let found = survey(alloc, cut, Burdens::equal(3)).ok()?;
     entries(alloc, cut.trace().root(), &found.each).ok()
 }
 
@@ -194,7 +181,8 @@ fn stacks_share_their_frames(rt: HostRuntime) -> Result<(), Fail> {
     let alloc = rt.alloc();
     let bytes = trace_of(alloc, &thousand(alloc)?)?;
     let trace = open_trace(alloc, &bytes)?;
-    let cut = cut_even(alloc, &trace, 3000)?;
+    let parts = Parts::new(3000).unwrap_or_default();
+    let cut = cut_even(alloc, &trace, parts)?;
     let Some(stacks) = stacks_of(alloc, &cut) else {
         return Err(AllocError.into());
     };
@@ -220,18 +208,18 @@ fn stacks_share_their_frames(rt: HostRuntime) -> Result<(), Fail> {
 fn comes_to(
     alloc: Global,
     events: &[Event],
-    end: Result<Figures, FiguresFault>,
+    end: Result<Figures, ProfileFault>,
 ) -> Result<bool, AllocError> {
     let bytes = trace_of(alloc, events)?;
     let Ok(trace) = open_trace(alloc, &bytes) else {
         return Ok(false);
     };
-    let parts = trace.count().clamp(1, 65536);
+    let parts = Parts::new(trace.count().clamp(1, Parts::MOST)).unwrap_or_default();
     let cut = cut_even(alloc, &trace, parts)?;
     Ok(figures_of(alloc, &cut) == Some(end))
 }
 
-fn figures(work: u128, span: u128, burdened: u128) -> Result<Figures, FiguresFault> {
+fn figures(work: u128, span: u128, burdened: u128) -> Result<Figures, ProfileFault> {
     Ok(Figures {
         work,
         span,
@@ -239,8 +227,8 @@ fn figures(work: u128, span: u128, burdened: u128) -> Result<Figures, FiguresFau
     })
 }
 
-fn fault(at: u32, why: Why) -> Result<Figures, FiguresFault> {
-    Err(FiguresFault::Bad(Fault { at, why }))
+fn fault(at: u32, why: Why) -> Result<Figures, ProfileFault> {
+    Err(ProfileFault::Bad(Fault { at, why }))
 }
 
 #[test]
@@ -266,7 +254,7 @@ fn of_all_parts_the_first_bad_event_is_told(rt: HostRuntime) -> Result<(), Fail>
 fn told_in_parts(alloc: Global, events: &[Event]) -> Option<Tabled> {
     let bytes = trace_of(alloc, events).ok()?;
     let trace = open_trace(alloc, &bytes).ok()?;
-    let parts = trace.count().clamp(1, 65536);
+    let parts = Parts::new(trace.count().clamp(1, Parts::MOST))?;
     let cut = cut_even(alloc, &trace, parts).ok()?;
     let count = cut.parts().len();
     if count == 0 || count > 65536 {
@@ -285,7 +273,7 @@ fn rows_in_parts(alloc: Global, events: &[Event]) -> Option<(Row, Row)> {
 fn rows_at_once(alloc: Global, events: &[Event]) -> Option<(Row, Row)> {
     let bytes = trace_of(alloc, events).ok()?;
     let trace = open_trace(alloc, &bytes).ok()?;
-    let profile = profile_serial(alloc, &trace, 0).ok()?;
+    let profile = profile_serial(alloc, &trace, Burdens::equal(0)).ok()?;
     Some((profile.dag.root_row(), profile.dag.row(0)))
 }
 

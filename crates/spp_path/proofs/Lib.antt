@@ -2,7 +2,6 @@ pub mod Passing
 pub mod Modes
 pub mod Settled
 pub mod PathSpans
-pub mod RowSums
 pub mod Running
 pub mod Places
 pub mod Summed

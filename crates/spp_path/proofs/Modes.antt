@@ -9,11 +9,11 @@ use Rattle.spp_dag.specs.Dag.{On, IsPath}
 use Rattle.spp_dag.proofs.Depth.{closed, opens_not_returns}
 use Rattle.spp_dag.proofs.Upper.{spawns_opens}
 use Rattle.spp_dag.proofs.Crossing.{nested, join_spec, owner_closing}
-use Rattle.spp_path.specs.declared.choices.End.{End}
-use Rattle.spp_path.specs.declared.choices.Join.{Join}
-use Rattle.spp_path.specs.declared.settling.Walk.{Walk}
-use Rattle.spp_path.specs.declared.settling.Walk.TheVariants.{Live, Skip, Seek}
-use Rattle.spp_path.specs.Choices.{IsEnd, IsJoin}
+use Rattle.spp_dag.specs.declared.choices.End.{End}
+use Rattle.spp_dag.specs.declared.choices.Join.{Join}
+use Rattle.spp_path.specs.declared.settling.Onward.{Onward}
+use Rattle.spp_path.specs.declared.settling.Onward.TheVariants.{Live, Skip, Seek}
+use Rattle.spp_dag.specs.ChoiceLists.{IsEnd, IsJoin}
 use Rattle.spp_path.specs.Settling.{runs_to, ended}
 use Rattle.spp_path.proofs.Passing.{join_outside, Passes, passes_within, passes_return, passes_after, Clear, clear, passes_clear, enters_chosen}
 
@@ -43,7 +43,7 @@ module _ (es : List Event) (wf : IsWellFormed es) (ps : List ℕ) (p : IsPath es
     pub upper : t ≤ 2 * join es s
 
   -- what the walk says
-  abbrev pub Says : ℕ → Walk → Type 0
+  abbrev pub Says : ℕ → Onward → Type 0
   Says t Live = Running t
   Says t (Skip u) = Skipping t u
   Says t (Seek s) = Seeking t s
@@ -136,7 +136,7 @@ module _ (es : List Event) (wf : IsWellFormed es) (ps : List ℕ) (p : IsPath es
       }
 
   -- one step over an end
-  pub says_ended : (e : End) (k t : ℕ) → IsEnd es e → 2 * e.at + 1 ≡ k → Quiet k t → (w : Walk) → Says t w → Says k (ended e w)
+  pub says_ended : (e : End) (k t : ℕ) → IsEnd es e → 2 * e.at + 1 ≡ k → Quiet k t → (w : Onward) → Says t w → Says k (ended e w)
   says_ended e k t is at q Live s = skips e.spawn k is.0 (let z = is.1 in omega arith) (running_down k t q s)
   says_ended e k t is at q (Skip u) s = pick (nat_le e.at u) refl
     where
@@ -173,10 +173,10 @@ module _ (es : List Event) (wf : IsWellFormed es) (ps : List ℕ) (p : IsPath es
           }
 
   -- where the walk comes to a join the path does
-  pub runs_passes : (k t : ℕ) → k ≤ length es → Quiet (2 * k) t → (w : Walk) → Says t w → runs_to k w ≡ true → Passes es wf ps p k
+  pub runs_passes : (k t : ℕ) → k ≤ length es → Quiet (2 * k) t → (w : Onward) → Says t w → runs_to k w ≡ true → Passes es wf ps p k
   runs_passes k t l q w s r = passes_clear es wf ps p k l (clear_of (running w s r))
     where
-      running : (w : Walk) → Says t w → runs_to k w ≡ true → Running (suc (2 * k))
+      running : (w : Onward) → Says t w → runs_to k w ≡ true → Running (suc (2 * k))
       running Live s r = running_down (2 * k) t q s
       running (Skip u) s r = let z = leb-true k u r in before_skipped (2 * k) t u q s (omega arith)
       running (Seek u) s r = cc
@@ -188,7 +188,7 @@ module _ (es : List Event) (wf : IsWellFormed es) (ps : List ℕ) (p : IsPath es
       }
 
   -- and else it doesn't
-  pub passes_runs : (k t : ℕ) → Quiet (2 * k) t → (w : Walk) → Says t w → runs_to k w ≡ false → Passes es wf ps p k → ⊥
+  pub passes_runs : (k t : ℕ) → Quiet (2 * k) t → (w : Onward) → Says t w → runs_to k w ≡ false → Passes es wf ps p k → ⊥
   passes_runs k t q Live s r on = cc
   passes_runs k t q (Skip u) s r on =
       let z : u < k = leb-false k u r in
@@ -199,7 +199,7 @@ module _ (es : List Event) (wf : IsWellFormed es) (ps : List ℕ) (p : IsPath es
       (let x = s.upper in let v = q.below in omega arith)
 
   -- one step over a join that the path doesn't come to
-  pub says_passed : (k t : ℕ) → Quiet (2 * k) t → (w : Walk) → Says t w → runs_to k w ≡ false → Says (2 * k) w
+  pub says_passed : (k t : ℕ) → Quiet (2 * k) t → (w : Onward) → Says t w → runs_to k w ≡ false → Says (2 * k) w
   says_passed k t q Live s r = cc
   says_passed k t q (Skip u) s r =
       let z : u < k = leb-false k u r in

@@ -1,39 +1,30 @@
 -- Which positions the path of a run passes, told by the spawned children that it enters: all but those within a child
 -- that it doesn't enter, and those between the return of an entered child and the child's join.
 use Rattle.std.proofs.Common.{◌≡◌, ℕ, zero, suc, ◌*◌, ◌≤◌, ◌<◌, true, refl, arith, sym, ◌∙◌, subst, inl, inr, List, length, Some}
-use Rattle.std.proofs.lemmas.Bool.{cases_lt, cases_Bool, and_parts, eqb-true}
+use Rattle.std.proofs.lemmas.Bool.{cases_lt, cases_Bool}
 use Rattle.spp_event.specs.declared.records.Event.{Event}
 use Rattle.spp_maxplus.specs.State.{unburdened}
 use Rattle.spp_dag.specs.declared.stack.OpenFrame.{OpenFrame}
-use Rattle.spp_dag.specs.Trace.{event_at, opens, syncs, spawns, IsWellFormed, partner, owner, join}
+use Rattle.spp_dag.specs.Trace.{event_at, opens, spawns, IsWellFormed, partner, owner, join}
 use Rattle.spp_dag.specs.Dag.{On, IsPath}
 use Rattle.spp_dag.specs.Laws.{Waits, HasTop}
 use Rattle.spp_dag.specs.Choices.{IsChoice}
 use Rattle.spp_dag.proofs.Depth.{closed}
 use Rattle.spp_dag.proofs.Upper.{spawns_opens}
 use Rattle.spp_dag.proofs.Ties.{room, prize, path_exists_to}
-use Rattle.spp_dag.proofs.Crossing.{nested, within_owner, owned, owner_le, join_spec, passes_opening, split_at, on_head, on_left, on_either, on_bounds}
+use Rattle.spp_dag.proofs.Crossing.{nested, within_owner, owned, owner_le, passes_opening, split_at, on_head, on_left, on_either, on_bounds}
 use Rattle.spp_dag.proofs.PathLaws.{whole_of, child_returns, goes_to_join, path_calls, path_passes}
 use Rattle.spp_dag.proofs.Stacks.{stack_stands, path_enters_taken, path_takes_child}
 use Rattle.spp_dag.proofs.Entries.{taken_is_choice}
+use Rattle.spp_dag.proofs.JoinPlaces.{join_own, join_waits}
 
 module _ (es : List Event) (wf : IsWellFormed es) where
-  -- a child's join is of the frame that spawned it, where it isn't the end
-  pub join_own : (s : ℕ) → opens (event_at es s) ≡ true → join es s < length es → owner es (join es s) ≡ owner es s
-  join_own s o l = eqb-true _ _ (and_parts (syncs (event_at es (join es s))) _ ((join_spec es wf s o).passes l)).1
-
-  -- a child joins where its frame waits
-  pub join_waits : (s : ℕ) → spawns (event_at es s) ≡ true → Waits es (join es s)
-  join_waits s t =
-      let spec = join_spec es wf s (spawns_opens (event_at es s) t) in
-      (spec.upper, λ l. (and_parts _ _ (spec.passes l)).0)
-
   -- no child spawned before a frame joins within it
   pub join_outside : (s u : ℕ) → spawns (event_at es s) ≡ true → opens (event_at es u) ≡ true → s < u → u < join es s → join es s ≤ partner es u → ⊥
   join_outside s u t o a b c =
       let k = closed es wf u o in
       let end : partner es u < length es = k.within in
-      let own = join_own s (spawns_opens (event_at es s) t) (omega arith) in
+      let own = join_own es wf s (spawns_opens (event_at es s) t) (omega arith) in
       let w = within_owner es wf u (join es s) o b c in
       let le = owner_le es wf s (omega arith) in
       omega arith

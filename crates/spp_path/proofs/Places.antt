@@ -9,19 +9,20 @@ use Rattle.spp_maxplus.specs.State.{unburdened, close, after_strand, after_sync}
 use Rattle.spp_dag.specs.declared.stack.EntryFrame.{EntryFrame}
 use Rattle.spp_dag.specs.declared.stack.OpenFrame.{OpenFrame}
 use Rattle.spp_dag.specs.declared.stack.FrameKind.{FrameKind}
-use Rattle.spp_dag.specs.declared.stack.FrameKind.TheVariants.{Root, Called, Spawned}
+use Rattle.spp_dag.specs.declared.stack.FrameKind.TheVariants.{Called, Spawned}
 use Rattle.spp_dag.specs.Trace.{event_at, weight_of, opens, spawns, syncs, returns, is_frame, closing, owner, IsWellFormed}
 use Rattle.spp_dag.specs.Dag.{IsGreatest, IsPath, On}
 use Rattle.spp_dag.specs.Stack.{after_child, run, root_frame}
 use Rattle.spp_dag.specs.Laws.{HasTop}
 use Rattle.spp_dag.specs.Choices.{IsEntry, IsRunning, entry_frame, first_of}
-use Rattle.spp_dag.specs.Steps.{key_of, has_site, has_func, opened, entry_after}
+use Rattle.spp_dag.specs.Steps.{has_site, has_func, opened, entry_after}
 use Rattle.spp_dag.proofs.Depth.{inside}
 use Rattle.spp_dag.proofs.Owner.{owner_is, return_closes}
 use Rattle.spp_dag.proofs.Stacks.{plain_top, frames_give_spans}
 use Rattle.spp_dag.proofs.Steps.{entry_follows}
 use Rattle.spp_dag.proofs.StepsFrames.{all_traced, traced_frame}
 use Rattle.spp_dag.proofs.StepsListing.{shape_at}
+use Rattle.spp_dag.proofs.OpenEntries.{AreOpen, open_more, open_state}
 use Rattle.spp_path.proofs.Running.{running_keeps, running_quiet, running_waited, running_beside, running_stops, running_first, passes, enters_called, enters_parent}
 
 -- an open frame that the path enters: what the machine has of it, the path's strands directly in it, whether it runs
@@ -45,11 +46,6 @@ Falls n [] = Unit {0}
 Falls n (f ∷ fs) = (first f < n) × Falls (first f) fs
 
 -- the root is last, and each other frame was entered by its site and opened when the work was no more
-abbrev pub AreOpen : ℕ → List EntryFrame → Type 0
-AreOpen w [] = ⊥
-AreOpen w (f ∷ []) = (f.kind ≡ Root) × (f.before ≡ 0) × (f.top_site ≡ true) × (f.top_caller ≡ true)
-AreOpen w (f ∷ g ∷ fs) = (key_of f ≡ Some f.site) × (f.before ≤ w) × AreOpen w (g ∷ fs)
-
 pub falls_under : (n m : ℕ) (fs : List EntryFrame) → n ≤ m → Falls n fs → Falls m fs
 falls_under n m [] l h = tt
 falls_under n m (f ∷ fs) l h = ((let z : first f < n = h.0 in omega arith), h.1)
@@ -57,18 +53,6 @@ falls_under n m (f ∷ fs) l h = ((let z : first f < n = h.0 in omega arith), h.
 falls_past : (n : ℕ) (fs gs : List EntryFrame) → Falls n (fs ++ gs) → Falls n gs
 falls_past n [] gs h = h
 falls_past n (f ∷ fs) gs h = falls_under (first f) n gs (let z : first f < n = h.0 in omega arith) (falls_past (first f) fs gs h.1)
-
-open_more : (v w : ℕ) → v ≤ w → (fs : List EntryFrame) → AreOpen v fs → AreOpen w fs
-open_more v w l [] h = h
-open_more v w l (f ∷ []) h = h
-open_more v w l (f ∷ g ∷ fs) h =
-    let b : f.before ≤ v = h.1 in
-    (h.0, omega arith, open_more v w l (g ∷ fs) h.2)
-
--- another state of the innermost frame
-open_state : (w : ℕ) (f : EntryFrame) (s : State) (fs : List EntryFrame) → AreOpen w (f ∷ fs) → AreOpen w (record f { state = s } ∷ fs)
-open_state w f s [] h = h
-open_state w f s (g ∷ fs) h = h
 
 -- each frame is a top frame by site, and by function, where none that encloses it has the same
 abbrev pub AreMarked : List PathFrame → Type 0

@@ -12,13 +12,13 @@ use Rattle.spp_dag.proofs.Depth.{closed, inside_opens}
 use Rattle.spp_dag.proofs.Upper.{spawns_opens}
 use Rattle.spp_dag.proofs.Crossing.{join_spec}
 use Rattle.spp_dag.proofs.Ties.{path_exists, path_unique}
-use Rattle.spp_path.specs.declared.choices.End.{End}
-use Rattle.spp_path.specs.declared.choices.Join.{Join}
-use Rattle.spp_path.specs.declared.choices.Choices.{Choices}
+use Rattle.spp_dag.specs.declared.choices.End.{End}
+use Rattle.spp_dag.specs.declared.choices.Join.{Join}
+use Rattle.spp_dag.specs.declared.choices.Choices.{Choices}
 use Rattle.spp_path.specs.declared.settling.Note.TheVariants as note
-use Rattle.spp_path.specs.declared.settling.Walk.{Walk}
-use Rattle.spp_path.specs.declared.settling.Walk.TheVariants.{Live, Seek}
-use Rattle.spp_path.specs.Choices.{AreRising, IsJoin, AreChoices}
+use Rattle.spp_path.specs.declared.settling.Onward.{Onward}
+use Rattle.spp_path.specs.declared.settling.Onward.TheVariants.{Live, Seek}
+use Rattle.spp_dag.specs.ChoiceLists.{AreRising, IsJoin, AreChoices}
 use Rattle.spp_path.specs.Entered.{IsEntered, AreEntered}
 use Rattle.spp_path.specs.Settling.{last, later, runs_to, ended}
 use Rattle.spp_path.proofs.Passing.{passes_join, chosen_entered, one_entered}
@@ -123,7 +123,7 @@ abbrev IsFound : List Event → List ℕ → ℕ → ℕ → Type 0
 IsFound es ps t s = (spawns (event_at es s) ≡ true) × Enters ps s × (t ≤ 2 * join es s)
 
 -- m ends and n joins are left
-pub record Stage (es : List Event) (ps : List ℕ) (r : IsWellFormed es) (p : IsPath es unburdened 0 (length es) ps) (c : Choices) (m n : ℕ) (w : Walk) (marks : List Bool) : Type 0 where
+pub record Stage (es : List Event) (ps : List ℕ) (r : IsWellFormed es) (p : IsPath es unburdened 0 (length es) ps) (c : Choices) (m n : ℕ) (w : Onward) (marks : List Bool) : Type 0 where
   pub time : ℕ
   pub ends : Left 1 (end_ats c) m time
   pub joins : Left 0 (join_ats c) n time
@@ -131,7 +131,7 @@ pub record Stage (es : List Event) (ps : List ℕ) (r : IsWellFormed es) (p : Is
   pub marked : (s : ℕ) → s < length es → (get_or marks s false ≡ true) ↔ IsFound es ps time s
 
 -- the same for each run that has these choices
-abbrev pub Settles : ℕ → Choices → ℕ → ℕ → Walk → List Bool → Type 0
+abbrev pub Settles : ℕ → Choices → ℕ → ℕ → Onward → List Bool → Type 0
 Settles count c m n w marks = (es : List Event) (ps : List ℕ) (wf : IsWellFormed es) (p : IsPath es unburdened 0 (length es) ps) → length es ≡ count → AreChoices es c
     → Stage es ps wf p c m n w marks
 
@@ -171,7 +171,7 @@ module _ (es : List Event) (ps : List ℕ) (wf : IsWellFormed es) (p : IsPath es
   }
 
   -- the last note is an end
-  stage_ended : (m n : ℕ) (w : Walk) (marks : List Bool) (e : End) → m ≤ length c.ends.items → n ≤ length c.joins.items → 0 < m → slice_get c.ends.items (m - 1) ≡ Some e
+  stage_ended : (m n : ℕ) (w : Onward) (marks : List Bool) (e : End) → m ≤ length c.ends.items → n ≤ length c.joins.items → 0 < m → slice_get c.ends.items (m - 1) ≡ Some e
       → (0 < n → get_or (join_ats c) (n - 1) 0 ≤ e.at) → Stage es ps wf p c m n w marks → Stage es ps wf p c (m - 1) n (ended e w) marks
   stage_ended m n w marks e lm ln pos s le g =
       let k : ℕ = 2 * e.at + 1 in
@@ -204,7 +204,7 @@ module _ (es : List Event) (ps : List ℕ) (wf : IsWellFormed es) (p : IsPath es
       }
 
   -- the last note is a join
-  module _ (m n : ℕ) (w : Walk) (marks : List Bool) (j : Join) (lm : m ≤ length c.ends.items) (ln : n ≤ length c.joins.items) (pos : 0 < n) (s : slice_get c.joins.items (n - 1) ≡ Some j)
+  module _ (m n : ℕ) (w : Onward) (marks : List Bool) (j : Join) (lm : m ≤ length c.ends.items) (ln : n ≤ length c.joins.items) (pos : 0 < n) (s : slice_get c.joins.items (n - 1) ≡ Some j)
       (lt : 0 < m → get_or (end_ats c) (m - 1) 0 < j.at) (g : Stage es ps wf p c m n w marks) where
     abbrev K : ℕ
     K = 2 * j.at
@@ -326,7 +326,7 @@ module _ (es : List Event) (ps : List ℕ) (wf : IsWellFormed es) (p : IsPath es
       }
 
   -- all were taken
-  pub stage_done : (w : Walk) (marks : List Bool) → Stage es ps wf p c 0 0 w marks → (s : ℕ) → s < length es → (get_or marks s false ≡ true) ↔ IsEntered es s
+  pub stage_done : (w : Onward) (marks : List Bool) → Stage es ps wf p c 0 0 w marks → (s : ℕ) → s < length es → (get_or marks s false ≡ true) ↔ IsEntered es s
   stage_done w marks g s l = (
     (λ x. let y = (g.marked s l).0 x in (y.0, λ qs q. subst (λ r. On 0 r (suc s)) (path_unique es unburdened 0 (length es) ps qs p q) y.1)),
     (λ x.
@@ -389,7 +389,7 @@ last_there (x ∷ xs) m f l pos =
     (y, a, get_or-map f (x ∷ xs) (m - 1) x 0 (omega arith) ∙ ap f (get_or_from_slice_get (x ∷ xs) (m - 1) y x t.1))
 
 -- an end is taken
-pub settles_ended : (count : ℕ) (c : Choices) (m n : ℕ) (w : Walk) (marks : List Bool) (e : End) → m ≤ length c.ends.items → n ≤ length c.joins.items
+pub settles_ended : (count : ℕ) (c : Choices) (m n : ℕ) (w : Onward) (marks : List Bool) (e : End) → m ≤ length c.ends.items → n ≤ length c.joins.items
     → later (last (take m c.ends.items)) (last (take n c.joins.items)) ≡ Some (note.End e) → Settles count c m n w marks → Settles count c (m - 1) n (ended e w) marks
 settles_ended count c m n w marks e lm ln q g es ps wf p len h =
     let l = later_end (last (take m c.ends.items)) (last (take n c.joins.items)) e q in
@@ -399,7 +399,7 @@ settles_ended count c m n w marks e lm ln q g es ps wf p len h =
     (g es ps wf p len h)
 
 -- a join is passed over
-pub settles_passed : (count : ℕ) (c : Choices) (m n : ℕ) (w : Walk) (marks : List Bool) (j : Join) → m ≤ length c.ends.items → n ≤ length c.joins.items
+pub settles_passed : (count : ℕ) (c : Choices) (m n : ℕ) (w : Onward) (marks : List Bool) (j : Join) → m ≤ length c.ends.items → n ≤ length c.joins.items
     → later (last (take m c.ends.items)) (last (take n c.joins.items)) ≡ Some (note.Join j) → runs_to j.at w ≡ false → Settles count c m n w marks → Settles count c m (n - 1) w marks
 settles_passed count c m n w marks j lm ln q r g es ps wf p len h =
     let l = later_join (last (take m c.ends.items)) (last (take n c.joins.items)) j q in
@@ -409,7 +409,7 @@ settles_passed count c m n w marks j lm ln q r g es ps wf p len h =
     (g es ps wf p len h) r
 
 -- a join's child is entered
-pub settles_taken : (count : ℕ) (c : Choices) (m n : ℕ) (w : Walk) (marks : List Bool) (j : Join) → m ≤ length c.ends.items → n ≤ length c.joins.items
+pub settles_taken : (count : ℕ) (c : Choices) (m n : ℕ) (w : Onward) (marks : List Bool) (j : Join) → m ≤ length c.ends.items → n ≤ length c.joins.items
     → later (last (take m c.ends.items)) (last (take n c.joins.items)) ≡ Some (note.Join j) → runs_to j.at w ≡ true → length marks ≡ count → Settles count c m n w marks
     → Settles count c m (n - 1) (Seek j.spawn) (set marks j.spawn true)
 settles_taken count c m n w marks j lm ln q r lc g es ps wf p len h =
@@ -430,7 +430,7 @@ settles_first count c marks e es ps wf p len h = stage_first es ps wf p c h mark
     ]
 
 -- where no note is left the marks are those of the children that the path enters
-pub settled : (count : ℕ) (c : Choices) (m n : ℕ) (w : Walk) (marks : List Bool) → m ≤ length c.ends.items → n ≤ length c.joins.items
+pub settled : (count : ℕ) (c : Choices) (m n : ℕ) (w : Onward) (marks : List Bool) → m ≤ length c.ends.items → n ≤ length c.joins.items
     → later (last (take m c.ends.items)) (last (take n c.joins.items)) ≡ None → length marks ≡ count → Settles count c m n w marks
     → (es : List Event) → IsWellFormed es → length es ≡ count → AreChoices es c → AreEntered es marks
 settled count c m n w marks lm ln q lc g es wf len h =

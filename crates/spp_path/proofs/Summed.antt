@@ -22,10 +22,10 @@ use Rattle.spp_dag.proofs.StepsShares.{share_follows}
 use Rattle.spp_site.specs.Table.{Sums, row_at, IsAdded}
 use Rattle.spp_site.proofs.Rows.{plus-zero}
 use Rattle.spp_path.specs.declared.rows.EnteredFrame.{EnteredFrame}
-use Rattle.spp_path.specs.Tables.{key_row}
+use Rattle.spp_site.specs.Profiles.{key_row}
 use Rattle.spp_path.specs.Rows.{Told, entered_row, runs, strand_told, beside_told, enter_told, entered_frame, skip_told, wait_told, sync_told, leave_told, IsReturned}
 use Rattle.spp_path.proofs.PathSpans.{passed, entered_span}
-use Rattle.spp_path.proofs.RowSums.{full_row, strand_owed, none_owed, closed_owed, Low, low_zero, low_plus, low_strand, low_closed}
+use Rattle.spp_site.proofs.RowSums.{full_row, strand_owed, none_owed, closed_owed, Low, low_zero, low_plus, low_strand, low_closed}
 use Rattle.spp_site.specs.Marks.{with_mark, without}
 use Rattle.spp_site.proofs.Marked.{marked_more, marked_less}
 use Rattle.spp_path.proofs.Places.{PathFrame, AreMarked, entries, first, new_frame, with_state, Place, not_on, is_on, strand_out, sync_out, call_out, spawn_out, return_out, return_back, strand_in, sync_in, call_in, call_beside, spawn_in, spawn_beside, return_closing, return_in}

@@ -1,17 +1,13 @@
 -- In a well-formed trace the pass that sums up the rows of the path meets the conditions of each step, and ends with
 -- these rows.
-use Rattle.std.proofs.Common.{◌≡◌, ℕ, suc, ◌+◌, ◌-◌, ◌*◌, ◌<◌, ◌≤◌, ◌^◌, ◌&&◌, Bool, true, false, cond, nat_eq, List, [], ◌∷◌, ◌++◌, length, map, take, slice_index_or, Option, Some, None, Ok, Err, unwrap_or, refl, sym, ap, ap₂, subst, ◌∙◌, arith, inl, IfOk}
-use Rattle.std.specs.Option.{option_map}
-use Rattle.std.specs.List.{slice_get}
+use Rattle.std.proofs.Common.{◌≡◌, ℕ, suc, ◌+◌, ◌-◌, ◌*◌, ◌<◌, ◌≤◌, ◌^◌, ◌&&◌, Bool, true, false, cond, nat_eq, List, [], ◌∷◌, ◌++◌, length, map, take, slice_index_or, Option, Some, None, Ok, unwrap_or, refl, sym, ap, ap₂, subst, ◌∙◌, arith, inl, IfOk}
 use Rattle.std.specs.FinMap as map
 use Rattle.std.specs.Ordering.{nat_cmp}
 use Rattle.std.proofs.lemmas.Bool.{eq-eqb, ne_eqb, both_ways}
 use Rattle.std.proofs.lemmas.List.{length-map, take_all}
-use Rattle.std.proofs.lemmas.Option.{slice_get-map, slice_get-get_or, slice_get_past}
+use Rattle.std.proofs.lemmas.Option.{slice_get_past}
 use Rattle.spp_event.specs.declared.records.Event.{Event}
 use Rattle.spp_event.specs.declared.records.Event.TheVariants.{Strand, Call, Spawn, Ret, Sync}
-use Rattle.spp_event.specs.declared.records.EventFault.{EventFault}
-use Rattle.spp_event.specs.declared.records.EventFault.TheVariants.{Truncated}
 use Rattle.spp_event.specs.Records.{IsEventOf}
 use Rattle.spp_event.specs.Recordings.{Record, Recording, record_at}
 use Rattle.spp_frame.specs.Nesting as nesting
@@ -41,27 +37,17 @@ use Rattle.spp_site.proofs.Rows.{plus-zero, zero-plus}
 use Rattle.spp_path.specs.declared.rows.EnteredFrame.{EnteredFrame}
 use Rattle.spp_path.specs.declared.rows.PathRows.{PathRows}
 use Rattle.spp_path.specs.Entered.{AreEntered}
-use Rattle.spp_path.specs.Tables.{key_row, IsPathTable}
+use Rattle.spp_site.specs.Profiles.{key_row, IsPathTable}
 use Rattle.spp_path.specs.Rows.{Told, told, entered_row, start_told, runs_in, leave_told, OnTop, IsOpen, CanAdd, CanSkip, CanReturn, CanFinish, IsReturned, IsRead, passed_told, CanPass}
 use Rattle.spp_path.proofs.PathSpans.{passed, entered_span}
-use Rattle.spp_path.proofs.RowSums.{full_row, none_owed, closed_owed, Low, low_zero, low_plus, low_closed, low_fits}
+use Rattle.spp_site.proofs.RowSums.{doubled, full_row, none_owed, closed_owed, Low, low_zero, low_plus, low_closed, low_fits}
 use Rattle.spp_path.proofs.Running.{running_first, marked}
-use Rattle.spp_path.proofs.Places.{PathFrame, entries, first, AreOpen}
+use Rattle.spp_path.proofs.Places.{PathFrame, entries, first}
+use Rattle.spp_dag.proofs.OpenEntries.{AreOpen}
+use Rattle.spp_dag.proofs.EventsOfRecords.{event_is}
 use Rattle.spp_path.proofs.Summed.{no_weight, owed, on, on_true, shown, tell, shares_to, At, Summed, StrandDone, strand_next, SyncDone, sync_next, CallDone, call_next, SpawnDone, spawn_next, HasFirst, return_next, heads, closes_with, row_is, return_rows, return_low}
 
 -- ---- the start
-
-doubled : (a : Row) → a ≡ plus a a → a ≡ zero_row
-doubled a h =
-    let f1 : a.count ≡ a.count + a.count = ap (λ r. r.count) h in
-    let f2 : a.local ≡ a.local + a.local = ap (λ r. r.local) h in
-    let f3 : a.site_count ≡ a.site_count + a.site_count = ap (λ r. r.site_count) h in
-    let f4 : a.site_work ≡ a.site_work + a.site_work = ap (λ r. r.site_work) h in
-    let f5 : a.site_span ≡ a.site_span + a.site_span = ap (λ r. r.site_span) h in
-    let f6 : a.caller_count ≡ a.caller_count + a.caller_count = ap (λ r. r.caller_count) h in
-    let f7 : a.caller_work ≡ a.caller_work + a.caller_work = ap (λ r. r.caller_work) h in
-    let f8 : a.caller_span ≡ a.caller_span + a.caller_span = ap (λ r. r.caller_span) h in
-    same_rows a zero_row (omega arith) (omega arith) (omega arith) (omega arith) (omega arith) (omega arith) (omega arith) (omega arith)
 
 empty_rows : (key : Option ℕ) → key_row empty key ≡ zero_row
 empty_rows None = refl
@@ -373,27 +359,6 @@ module _ (es : List Event) (wf : IsWellFormed es) (root : ℕ) (span : ℕ → �
 
 -- ---- the events of a trace
 
-event_is : (rs : List Record) (es : List Event) (i : ℕ) (e : Event) → AreEvents rs es → i < length rs → record_at rs i ≡ Ok e → event_at es i ≡ Some e
-event_is rs es i e are l said =
-    by (slice_get es i) refl
-    (sym (slice_get-map (λ (x : Event). Ok x) es i) ∙ ap (λ (x : List Record). slice_get x i) (sym are) ∙ slice_get-get_or rs i (Err Truncated) l ∙ ap (λ (x : Record). Some x) said)
-  where
-    by : (o : Option Event) → slice_get es i ≡ o → option_map (λ (x : Event). let r : Record = Ok x in r) (slice_get es i) ≡ Some (Ok e) → slice_get es i ≡ Some e
-    by None q h = absurd (let z : None ≡ Some (Ok e) = ap (λ (o : Option Event). option_map (λ (x : Event). let r : Record = Ok x in r) o) (sym q) ∙ h in cc)
-    by (Some x) q h =
-        let z : Some (Ok x) ≡ Some (Ok e) = ap (λ (o : Option Event). option_map (λ (y : Event). let r : Record = Ok y in r) o) (sym q) ∙ h in
-        let w : x ≡ e = cc in
-        q ∙ ap (λ (y : Event). Some y) w
-
-no_fault : (rs : List Record) (es : List Event) (i : ℕ) (f : EventFault) → AreEvents rs es → i < length rs → record_at rs i ≡ Err f → ⊥
-no_fault rs es i f are l said =
-    by (slice_get es i)
-    (sym (slice_get-map (λ (x : Event). Ok x) es i) ∙ ap (λ (x : List Record). slice_get x i) (sym are) ∙ slice_get-get_or rs i (Err Truncated) l ∙ ap (λ (x : Record). Some x) said)
-  where
-    by : (o : Option Event) → option_map (λ (x : Event). let r : Record = Ok x in r) o ≡ Some (Err f) → ⊥
-    by None h = absurd cc
-    by (Some x) h = absurd cc
-
 -- ---- the pass over a trace
 
 -- before the event at i the pass has t
@@ -426,9 +391,6 @@ given trace wf =
     let s = (spans_law r.0 w).0 in
     let p = path_exists r.0 w unburdened 0 refl in
     record { es = r.0; are = r.1; wf = w; span = s.0; spans = s.1; rest = p.0; path = p.1 }
-
-pub no_fault_in : (trace : Recording) (i : ℕ) (f : EventFault) → nesting.IsWellFormed trace.records → i < length trace.records → record_at trace.records i ≡ Err f → ⊥
-no_fault_in trace i f wf l said = let g = given trace wf in no_fault trace.records g.es i f g.are l said
 
 -- what a reader says of a record
 pub is_read : (trace : Recording) (i : ℕ) (r : Record) (e : Event) → r ≡ record_at trace.records i

@@ -1,5 +1,3 @@
-pub mod Choices
 pub mod Entered
 pub mod Settling
 pub mod Rows
-pub mod Tables

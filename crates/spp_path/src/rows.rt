@@ -7,7 +7,7 @@ ghost use Rattle.spp_frame.specs.Nesting.{AreEvents, IsWellFormed};
 ghost use Rattle.spp_dag.specs.Shares.{plus};
 ghost use Rattle.spp_site.specs.Rows.{frame_row};
 ghost use Rattle.spp_path.specs.Entered.{AreEntered};
-ghost use Rattle.spp_path.specs.Tables.{IsPathTable};
+ghost use Rattle.spp_site.specs.Profiles.{IsPathTable};
 ghost use Rattle.spp_path.specs.Rows.{
   told,
   entered_row,

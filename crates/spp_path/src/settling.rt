@@ -3,16 +3,16 @@
 ghost use Rattle.std.specs.Prelude.{◌≡◌, ℕ, List, length, IfOk};
 ghost use Rattle.spp_event.specs.declared.records.Event.{Event};
 ghost use Rattle.spp_dag.specs.Trace.{IsWellFormed};
-ghost use Rattle.spp_path.specs.Choices.{AreChoices};
+ghost use Rattle.spp_dag.specs.ChoiceLists.{AreChoices};
 ghost use Rattle.spp_path.specs.Entered.{AreEntered};
 ghost use Rattle.spp_path.specs.Settling.{last, later, ended, runs_to};
 
-use crate::choices::{Choices, End, Join};
+use spp_dag::{Choices, End, Join};
 use std::alloc::{AllocError, Global};
 
 /// How the path of a run goes, told from the end backwards.
 #[derive(Clone, Copy, Debug)]
-enum Walk {
+enum Onward {
     /// It comes to here.
     Live,
     /// Here is a child that it doesn't enter, spawned at that position.
@@ -41,26 +41,26 @@ fn last_note(ends: &[End], joins: &[Join]) -> Option<Note>
 }
 
 /// Whether the path comes to this position, after which it goes so.
-fn comes_to(at: u32, walk: Walk) -> bool
-    ensures { result ≡ runs_to at walk }
+fn comes_to(at: u32, onward: Onward) -> bool
+    ensures { result ≡ runs_to at onward }
 {
-    match walk {
-        Walk::Live => true,
-        Walk::Skip { spawn } => at <= spawn,
-        Walk::Seek { .. } => false,
+    match onward {
+        Onward::Live => true,
+        Onward::Skip { spawn } => at <= spawn,
+        Onward::Seek { .. } => false,
     }
 }
 
 /// How the path goes before the return of a child, after which it goes so: out of the child that is sought, and beside
 /// any other.
-fn pass(end: End, walk: Walk) -> Walk
-    ensures { result ≡ ended end walk }
+fn pass(end: End, onward: Onward) -> Onward
+    ensures { result ≡ ended end onward }
 {
-    match walk {
-        Walk::Seek { spawn } if spawn == end.spawn => Walk::Live,
-        Walk::Seek { .. } => walk,
-        Walk::Skip { spawn } if spawn < end.at => walk,
-        Walk::Live | Walk::Skip { .. } => Walk::Skip { spawn: end.spawn },
+    match onward {
+        Onward::Seek { spawn } if spawn == end.spawn => Onward::Live,
+        Onward::Seek { .. } => onward,
+        Onward::Skip { spawn } if spawn < end.at => onward,
+        Onward::Live | Onward::Skip { .. } => Onward::Skip { spawn: end.spawn },
     }
 }
 
@@ -77,21 +77,21 @@ pub fn settle(alloc: Global, count: u32, choices: &Choices) -> Result<Vec<bool>,
     let mut marks = vec![in alloc; false; count as usize]?;
     let mut ends = choices.ends.len();
     let mut joins = choices.joins.len();
-    let mut walk = Walk::Live;
+    let mut onward = Onward::Live;
     while let Some(note) = last_note(&choices.ends[..ends], &choices.joins[..joins]) {
         match note {
             Note::End(end) => {
                 ends -= 1;
-                walk = pass(end, walk);
+                onward = pass(end, onward);
             }
             Note::Join(join) => {
                 joins -= 1;
-                if comes_to(join.at, walk) {
+                if comes_to(join.at, onward) {
                     // The spawns of a run lie within its events.
                     if let Some(mark) = marks.get_mut(join.spawn as usize) {
                         *mark = true;
                     }
-                    walk = Walk::Seek { spawn: join.spawn };
+                    onward = Onward::Seek { spawn: join.spawn };
                 }
             }
         }

@@ -1,4 +1,5 @@
-use crate::{Choices, End, Join, settle};
+use crate::settle;
+use spp_dag::{Choices, End, Join};
 use std::alloc::{AllocError, Global};
 use std::test::Fail;
 

@@ -14,11 +14,11 @@ use Rattle.spp_piece.specs.Summary.{later, play_returns, play_frames, play_fault
 use Rattle.spp_piece.specs.Action.{stack_ops, action}
 use Rattle.spp_piece.specs.Account.{at_start}
 use Rattle.spp_piece.specs.Ends.{figures_of}
-use Rattle.spp_piece.proofs.Piles.{sum}
+use Rattle.spp_piece.proofs.EventSteps.{sum}
 
-module _ (burden : Burdens) where
+module _ (burdens : Burdens) where
   abbrev o : Ops (Result Stack Fault)
-  o = stack_ops burden
+  o = stack_ops burdens
 
   stopped_returns : (rs : List Unmatched) (e : Fault) → play_returns o rs (Err e) ≡ Err e
   stopped_returns [] e = refl
@@ -51,7 +51,7 @@ module _ (burden : Burdens) where
   abbrev after : Segs → Stack
   after m = record { frames = []; root = act m start; work = 0 }
 
-  pub root_return : (end : ℕ) (rs : List Unmatched) (m : Segs) (fs : List Frame) (w : ℕ) (q : Option (ℕ × EventFault)) (d : Unmatched) → 0 < length rs → figures_of end (action burden (sum rs m fs w q) (Ok at_start)) ≡ Err (record { at = (get_or rs 0 d).at; why = RootReturn })
+  pub root_return : (end : ℕ) (rs : List Unmatched) (m : Segs) (fs : List Frame) (w : ℕ) (q : Option (ℕ × EventFault)) (d : Unmatched) → 0 < length rs → figures_of end (action burdens (sum rs m fs w q) (Ok at_start)) ≡ Err (record { at = (get_or rs 0 d).at; why = RootReturn })
   root_return end [] m fs w q d h = absurd (omega arith)
   root_return end (r ∷ rs) m fs w q d h =
       let e : Fault = record { at = r.at; why = RootReturn } in
@@ -59,15 +59,15 @@ module _ (burden : Burdens) where
       ∙ ap (λ x. figures_of end (play_fault o q (o.worked w x))) (stopped_frames fs e)
       ∙ ap (figures_of end) (stopped_fault q e)
 
-  bad_parts : (end : ℕ) (rs : List Unmatched) (m : Segs) (fs : List Frame) (w : ℕ) (q : ℕ × EventFault) → length rs ≡ 0 → figures_of end (action burden (sum rs m fs w (Some q)) (Ok at_start)) ≡ Err (record { at = q.0; why = Record q.1 })
+  bad_parts : (end : ℕ) (rs : List Unmatched) (m : Segs) (fs : List Frame) (w : ℕ) (q : ℕ × EventFault) → length rs ≡ 0 → figures_of end (action burdens (sum rs m fs w (Some q)) (Ok at_start)) ≡ Err (record { at = q.0; why = Record q.1 })
   bad_parts end [] m fs w q h = ap (λ x. figures_of end (o.fail q (o.worked w x))) (frames_ok fs (after m))
   bad_parts end (r ∷ rs) m fs w q h = absurd (omega arith)
 
-  pub bad_record : (end : ℕ) (rs : List Unmatched) (m : Segs) (fs : List Frame) (w : ℕ) (p : Option (ℕ × EventFault)) (q : ℕ × EventFault) → length rs ≡ 0 → p ≡ Some q → figures_of end (action burden (sum rs m fs w p) (Ok at_start)) ≡ Err (record { at = q.0; why = Record q.1 })
+  pub bad_record : (end : ℕ) (rs : List Unmatched) (m : Segs) (fs : List Frame) (w : ℕ) (p : Option (ℕ × EventFault)) (q : ℕ × EventFault) → length rs ≡ 0 → p ≡ Some q → figures_of end (action burdens (sum rs m fs w p) (Ok at_start)) ≡ Err (record { at = q.0; why = Record q.1 })
   bad_record end rs m fs w p q h e =
-      ap (λ p. figures_of end (action burden (sum rs m fs w p) (Ok at_start))) e ∙ bad_parts end rs m fs w q h
+      ap (λ p. figures_of end (action burdens (sum rs m fs w p) (Ok at_start))) e ∙ bad_parts end rs m fs w q h
 
-  unclosed_parts : (end : ℕ) (rs : List Unmatched) (m : Segs) (fs : List Frame) (w : ℕ) → length rs ≡ 0 → 0 < length fs → figures_of end (action burden (sum rs m fs w None) (Ok at_start)) ≡ Err (record { at = end; why = Unclosed (length fs) })
+  unclosed_parts : (end : ℕ) (rs : List Unmatched) (m : Segs) (fs : List Frame) (w : ℕ) → length rs ≡ 0 → 0 < length fs → figures_of end (action burdens (sum rs m fs w None) (Ok at_start)) ≡ Err (record { at = end; why = Unclosed (length fs) })
   unfolding pushed_all
   unclosed_parts end [] m [] w h k = absurd (omega arith)
   unclosed_parts end [] m (f ∷ fs) w h k =
@@ -75,6 +75,6 @@ module _ (burden : Burdens) where
       ∙ ap (λ n. Err (record { at = end; why = Unclosed (suc n) })) (frames_count fs (after m) ∙ omega arith)
   unclosed_parts end (r ∷ rs) m fs w h k = absurd (omega arith)
 
-  pub unclosed : (end : ℕ) (rs : List Unmatched) (m : Segs) (fs : List Frame) (w : ℕ) (p : Option (ℕ × EventFault)) → length rs ≡ 0 → p ≡ None → 0 < length fs → figures_of end (action burden (sum rs m fs w p) (Ok at_start)) ≡ Err (record { at = end; why = Unclosed (length fs) })
+  pub unclosed : (end : ℕ) (rs : List Unmatched) (m : Segs) (fs : List Frame) (w : ℕ) (p : Option (ℕ × EventFault)) → length rs ≡ 0 → p ≡ None → 0 < length fs → figures_of end (action burdens (sum rs m fs w p) (Ok at_start)) ≡ Err (record { at = end; why = Unclosed (length fs) })
   unclosed end rs m fs w p h e k =
-      ap (λ p. figures_of end (action burden (sum rs m fs w p) (Ok at_start))) e ∙ unclosed_parts end rs m fs w h k
+      ap (λ p. figures_of end (action burdens (sum rs m fs w p) (Ok at_start))) e ∙ unclosed_parts end rs m fs w h k

@@ -8,7 +8,7 @@ use Rattle.spp_piece.specs.declared.pieces.Unmatched.{Unmatched}
 use Rattle.spp_piece.specs.Machine.{Ops}
 use Rattle.spp_piece.specs.Summary.{Sum, unless, working, summary_ops, joined, play_returns, play_frames, play_fault}
 use Rattle.spp_piece.specs.Bound.{most_before, IsSmall}
-use Rattle.spp_piece.proofs.Piles.{unless_none, unless_some}
+use Rattle.spp_piece.proofs.EventSteps.{unless_none, unless_some}
 use Rattle.spp_piece.proofs.Bounds.{load-joined}
 use Rattle.spp_piece.proofs.Small.{along_work, along_depth, along_sound, ret_work, ret_depth, ret_sound, along_before, ret_before}
 
@@ -27,9 +27,9 @@ kept_then s t u m n j k =
     let b = k.depth in
     record { sound = k.sound; work = k.work ∙ j.work; depth = omega arith }
 
-module _ (burden : Burdens) where
+module _ (burdens : Burdens) where
   abbrev o : Ops Sum
-  o = summary_ops burden
+  o = summary_ops burdens
 
   returns_after : (rs : List Unmatched) (s : Sum) (p : ℕ × EventFault) → s.fault ≡ Some p → play_returns o rs s ≡ s
   returns_after [] s p e = refl
@@ -47,7 +47,7 @@ module _ (burden : Burdens) where
   fault_after (Some q) s p e = unless_some s.fault p s _ e
 
   -- nothing after a bad record changes a summary
-  pub joined_after : (left right : Sum) (p : ℕ × EventFault) → left.fault ≡ Some p → joined burden left right ≡ left
+  pub joined_after : (left right : Sum) (p : ℕ × EventFault) → left.fault ≡ Some p → joined burdens left right ≡ left
   joined_after left right p e =
       let w = λ (t : Sum). play_fault o right.fault (o.worked right.work t) in
       ap (λ t. w (play_frames o right.frames (o.along right.middle t))) (returns_after right.returns left p e)
@@ -64,9 +64,9 @@ module _ (burden : Burdens) where
 
   kept_ret : (at : ℕ) (s : Sum) → s.fault ≡ None → Kept s (o.ret at s) 0
   kept_ret at s e =
-      let d = ret_depth burden at s.returns s.middle s.frames s.work s.fault in
+      let d = ret_depth burdens at s.returns s.middle s.frames s.work s.fault in
       kept_by s _ _ 0 (unless_none s.fault s _ e)
-      (record { sound = ret_sound burden at s.returns s.middle s.frames s.work s.fault ∙ e; work = ret_work burden at s.returns s.middle s.frames s.work s.fault; depth = omega arith })
+      (record { sound = ret_sound burdens at s.returns s.middle s.frames s.work s.fault ∙ e; work = ret_work burdens at s.returns s.middle s.frames s.work s.fault; depth = omega arith })
 
   kept_push : (f : Frame) (s : Sum) → s.fault ≡ None → Kept s (o.push f s) 1
   kept_push f s e = kept_by s _ _ 1 (unless_none s.fault s _ e) (record { sound = e; work = refl; depth = omega arith })
@@ -107,7 +107,7 @@ module _ (burden : Burdens) where
 
   before_ret : (at : ℕ) (s : Sum) → most_before (o.ret at s).frames ≤ most_before s.frames
   before_ret at s =
-      let b = ret_before burden at s.returns s.middle s.frames s.work s.fault in
+      let b = ret_before burdens at s.returns s.middle s.frames s.work s.fault in
       unless_most s.fault s _ _ (omega arith) (omega (arith, b))
 
   before_returns : (rs : List Unmatched) (s : Sum) → most_before (play_returns o rs s).frames ≤ most_before s.frames
@@ -144,7 +144,7 @@ module _ (burden : Burdens) where
   worked_none : (n : ℕ) (s : Sum) → s.fault ≡ None → o.worked n s ≡ working n s
   worked_none n s e = unless_none s.fault s _ e
 
-  pub joined_work : (left right : Sum) → left.fault ≡ None → (joined burden left right).work ≡ left.work + right.work
+  pub joined_work : (left right : Sum) → left.fault ≡ None → (joined burdens left right).work ≡ left.work + right.work
   joined_work left right e =
       let s = play_frames o right.frames (o.along right.middle (play_returns o right.returns left)) in
       let k = kept_joined left right e in
@@ -153,7 +153,7 @@ module _ (burden : Burdens) where
       ∙ ap (λ (t : Sum). t.work) w
       ∙ ap (λ n. n + right.work) k.work
 
-  joined_depth : (left right : Sum) → left.fault ≡ None → length (joined burden left right).frames ≤ length left.frames + length right.frames
+  joined_depth : (left right : Sum) → left.fault ≡ None → length (joined burdens left right).frames ≤ length left.frames + length right.frames
   joined_depth left right e =
       let s = play_frames o right.frames (o.along right.middle (play_returns o right.returns left)) in
       let k = kept_joined left right e in
@@ -162,7 +162,7 @@ module _ (burden : Burdens) where
       let x = k.depth in
       omega (arith, d)
 
-  joined_before : (left right : Sum) → left.fault ≡ None → most_before (joined burden left right).frames ≤ max (most_before left.frames) (left.work + most_before right.frames)
+  joined_before : (left right : Sum) → left.fault ≡ None → most_before (joined burdens left right).frames ≤ max (most_before left.frames) (left.work + most_before right.frames)
   joined_before left right e =
       let x = play_returns o right.returns left in
       let y = o.along right.middle x in
@@ -175,21 +175,21 @@ module _ (burden : Burdens) where
       let v = b.work ∙ a.work in
       omega (arith, d, v, before_frames right.frames y b.sound, before_along right.middle x, before_returns right.returns left)
 
-  small_sound : (m n : ℕ) (left right : Sum) → left.fault ≡ None → IsSmall burden m left → IsSmall burden n right → IsSmall burden (m + n) (joined burden left right)
+  small_sound : (m n : ℕ) (left right : Sum) → left.fault ≡ None → IsSmall burdens m left → IsSmall burdens n right → IsSmall burdens (m + n) (joined burdens left right)
   small_sound m n left right e g h =
       let w = joined_work left right e in
       let d = joined_depth left right e in
-      let l = load-joined burden left right in
+      let l = load-joined burdens left right in
       let b = joined_before left right e in
       record { work = omega (arith, g.work, h.work, w); load = omega (arith, g.load, h.load, w, l); depth = omega (arith, g.depth, h.depth, d); before = omega (arith, g.before, h.before, w, b) }
 
-  small_more : (m n : ℕ) (s : Sum) → IsSmall burden m s → IsSmall burden (m + n) s
+  small_more : (m n : ℕ) (s : Sum) → IsSmall burdens m s → IsSmall burdens (m + n) s
   small_more m n s h = record { work = omega (arith, h.work); load = omega (arith, h.load); depth = omega (arith, h.depth); before = h.before }
 
-  small_parts : (m n : ℕ) (q : Option (ℕ × EventFault)) (left right : Sum) → left.fault ≡ q → IsSmall burden m left → IsSmall burden n right → IsSmall burden (m + n) (joined burden left right)
+  small_parts : (m n : ℕ) (q : Option (ℕ × EventFault)) (left right : Sum) → left.fault ≡ q → IsSmall burdens m left → IsSmall burdens n right → IsSmall burdens (m + n) (joined burdens left right)
   small_parts m n None left right e g h = small_sound m n left right e g h
   small_parts m n (Some p) left right e g h =
-      subst (IsSmall burden (m + n)) (sym (joined_after left right p e)) (small_more m n left g)
+      subst (IsSmall burdens (m + n)) (sym (joined_after left right p e)) (small_more m n left g)
 
-  pub small_joined : (m n : ℕ) (left right : Sum) → IsSmall burden m left → IsSmall burden n right → IsSmall burden (m + n) (joined burden left right)
+  pub small_joined : (m n : ℕ) (left right : Sum) → IsSmall burdens m left → IsSmall burdens n right → IsSmall burdens (m + n) (joined burdens left right)
   small_joined m n left right g h = small_parts m n left.fault left right refl g h

@@ -11,7 +11,7 @@ use Rattle.spp_piece.specs.Stack.{with_states}
 use Rattle.spp_piece.specs.Machine.{Ops, event, events}
 use Rattle.spp_piece.specs.Summary.{Sum, empty, later, unless, along_by, summary_ops, summary_of, joined}
 use Rattle.std.proofs.lemmas.List.{length-append}
-use Rattle.spp_piece.specs.Account.{Account, account_of, both}
+use Rattle.spp_piece.specs.Account.{Account, account_of, together}
 use Rattle.spp_piece.proofs.Pairs.{act_idle, act-then, then_idle, then_assoc}
 use Rattle.spp_piece.proofs.Play.{Laws, play_empty, play_summary, play-joined}
 
@@ -23,20 +23,20 @@ idle_parts rs m fs w (Some q) = refl
 idle_parts rs m [] w None = ap (λ n. sum rs n [] w None) (then_idle m)
 idle_parts rs m (f ∷ fs) w None = ap (λ x. sum rs m (with_states x f ∷ fs) w None) (act_idle f.states)
 
-then_parts : (o : Ops Sum) (burden : Burdens) (rs : List Unmatched) (m : Segs) (fs : List Frame) (w : ℕ) (q : Option (ℕ × EventFault)) (a b : Segs) → (summary_ops burden).along (then a b) (sum rs m fs w q) ≡ (summary_ops burden).along b ((summary_ops burden).along a (sum rs m fs w q))
-then_parts o burden rs m fs w (Some q) a b = refl
-then_parts o burden rs m [] w None a b = ap (λ n. sum rs n [] w None) (sym (then_assoc m a b))
-then_parts o burden rs m (f ∷ fs) w None a b = ap (λ x. sum rs m (with_states x f ∷ fs) w None) (act-then a b f.states)
+then_parts : (o : Ops Sum) (burdens : Burdens) (rs : List Unmatched) (m : Segs) (fs : List Frame) (w : ℕ) (q : Option (ℕ × EventFault)) (a b : Segs) → (summary_ops burdens).along (then a b) (sum rs m fs w q) ≡ (summary_ops burdens).along b ((summary_ops burdens).along a (sum rs m fs w q))
+then_parts o burdens rs m fs w (Some q) a b = refl
+then_parts o burdens rs m [] w None a b = ap (λ n. sum rs n [] w None) (sym (then_assoc m a b))
+then_parts o burdens rs m (f ∷ fs) w None a b = ap (λ x. sum rs m (with_states x f ∷ fs) w None) (act-then a b f.states)
 
-module _ (burden : Burdens) where
+module _ (burdens : Burdens) where
   abbrev o : Ops Sum
-  o = summary_ops burden
+  o = summary_ops burdens
 
   along-push_parts : (rs : List Unmatched) (m : Segs) (fs : List Frame) (w : ℕ) (q : Option (ℕ × EventFault)) (g : Segs) (f : Frame) → o.along g (o.push f (sum rs m fs w q)) ≡ o.push (with_states (act g f.states) f) (sum rs m fs w q)
   along-push_parts rs m fs w None g f = refl
   along-push_parts rs m fs w (Some q) g f = refl
 
-  ret-push_parts : (rs : List Unmatched) (m : Segs) (fs : List Frame) (w : ℕ) (q : Option (ℕ × EventFault)) (at : ℕ) (f : Frame) → o.ret at (o.push f (sum rs m fs w q)) ≡ o.along (fed burden f) (sum rs m fs w q)
+  ret-push_parts : (rs : List Unmatched) (m : Segs) (fs : List Frame) (w : ℕ) (q : Option (ℕ × EventFault)) (at : ℕ) (f : Frame) → o.ret at (o.push f (sum rs m fs w q)) ≡ o.along (fed burdens f) (sum rs m fs w q)
   ret-push_parts rs m fs w None at f = refl
   ret-push_parts rs m fs w (Some q) at f = refl
 
@@ -55,7 +55,7 @@ module _ (burden : Burdens) where
 
   ret-worked_parts : (rs : List Unmatched) (m : Segs) (fs : List Frame) (w : ℕ) (q : Option (ℕ × EventFault)) (at n : ℕ) → o.ret at (o.worked n (sum rs m fs w q)) ≡ o.worked n (o.ret at (sum rs m fs w q))
   ret-worked_parts rs m [] w None at n = refl
-  ret-worked_parts rs m (f ∷ fs) w None at n = along-worked_parts rs m fs w None (fed burden f) n
+  ret-worked_parts rs m (f ∷ fs) w None at n = along-worked_parts rs m fs w None (fed burdens f) n
   ret-worked_parts rs m fs w (Some q) at n = refl
 
   push-worked_parts : (rs : List Unmatched) (m : Segs) (fs : List Frame) (w : ℕ) (q : Option (ℕ × EventFault)) (f : Frame) (n : ℕ) → o.push f (o.worked n (sum rs m fs w q)) ≡ o.worked n (o.push (later n f) (sum rs m fs w q))
@@ -83,10 +83,10 @@ module _ (burden : Burdens) where
   fail-fail_parts rs m fs w None p q = refl
   fail-fail_parts rs m fs w (Some r) p q = refl
 
-  pub summary_laws : Laws burden (summary_ops burden)
+  pub summary_laws : Laws burdens (summary_ops burdens)
   summary_laws = record {
     idle = λ s. idle_parts s.returns s.middle s.frames s.work s.fault;
-    then = λ a b s. then_parts o burden s.returns s.middle s.frames s.work s.fault a b;
+    then = λ a b s. then_parts o burdens s.returns s.middle s.frames s.work s.fault a b;
     along-push = λ g f s. along-push_parts s.returns s.middle s.frames s.work s.fault g f;
     ret-push = λ at f s. ret-push_parts s.returns s.middle s.frames s.work s.fault at f;
     no_work = λ s. no_work_parts s.returns s.middle s.frames s.work s.fault;
@@ -108,22 +108,22 @@ module _ (burden : Burdens) where
       ∙ ap (λ n. events o n fs (events o (at + 1) es (event o at e s))) (omega arith)
 
   abbrev account : ℕ → ℕ → Sum → Account
-  account first count s = record { burden = burden; first = first; events = count; sum = s }
+  account first count s = record { burdens = burdens; first = first; events = count; sum = s }
 
   -- the join of the summaries of two lists is the summary of both together
-  pub joined_summary : (at : ℕ) (es fs : List (Result Event EventFault)) → joined burden (summary_of burden at es) (summary_of burden (at + length es) fs) ≡ summary_of burden at (es ++ fs)
+  pub joined_summary : (at : ℕ) (es fs : List (Result Event EventFault)) → joined burdens (summary_of burdens at es) (summary_of burdens (at + length es) fs) ≡ summary_of burdens at (es ++ fs)
   joined_summary at es fs =
-      play_summary burden o summary_laws (at + length es) fs (summary_of burden at es) ∙ sym (events-append at es fs empty)
+      play_summary burdens o summary_laws (at + length es) fs (summary_of burdens at es) ∙ sym (events-append at es fs empty)
 
   -- and joining is associative, for any summaries
-  pub joined_assoc : (a b c : Sum) → joined burden (joined burden a b) c ≡ joined burden a (joined burden b c)
-  joined_assoc a b c = sym (play-joined burden o summary_laws b c a)
+  pub joined_assoc : (a b c : Sum) → joined burdens (joined burdens a b) c ≡ joined burdens a (joined burdens b c)
+  joined_assoc a b c = sym (play-joined burdens o summary_laws b c a)
 
-  pub empty_joined : (s : Sum) → joined burden s empty ≡ s
-  empty_joined s = play_empty burden o summary_laws s
+  pub empty_joined : (s : Sum) → joined burdens s empty ≡ s
+  empty_joined s = play_empty burdens o summary_laws s
 
   -- so the account of two neighbours together is that of both lists
-  pub both_account : (first : ℕ) (es fs : List (Result Event EventFault)) → both (account_of burden first es) (account_of burden (first + length es) fs) ≡ account_of burden first (es ++ fs)
+  pub both_account : (first : ℕ) (es fs : List (Result Event EventFault)) → together (account_of burdens first es) (account_of burdens (first + length es) fs) ≡ account_of burdens first (es ++ fs)
   both_account first es fs =
       ap (λ s. account first (length es + length fs) s) (joined_summary first es fs)
-      ∙ ap (λ n. account first n (summary_of burden first (es ++ fs))) (sym (length-append es fs))
+      ∙ ap (λ n. account first n (summary_of burdens first (es ++ fs))) (sym (length-append es fs))

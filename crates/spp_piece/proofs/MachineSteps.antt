@@ -30,17 +30,17 @@ greatest_spawned n w go back at (Some c) = by (nat_lt c.0 (n + (w + back)))
 
 -- a child that closes with w raises its parent by w, and by the burdens at most
 pub child_adds : (burdens : Burdens) (kind : FrameKind) (at w : ℕ) (s : State)
-    → close (after_child burdens kind at w s) ≤ w + close s + (burdens.on_continuation + burdens.on_return)
+    → close (after_child burdens kind at w s) ≤ w + close s + (burdens.continuation + burdens.join)
 child_adds burdens Root at w s = omega arith
 child_adds burdens Called at w s = let h = greatest_more s.spine w s.child in omega arith
-child_adds burdens Spawned at w s = greatest_spawned s.spine w burdens.on_continuation burdens.on_return at s.child
+child_adds burdens Spawned at w s = greatest_spawned s.spine w burdens.continuation burdens.join at s.child
 
 -- ---- one event
 
 -- an event that the machine takes from the frames fs to gs
 pub record Step (burdens : Burdens) (e : Event) (fs gs : List OpenFrame) : Type 0 where
   pub plain : plain_sum gs ≤ plain_sum fs + weight (Ok e)
-  pub burdened : burdened_sum gs ≤ burdened_sum fs + weight (Ok e) + (burdens.on_continuation + burdens.on_return)
+  pub burdened : burdened_sum gs ≤ burdened_sum fs + weight (Ok e) + (burdens.continuation + burdens.join)
   pub level : length gs + cond (closes_frame (Ok e)) 1 0 ≡ length fs + cond (opens_frame (Ok e)) 1 0
   pub some : 0 < length gs
   pub right : (d : ℕ) → length fs ≡ suc d → wrong (Some (Ok e)) d ≡ None

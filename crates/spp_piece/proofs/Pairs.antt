@@ -6,8 +6,8 @@ use Rattle.spp_maxplus.proofs.SegLaws as one
 use Rattle.spp_piece.specs.declared.pieces.States.{States}
 use Rattle.spp_piece.specs.declared.pieces.Segs.{Segs}
 use Rattle.spp_piece.specs.declared.pieces.Frame.{Frame}
-use Rattle.spp_piece.specs.declared.pieces.Kind.{Kind}
-use Rattle.spp_piece.specs.declared.pieces.Kind.TheVariants.{Called, Spawned}
+use Rattle.spp_maxplus.specs.declared.child.ChildKind.{ChildKind}
+use Rattle.spp_maxplus.specs.declared.child.ChildKind.TheVariants.{Called, Spawned}
 use Rattle.spp_piece.specs.Pair.{act, free, then, idle, strand, sync, fed, fed_by, after_strand, after_sync, after_return, after_return_by}
 
 states : (a b c d : State) → a ≡ c → b ≡ d → ◌≡◌ {A = States} (record { plain = a; burdened = b }) (record { plain = c; burdened = d })
@@ -37,9 +37,9 @@ act-strand count x = states _ _ _ _ (one.act-strand count x.plain) (one.act-stra
 pub act-sync : (x : States) → act sync x ≡ after_sync x
 act-sync x = states _ _ _ _ (one.act-sync x.plain) (one.act-sync x.burdened)
 
-fed_kind : (k : Kind) (burden : Burdens) (at g h : ℕ) (x : States) → act (fed_by k burden at g h) x ≡ after_return_by k burden at g h x
-fed_kind Called burden at g h x = states _ _ _ _ (one.act-call g x.plain) (one.act-call h x.burdened)
-fed_kind Spawned burden at g h x = states _ _ _ _ (one.act-spawn at g free x.plain) (one.act-spawn at h burden x.burdened)
+fed_kind : (k : ChildKind) (burdens : Burdens) (at g h : ℕ) (x : States) → act (fed_by k burdens at g h) x ≡ after_return_by k burdens at g h x
+fed_kind Called burdens at g h x = states _ _ _ _ (one.act-call g x.plain) (one.act-call h x.burdened)
+fed_kind Spawned burdens at g h x = states _ _ _ _ (one.act-spawn at g free x.plain) (one.act-spawn at h burdens x.burdened)
 
-pub act-fed : (burden : Burdens) (f : Frame) (x : States) → act (fed burden f) x ≡ after_return burden f x
-act-fed burden f x = fed_kind f.kind burden f.at _ _ x
+pub act-fed : (burdens : Burdens) (f : Frame) (x : States) → act (fed burdens f) x ≡ after_return burdens f x
+act-fed burdens f x = fed_kind f.kind burdens f.at _ _ x

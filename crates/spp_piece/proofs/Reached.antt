@@ -20,7 +20,7 @@ use Rattle.spp_dag.specs.Limits.{plain_sum, burdened_sum}
 use Rattle.spp_dag.specs.Laws.{run_on}
 use Rattle.spp_dag.proofs.Pieces.{run-append}
 use Rattle.spp_dag.proofs.Stacks.{machine_gives_spans}
-use Rattle.spp_piece.specs.Figures.{AreFigures}
+use Rattle.spp_dag.specs.Figures.{AreFigures}
 use Rattle.spp_piece.proofs.MachineSteps.{step, stops}
 
 -- Before the record at `at` the open frames are fs, and the work so far is w. A strand counts less than 2 ^ 64, and two
@@ -67,7 +67,7 @@ ran_more burdens root at seen e fs gs l ran adv =
 
 -- one more record, at which the machine goes on
 pub reached_more : (rs : List Record) (burdens : Burdens) (root at w v : ℕ) (e : Event) (fs gs : List OpenFrame)
-    → burdens.on_continuation + burdens.on_return ≤ 8589934592 → weight (Ok e) ≤ 18446744073709551616
+    → burdens.continuation + burdens.join ≤ 8589934592 → weight (Ok e) ≤ 18446744073709551616
     → at < length rs → record_at rs at ≡ Ok e → advance burdens at e fs ≡ Some gs → v ≡ w + weight (Ok e)
     → Reached rs burdens root at w fs → Reached rs burdens root (at + 1) v gs
 reached_more rs burdens root at w v e fs gs light short lt is adv works r =

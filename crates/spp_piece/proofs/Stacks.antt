@@ -43,13 +43,13 @@ touched_work : (fs : List Frame) (r : States) (w n : ℕ) (c : States → States
 touched_work [] r w n c = refl
 touched_work (f ∷ fs) r w n c = refl
 
-ret-worked_parts : (burden : Burdens) (at : ℕ) (fs : List Frame) (r : States) (w n : ℕ) → closed_by fs burden at (stack fs r (w + n)) ≡ (stack_ops burden).worked n (closed_by fs burden at (stack fs r w))
-ret-worked_parts burden at [] r w n = refl
-ret-worked_parts burden at (f ∷ fs) r w n = ap (λ s. Ok s) (touched_work fs r w n (after_return burden f))
+ret-worked_parts : (burdens : Burdens) (at : ℕ) (fs : List Frame) (r : States) (w n : ℕ) → closed_by fs burdens at (stack fs r (w + n)) ≡ (stack_ops burdens).worked n (closed_by fs burdens at (stack fs r w))
+ret-worked_parts burdens at [] r w n = refl
+ret-worked_parts burdens at (f ∷ fs) r w n = ap (λ s. Ok s) (touched_work fs r w n (after_return burdens f))
 
-module _ (burden : Burdens) where
+module _ (burdens : Burdens) where
   abbrev o : Ops (Result Stack Fault)
-  o = stack_ops burden
+  o = stack_ops burdens
 
   idle_ok : (x : Result Stack Fault) → o.along idle x ≡ x
   idle_ok (Ok s) = ap (λ t. Ok t) (idle_parts s.frames s.root s.work)
@@ -63,8 +63,8 @@ module _ (burden : Burdens) where
   along-push_ok g f (Ok s) = refl
   along-push_ok g f (Err e) = refl
 
-  ret-push_ok : (at : ℕ) (f : Frame) (x : Result Stack Fault) → o.ret at (o.push f x) ≡ o.along (fed burden f) x
-  ret-push_ok at f (Ok s) = ap (λ t. Ok t) (touch_same (after_return burden f) (act (fed burden f)) s (λ x. sym (act-fed burden f x)))
+  ret-push_ok : (at : ℕ) (f : Frame) (x : Result Stack Fault) → o.ret at (o.push f x) ≡ o.along (fed burdens f) x
+  ret-push_ok at f (Ok s) = ap (λ t. Ok t) (touch_same (after_return burdens f) (act (fed burdens f)) s (λ x. sym (act-fed burdens f x)))
   ret-push_ok at f (Err e) = refl
 
   no_work_ok : (x : Result Stack Fault) → o.worked 0 x ≡ x
@@ -80,7 +80,7 @@ module _ (burden : Burdens) where
   along-worked_ok g n (Err e) = refl
 
   ret-worked_ok : (at n : ℕ) (x : Result Stack Fault) → o.ret at (o.worked n x) ≡ o.worked n (o.ret at x)
-  ret-worked_ok at n (Ok s) = ret-worked_parts burden at s.frames s.root s.work n
+  ret-worked_ok at n (Ok s) = ret-worked_parts burdens at s.frames s.root s.work n
   ret-worked_ok at n (Err e) = refl
 
   push-worked_ok : (f : Frame) (n : ℕ) (x : Result Stack Fault) → o.push f (o.worked n x) ≡ o.worked n (o.push (later n f) x)
@@ -108,7 +108,7 @@ module _ (burden : Burdens) where
   fail-fail_ok p q (Ok s) = refl
   fail-fail_ok p q (Err e) = refl
 
-  pub stack_laws : Laws burden (stack_ops burden)
+  pub stack_laws : Laws burdens (stack_ops burdens)
   stack_laws = record {
     idle = idle_ok;
     then = then_ok;
@@ -127,7 +127,7 @@ module _ (burden : Burdens) where
   }
 
   -- an event by its Segs
-  by_event : (at : ℕ) (e : Result Event EventFault) (r : Result Stack Fault) → event o at e r ≡ step_from burden at e r
+  by_event : (at : ℕ) (e : Result Event EventFault) (r : Result Stack Fault) → event o at e r ≡ step_from burdens at e r
   by_event at (Ok (Strand count)) (Ok s) = ap (λ t. Ok (stack t.frames t.root (t.work + count))) (touch_same _ _ s (act-strand count))
   by_event at (Ok (Call site func)) (Ok s) = ap (λ n. Ok (stack (record { kind = _; at = at; site = site; func = func; before = n; states = _ } ∷ s.frames) s.root s.work)) (add-zero s.work)
   by_event at (Ok (Spawn site func)) (Ok s) = ap (λ n. Ok (stack (record { kind = _; at = at; site = site; func = func; before = n; states = _ } ∷ s.frames) s.root s.work)) (add-zero s.work)
@@ -141,13 +141,13 @@ module _ (burden : Burdens) where
   by_event at (Ok Sync) (Err e) = refl
   by_event at (Err fault) (Err e) = refl
 
-  by_events : (at : ℕ) (es : List (Result Event EventFault)) (r : Result Stack Fault) → events o at es r ≡ run burden at es r
+  by_events : (at : ℕ) (es : List (Result Event EventFault)) (r : Result Stack Fault) → events o at es r ≡ run burdens at es r
   by_events at [] r = refl
-  by_events at (e ∷ es) r = by_events (at + 1) es (event o at e r) ∙ ap (run burden (at + 1) es) (by_event at e r)
+  by_events at (e ∷ es) r = by_events (at + 1) es (event o at e r) ∙ ap (run burdens (at + 1) es) (by_event at e r)
 
   -- the summary of a list of events acts on every stack as the events do one by one
-  pub action_summary : (at : ℕ) (es : List (Result Event EventFault)) (r : Result Stack Fault) → action burden (summary_of burden at es) r ≡ run burden at es r
-  action_summary at es r = play_summary burden o stack_laws at es r ∙ by_events at es r
+  pub action_summary : (at : ℕ) (es : List (Result Event EventFault)) (r : Result Stack Fault) → action burdens (summary_of burdens at es) r ≡ run burdens at es r
+  action_summary at es r = play_summary burdens o stack_laws at es r ∙ by_events at es r
 
-  pub action-joined : (left right : Sum) (r : Result Stack Fault) → action burden (joined burden left right) r ≡ action burden right (action burden left r)
-  action-joined left right r = play-joined burden o stack_laws left right r
+  pub action-joined : (left right : Sum) (r : Result Stack Fault) → action burdens (joined burdens left right) r ≡ action burdens right (action burdens left r)
+  action-joined left right r = play-joined burdens o stack_laws left right r

@@ -10,25 +10,25 @@ use Rattle.spp_piece.specs.Bound.{IsSmall, worst}
 
 -- the burden; the range, from its first position on; and what its events do
 pub record Account : Type 0 where
-  pub burden : Burdens
+  pub burdens : Burdens
   pub first : ℕ
   pub events : ℕ
   pub sum : Sum
 
 pub record IsSound (a : Account) : Type 0 where
   pub range : a.first + a.events ≤ 2 ^ 28
-  pub burden : worst a.burden < 2 ^ 32
-  pub small : IsSmall a.burden a.events a.sum
+  pub burdens : worst a.burdens < 2 ^ 32
+  pub small : IsSmall a.burdens a.events a.sum
 
 -- the account of a list of events
 abbrev pub account_of : Burdens → ℕ → List (Result Event EventFault) → Account
-account_of burden first items =
-    record { burden = burden; first = first; events = length items; sum = summary_of burden first items }
+account_of burdens first items =
+    record { burdens = burdens; first = first; events = length items; sum = summary_of burdens first items }
 
 -- of two neighbours together
-abbrev pub both : Account → Account → Account
-both a b =
-    record { burden = a.burden; first = a.first; events = a.events + b.events; sum = joined a.burden a.sum b.sum }
+abbrev pub together : Account → Account → Account
+together a b =
+    record { burdens = a.burdens; first = a.first; events = a.events + b.events; sum = joined a.burdens a.sum b.sum }
 
 -- the root frame alone
 abbrev pub at_start : Stack

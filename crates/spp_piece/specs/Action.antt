@@ -14,10 +14,10 @@ going next (Ok s) = next s
 going next (Err fault) = Err fault
 
 abbrev pub stack_ops : Burdens → Ops (Result Stack Fault)
-stack_ops burden =
+stack_ops burdens =
     record {
       along = λ g. going (λ s. Ok (touch (act g) s));
-      ret = λ at. going (λ s. closed_by s.frames burden at s);
+      ret = λ at. going (λ s. closed_by s.frames burdens at s);
       push = λ f. going (λ s. Ok (record { frames = later s.work f ∷ s.frames; root = s.root; work = s.work }));
       worked = λ n. going (λ s. Ok (record { frames = s.frames; root = s.root; work = s.work + n }));
       fail = λ q. going (λ _. Err (record { at = q.0; why = Record q.1 }));
@@ -25,4 +25,4 @@ stack_ops burden =
 
 -- the stack after the summary's events, or the first fault
 abbrev pub action : Burdens → Sum → Result Stack Fault → Result Stack Fault
-action burden s r = play (stack_ops burden) s r
+action burdens s r = play (stack_ops burdens) s r

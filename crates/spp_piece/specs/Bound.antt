@@ -20,12 +20,12 @@ height s = peak s.plain + peak s.burdened
 
 -- the greater of both
 abbrev pub worst : Burdens → ℕ
-worst b = max b.on_continuation b.on_return
+worst b = max b.continuation b.join
 
 -- a return may add a burden to the frame below
 abbrev pub load_returns : Burdens → List Unmatched → ℕ
-load_returns burden [] = 0
-load_returns burden (r ∷ rs) = cost r.segs + worst burden + load_returns burden rs
+load_returns burdens [] = 0
+load_returns burdens (r ∷ rs) = cost r.segs + worst burdens + load_returns burdens rs
 
 abbrev pub load_frames : List Frame → ℕ
 load_frames [] = 0
@@ -33,7 +33,7 @@ load_frames (f ∷ fs) = height f.states + load_frames fs
 
 -- all weights of a summary together
 abbrev pub load : Burdens → Sum → ℕ
-load burden s = load_returns burden s.returns + cost s.middle + load_frames s.frames
+load burdens s = load_returns burdens s.returns + cost s.middle + load_frames s.frames
 
 -- the greatest work before an open frame
 abbrev pub most_before : List Frame → ℕ
@@ -41,9 +41,9 @@ most_before [] = 0
 most_before (f ∷ fs) = max f.before (most_before fs)
 
 -- a summary of so many events
-pub record IsSmall (burden : Burdens) (events : ℕ) (s : Sum) : Type 0 where
+pub record IsSmall (burdens : Burdens) (events : ℕ) (s : Sum) : Type 0 where
   pub work : s.work ≤ events * (2 ^ 64 - 1)
-  pub load : load burden s ≤ 2 * s.work + worst burden * events
+  pub load : load burdens s ≤ 2 * s.work + worst burdens * events
   pub depth : length s.frames ≤ events
   pub before : most_before s.frames ≤ s.work
 

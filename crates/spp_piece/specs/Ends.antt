@@ -3,7 +3,7 @@ use Rattle.std.specs.Prelude.{ℕ, List, [], ◌∷◌, length, Result, Ok, Err}
 use Rattle.spp_maxplus.specs.State.{close}
 use Rattle.spp_frame.specs.declared.Fault.{Fault}
 use Rattle.spp_frame.specs.declared.Why.TheVariants.{Unclosed}
-use Rattle.spp_piece.specs.declared.figures.Figures.{Figures}
+use Rattle.spp_dag.specs.declared.figures.Figures.{Figures}
 use Rattle.spp_piece.specs.declared.pieces.Frame.{Frame}
 use Rattle.spp_piece.specs.Stack.{Stack}
 

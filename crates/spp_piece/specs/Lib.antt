@@ -1,17 +1,9 @@
-pub mod Figures
 pub mod Pair
 pub mod Stack
 pub mod Machine
 pub mod Summary
 pub mod Action
 pub mod Bound
-pub mod Pile
-pub mod Joining
-pub mod Told
-pub mod Returns
-pub mod Reading
 pub mod Account
-pub mod Stored
 pub mod Ends
 pub mod Model
-pub mod Faults

@@ -3,8 +3,8 @@ use Rattle.std.specs.Prelude.{ℕ, ◌+◌, List, [], ◌∷◌, Result, Ok, Err
 use Rattle.spp_event.specs.declared.records.Event.{Event}
 use Rattle.spp_event.specs.declared.records.Event.TheVariants.{Strand, Call, Spawn, Ret, Sync}
 use Rattle.spp_event.specs.declared.records.EventFault.{EventFault}
-use Rattle.spp_piece.specs.declared.pieces.Kind.{Kind}
-use Rattle.spp_piece.specs.declared.pieces.Kind.TheVariants.{Called, Spawned}
+use Rattle.spp_maxplus.specs.declared.child.ChildKind.{ChildKind}
+use Rattle.spp_maxplus.specs.declared.child.ChildKind.TheVariants.{Called, Spawned}
 use Rattle.spp_piece.specs.declared.pieces.Segs.{Segs}
 use Rattle.spp_piece.specs.declared.pieces.Frame.{Frame}
 use Rattle.spp_piece.specs.Pair.{start, strand, sync}
@@ -20,7 +20,7 @@ pub record Ops (X : Type 0) : Type 0 where
   -- no event after this is read
   pub fail : ℕ × EventFault → X → X
 
-abbrev pub entered : Kind → ℕ → ℕ → ℕ → Frame
+abbrev pub entered : ChildKind → ℕ → ℕ → ℕ → Frame
 entered kind at site func = record { kind = kind; at = at; site = site; func = func; before = 0; states = start }
 
 abbrev pub event : {X : Type 0} → Ops X → ℕ → Result Event EventFault → X → X

@@ -5,10 +5,10 @@ use Rattle.spp_dag.specs.declared.stack.FrameKind.{FrameKind}
 use Rattle.spp_dag.specs.declared.stack.FrameKind.TheVariants as kind
 use Rattle.spp_piece.specs.declared.pieces.States.{States}
 use Rattle.spp_piece.specs.declared.pieces.Frame.{Frame}
-use Rattle.spp_piece.specs.declared.pieces.Kind.{Kind}
-use Rattle.spp_piece.specs.declared.pieces.Kind.TheVariants.{Called, Spawned}
+use Rattle.spp_maxplus.specs.declared.child.ChildKind.{ChildKind}
+use Rattle.spp_maxplus.specs.declared.child.ChildKind.TheVariants.{Called, Spawned}
 
-abbrev pub kind_of : Kind → FrameKind
+abbrev pub kind_of : ChildKind → FrameKind
 kind_of Called = kind.Called
 kind_of Spawned = kind.Spawned
 

@@ -3,14 +3,14 @@ use Rattle.std.specs.Prelude.{ℕ}
 use Rattle.spp_maxplus.specs.declared.state.Burdens.{Burdens}
 use Rattle.spp_maxplus.specs.State as one
 use Rattle.spp_maxplus.specs.Seg as seg
+use Rattle.spp_piece.specs.declared.in_place.ClosingWeights.{ClosingWeights}
 use Rattle.spp_piece.specs.declared.pieces.States.{States}
 use Rattle.spp_piece.specs.declared.pieces.Segs.{Segs}
 use Rattle.spp_piece.specs.declared.pieces.Frame.{Frame}
-use Rattle.spp_piece.specs.declared.pieces.Kind.{Kind}
-use Rattle.spp_piece.specs.declared.pieces.Kind.TheVariants.{Called, Spawned}
+use Rattle.spp_maxplus.specs.declared.child.ChildKind.{ChildKind}
 
 abbrev pub free : Burdens
-free = record { on_continuation = 0; on_return = 0 }
+free = record { continuation = 0; join = 0 }
 
 abbrev pub start : States
 start = record { plain = one.start; burdened = one.start }
@@ -23,14 +23,12 @@ abbrev pub after_sync : States → States
 after_sync s = record { plain = one.after_sync s.plain; burdened = one.after_sync s.burdened }
 
 -- the frame has returned to its caller or spawner, whose states these are
-abbrev pub after_return_by : Kind → Burdens → ℕ → ℕ → ℕ → States → States
-after_return_by Called burden at g h s =
-    record { plain = one.after_call g s.plain; burdened = one.after_call h s.burdened }
-after_return_by Spawned burden at g h s =
-    record { plain = one.after_spawn at g free s.plain; burdened = one.after_spawn at h burden s.burdened }
+abbrev pub after_return_by : ChildKind → Burdens → ℕ → ℕ → ℕ → States → States
+after_return_by kind burdens at g h s =
+    record { plain = one.after_child free kind at g s.plain; burdened = one.after_child burdens kind at h s.burdened }
 
 abbrev pub after_return : Burdens → Frame → States → States
-after_return burden f = after_return_by f.kind burden f.at (one.close f.states.plain) (one.close f.states.burdened)
+after_return burdens f = after_return_by f.kind burdens f.at (one.close f.states.plain) (one.close f.states.burdened)
 
 -- the same for what events do
 abbrev pub act : Segs → States → States
@@ -48,10 +46,17 @@ strand count = record { plain = seg.along count; burdened = seg.along count }
 abbrev pub sync : Segs
 sync = record { plain = seg.synced; burdened = seg.synced }
 
-abbrev pub fed_by : Kind → Burdens → ℕ → ℕ → ℕ → Segs
-fed_by Called burden at g h = record { plain = seg.along g; burdened = seg.along h }
-fed_by Spawned burden at g h = record { plain = seg.spawned at g free; burdened = seg.spawned at h burden }
+abbrev pub fed_by : ChildKind → Burdens → ℕ → ℕ → ℕ → Segs
+fed_by kind burdens at g h = record { plain = seg.received free kind at g; burdened = seg.received burdens kind at h }
 
 -- what a frame's return does to the frame below
 abbrev pub fed : Burdens → Frame → Segs
-fed burden f = fed_by f.kind burden f.at (one.close f.states.plain) (one.close f.states.burdened)
+fed burdens f = fed_by f.kind burdens f.at (one.close f.states.plain) (one.close f.states.burdened)
+
+-- the weights with which a frame closes
+abbrev pub weights_of : States → ClosingWeights
+weights_of s = record { plain = one.close s.plain; burdened = one.close s.burdened }
+
+-- instructions of a frame or of called children, which may weigh more with burdens
+abbrev pub added : ClosingWeights → Segs
+added w = record { plain = seg.along w.plain; burdened = seg.along w.burdened }

@@ -39,7 +39,7 @@ along_by (f ∷ fs) g s =
     record { returns = s.returns; middle = s.middle; frames = with_states (act g f.states) f ∷ fs; work = s.work; fault = s.fault }
 
 abbrev pub ret_by : List Frame → Burdens → ℕ → Sum → Sum
-ret_by [] burden at s =
+ret_by [] burdens at s =
     record {
       returns = s.returns ++ record { segs = s.middle; at = at } ∷ [];
       middle = idle;
@@ -47,8 +47,8 @@ ret_by [] burden at s =
       work = s.work;
       fault = s.fault;
     }
-ret_by (f ∷ fs) burden at s =
-    along_by fs (fed burden f) (record { returns = s.returns; middle = s.middle; frames = fs; work = s.work; fault = s.fault })
+ret_by (f ∷ fs) burdens at s =
+    along_by fs (fed burdens f) (record { returns = s.returns; middle = s.middle; frames = fs; work = s.work; fault = s.fault })
 
 abbrev pub pushed : Frame → Sum → Sum
 pushed f s =
@@ -61,10 +61,10 @@ abbrev pub failing : ℕ × EventFault → Sum → Sum
 failing q s = record { returns = s.returns; middle = s.middle; frames = s.frames; work = s.work; fault = Some q }
 
 abbrev pub summary_ops : Burdens → Ops Sum
-summary_ops burden =
+summary_ops burdens =
     record {
       along = λ g s. unless s.fault s (along_by s.frames g s);
-      ret = λ at s. unless s.fault s (ret_by s.frames burden at s);
+      ret = λ at s. unless s.fault s (ret_by s.frames burdens at s);
       push = λ f s. unless s.fault s (pushed f s);
       worked = λ n s. unless s.fault s (working n s);
       fail = λ q s. unless s.fault s (failing q s);
@@ -72,7 +72,7 @@ summary_ops burden =
 
 -- the summary of a list of events from a position on
 abbrev pub summary_of : Burdens → ℕ → List (Result Event EventFault) → Sum
-summary_of burden first es = events (summary_ops burden) first es empty
+summary_of burdens first es = events (summary_ops burdens) first es empty
 
 abbrev pub play_returns : {X : Type 0} → Ops X → List Unmatched → X → X
 play_returns o [] x = x
@@ -93,4 +93,4 @@ play o s x =
 
 -- the summary of two lists together
 abbrev pub joined : Burdens → Sum → Sum → Sum
-joined burden left right = play (summary_ops burden) right left
+joined burdens left right = play (summary_ops burdens) right left

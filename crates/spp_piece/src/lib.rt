@@ -1,25 +1,11 @@
-//! What is told of a run as a whole, its figures, and summaries of its pieces, which join to that.
+//! Pieces of a run, that is ranges of its events, as values: what a piece does to the open frames that it meets, and the
+//! laws by which what neighbours do joins to what both do.
 #![tactic(auto)]
 
-mod changes;
-mod course;
-mod figures;
-mod frames;
-mod opens;
+mod in_place;
+mod laws;
 mod pieces;
-mod pile;
-mod reading;
-mod returns;
-mod spare;
-mod summary;
-mod whole;
 
-pub use figures::Figures;
-pub use frames::FrameReader;
-pub use pieces::{Frame, Kind, Segs, States, Unmatched};
-pub use returns::ReturnReader;
-pub use summary::{JoinRefused, Summary, piece_laws};
-pub use whole::{FiguresFault, figures_in_parts};
-
-#[cfg(test)]
-mod tests;
+pub use in_place::ClosingWeights;
+pub use laws::piece_laws;
+pub use pieces::{Frame, Segs, States, Unmatched};

@@ -1,19 +1,10 @@
 //! The two states of a frame side by side, without burdens and with them, and the frames and returns of a piece.
 
 ghost use Rattle.std.specs.Prelude.{◌≡◌, ◌+◌, ◌<◌, ◌^◌};
-ghost use Rattle.spp_piece.specs.Pair.{start as both_start, act as both_act, idle as both_idle, then as both_then, strand as both_strand, sync as both_sync, fed as fed_to};
+ghost use Rattle.spp_piece.specs.Pair.{start as both_start, act as both_act, idle as both_idle, then as both_then, strand as both_strand, fed as fed_to};
 ghost use Rattle.spp_piece.specs.Bound.{cost, height, worst};
 
-use spp_maxplus::{Burdens, Seg, State};
-
-/// How a frame that a piece opens was entered. The root is opened by none.
-#[derive(Clone, Copy, Debug, PartialEq, Eq)]
-pub enum Kind {
-    /// By a call.
-    Called,
-    /// By a spawn.
-    Spawned,
-}
+use spp_maxplus::{Burdens, ChildKind, Seg, State};
 
 /// What is known of an open frame.
 #[derive(Clone, Copy, Debug, PartialEq, Eq)]
@@ -37,7 +28,7 @@ pub struct Segs {
 #[derive(Clone, Copy, Debug, PartialEq, Eq)]
 pub struct Frame {
     /// How it was entered.
-    pub kind: Kind,
+    pub kind: ChildKind,
     /// The position of the event that opened it.
     pub at: u32,
     /// The call site by which it was entered.
@@ -93,16 +84,6 @@ impl Segs {
         }
     }
 
-    /// A sync.
-    pub fn sync() -> Self
-        ensures { result ≡ both_sync }
-    {
-        Segs {
-            plain: Seg::sync(),
-            burdened: Seg::sync(),
-        }
-    }
-
     /// First these events, then those of `next`.
     pub fn then(self, next: Segs) -> Self
         requires { cost self + cost next < 2 ^ 127 }
@@ -126,20 +107,20 @@ impl Segs {
     }
 
     /// What a frame's return does to the frame below.
-    pub fn fed(burden: Burdens, frame: &Frame) -> Self
-        requires { height frame.now.states + worst burden < 2 ^ 127 }
-        ensures { result ≡ fed_to burden frame.now }
+    pub fn fed(burdens: Burdens, frame: &Frame) -> Self
+        requires { height frame.now.states + worst burdens < 2 ^ 127 }
+        ensures { result ≡ fed_to burdens frame.now }
     {
         let plain = frame.states.plain.close();
         let burdened = frame.states.burdened.close();
         match frame.kind {
-            Kind::Called => Segs {
+            ChildKind::Called => Segs {
                 plain: Seg::call(plain),
                 burdened: Seg::call(burdened),
             },
-            Kind::Spawned => Segs {
+            ChildKind::Spawned => Segs {
                 plain: Seg::spawn(frame.at, plain, Burdens::default()),
-                burdened: Seg::spawn(frame.at, burdened, burden),
+                burdened: Seg::spawn(frame.at, burdened, burdens),
             },
         }
     }

@@ -18,7 +18,7 @@ from_edge to c₀ v c h = ap₂ (λ a b. Some (edge a b)) (sym h.0) (sym h.1)
 
 -- ---- out of a return
 
-back_of : (es : List Event) (b : Burdens) (s : Bool) (o u to c₀ : ℕ) → (s ≡ true → (to ≡ join es o) × (c₀ ≡ b.on_return)) → (s ≡ false → (to ≡ suc u) × (c₀ ≡ 0))
+back_of : (es : List Event) (b : Burdens) (s : Bool) (o u to c₀ : ℕ) → (s ≡ true → (to ≡ join es o) × (c₀ ≡ b.join)) → (s ≡ false → (to ≡ suc u) × (c₀ ≡ 0))
     → (v c : ℕ) → dag.EdgeBack es b s o u v c ↔ (Some (edge to c₀) ≡ Some (edge v c))
 back_of es b true o u to c₀ into past v c =
     let h = into refl in (
@@ -32,7 +32,7 @@ back_of es b false o u to c₀ into past v c =
     )
 
 pub back_is : (es : List Event) (b : Burdens) (f o u to c₀ : ℕ) → f ≡ suc o
-    → (spawns (event_at es o) ≡ true → (to ≡ join es o) × (c₀ ≡ b.on_return)) → (spawns (event_at es o) ≡ false → (to ≡ suc u) × (c₀ ≡ 0))
+    → (spawns (event_at es o) ≡ true → (to ≡ join es o) × (c₀ ≡ b.join)) → (spawns (event_at es o) ≡ false → (to ≡ suc u) × (c₀ ≡ 0))
     → (v c : ℕ) → dag.ReturnEdge es b f u v c ↔ (Some (edge to c₀) ≡ Some (edge v c))
 back_is es b f o u to c₀ q into past v c =
     subst (λ k. dag.ReturnEdge es b k u v c ↔ (Some (edge to c₀) ≡ Some (edge v c))) (sym q) (back_of es b (spawns (event_at es o)) o u to c₀ into past v c)
@@ -47,16 +47,16 @@ return_are es b u back q h v c =
     (λ e. inl ((h v c).0 e), λ k. elim k [ inl e ↦ (h v c).1 e | inr e ↦ (cc) ])
 
 pub spawn_are : (es : List Event) (b : Burdens) (u s f on next : ℕ) → event_at es u ≡ Some (Spawn s f) → on ≡ suc u → next ≡ suc (partner es u)
-    → (v c : ℕ) → dag.Edge es b u v c ↔ HasEdge (record { first = Some (edge on 0); second = Some (edge next b.on_continuation) }) v c
+    → (v c : ℕ) → dag.Edge es b u v c ↔ HasEdge (record { first = Some (edge on 0); second = Some (edge next b.continuation) }) v c
 spawn_are es b u s f on next q a n v c =
-    subst (λ e. dag.EdgeOf es b e u v c ↔ HasEdge (record { first = Some (edge on 0); second = Some (edge next b.on_continuation) }) v c) (sym q) (
+    subst (λ e. dag.EdgeOf es b e u v c ↔ HasEdge (record { first = Some (edge on 0); second = Some (edge next b.continuation) }) v c) (sym q) (
       λ k. elim k [
         | inl e ↦ inl (from_edge on 0 v c (e.0 ∙ sym a, e.1))
-        | inr e ↦ inr (from_edge next b.on_continuation v c (e.0 ∙ sym n, e.1))
+        | inr e ↦ inr (from_edge next b.continuation v c (e.0 ∙ sym n, e.1))
       ],
       λ k. elim k [
         | inl e ↦ (let g = same_edge on 0 v c e in inl (g.0 ∙ a, g.1))
-        | inr e ↦ (let g = same_edge next b.on_continuation v c e in inr (g.0 ∙ n, g.1))
+        | inr e ↦ (let g = same_edge next b.continuation v c e in inr (g.0 ∙ n, g.1))
       ],
     )
 

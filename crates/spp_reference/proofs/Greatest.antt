@@ -285,8 +285,8 @@ module _ (es : List Event) (b : Burdens) where
         → (v : ℕ) × (c : ℕ) × Taken edges.second v c
     next_second h = let l = le_false (weight_along edges.first best) (weight_along edges.second best) h in takes_second l.0 l.1 l.2
 
-pub default_is : (b : Burdens) → (b.on_continuation ≡ 0) × (b.on_return ≡ 0) → b ≡ unburdened
-default_is b h = ap₂ (λ (x y : ℕ). let r : Burdens = record { on_continuation = x; on_return = y } in r) h.0 h.1
+pub default_is : (b : Burdens) → (b.continuation ≡ 0) × (b.join ≡ 0) → b ≡ unburdened
+default_is b h = ap₂ (λ (x y : ℕ). let r : Burdens = record { continuation = x; join = y } in r) h.0 h.1
 
 -- the code goes along an edge of the path
 abbrev pub Goes : List Event → ℕ → Option Edge → Type 0
@@ -307,7 +307,7 @@ goes_somewhere es at taken k q = let f : None ≡ Some (edge k.0 k.1) = sym q �
 
 -- the edge that the code takes
 pub next_edge : (es : List Event) (b : Burdens) (at : ℕ) (best : List (Option ℕ)) (edges : Edges) (first second : Option ℕ) (le : Bool) (taken : Option Edge)
-    → (b.on_continuation ≡ 0) × (b.on_return ≡ 0) → at < length es → length best ≡ suc (length es)
+    → (b.continuation ≡ 0) × (b.join ≡ 0) → at < length es → length best ≡ suc (length es)
     → ((x : ℕ) → x ≤ length es → IsBest es unburdened x (length es) (get_or best x None)) → Reaches es unburdened at (length es)
     → ((v c : ℕ) → dag.Edge es b at v c ↔ HasEdge edges v c) → IsInOrder edges
     → first ≡ weight_along edges.first best → second ≡ weight_along edges.second best → le ≡ at_most second first
@@ -376,7 +376,7 @@ entries_fit es b sm ar end best l n known x w e = elim (cases_lt end x) [
 ]
 
 pub unburdened_small : AreSmall unburdened
-unburdened_small = record { on_continuation = omega arith; on_return = omega arith }
+unburdened_small = record { continuation = omega arith; join = omega arith }
 
 -- the table in the making: at first only the last entry
 pub filled_first : (es : List Event) (b : Burdens) → IsSmall es → AreSmall b → (end from n : ℕ) (best : List (Option ℕ)) (w : ℕ) → end ≤ length es → from ≡ end

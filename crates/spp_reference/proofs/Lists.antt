@@ -12,6 +12,7 @@ use Rattle.spp_maxplus.specs.State.{unburdened}
 use Rattle.spp_dag.specs.Trace.{weight, weight_of, event_at, is_frame, closing, opens}
 use Rattle.spp_dag.specs.Dag.{IsGreatest}
 use Rattle.spp_dag.specs.Rows.{AreSpans}
+use Rattle.spp_dag.proofs.EventsOfRecords.{weight_small}
 use Rattle.spp_reference.specs.Dags.{Lists}
 
 push_old : {X : Type 0} (xs ys : List X) (i : ℕ) → i < length xs → slice_get (xs ++ ys) i ≡ slice_get xs i
@@ -49,13 +50,6 @@ event_more rs n es e lt is so_far =
     ∙ ap (λ (r : Record). take n rs ++ r ∷ []) is
     ∙ ap (λ (l : List Record). l ++ Ok e ∷ []) so_far
     ∙ sym (map-append (λ x. Ok x) es (e ∷ []))
-
-weight_small : (sites funcs : ℕ) (e : Event) → IsEventOf sites funcs e → weight_of (Some e) < 2 ^ 64
-weight_small sites funcs (Strand n) h = h
-weight_small sites funcs (Call s f) h = omega arith
-weight_small sites funcs (Spawn s f) h = omega arith
-weight_small sites funcs Ret h = omega arith
-weight_small sites funcs Sync h = omega arith
 
 -- the strands stay small
 pub weights_more : (sites funcs : ℕ) (es : List Event) (e : Event) → ((k : ℕ) → weight es k < 2 ^ 64) → IsEventOf sites funcs e → (k : ℕ) → weight (es ++ e ∷ []) k < 2 ^ 64

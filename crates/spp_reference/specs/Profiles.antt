@@ -1,20 +1,18 @@
 -- What the reference profiler answers.
 use Rattle.std.specs.Prelude.{◌≡◌, ℕ, List, ◌∷◌, length, Option, Some, None}
 use Rattle.spp_event.specs.declared.records.Event.{Event}
-use Rattle.spp_event.specs.Recordings.{Record, Recording}
-use Rattle.spp_frame.specs.Nesting.{AreEvents, IsFirstBad}
+use Rattle.spp_event.specs.Recordings.{Recording}
+use Rattle.spp_frame.specs.Nesting.{AreEvents}
 use Rattle.spp_maxplus.specs.declared.state.Burdens.{Burdens}
 use Rattle.spp_dag.specs.declared.row.Row.{Row}
 use Rattle.spp_dag.specs.Rows.{contains}
 use Rattle.spp_dag.specs.Profile.{Profile, IsProfile}
 use Rattle.spp_reference.specs.Dags.{Lists}
-use Rattle.spp_reference.specs.declared.answers.Table.{Table}
+use Rattle.spp_reference.specs.declared.answers.SiteRows.{SiteRows}
 use Rattle.spp_reference.specs.declared.answers.Reference.{Reference}
-use Rattle.spp_reference.specs.declared.answers.ReferenceFault.{ReferenceFault}
-use Rattle.spp_reference.specs.declared.answers.ReferenceFault.TheVariants.{Bad, Memory}
 
 -- the table has the row of the root and those of the sites below a number
-pub record AreRows (row : Option ℕ → Row) (count : ℕ) (t : Table) : Type 0 where
+pub record AreRows (row : Option ℕ → Row) (count : ℕ) (t : SiteRows) : Type 0 where
   pub root : t.root ≡ row None
   pub sites : Lists count (λ site. row (Some site)) t.sites.items
 
@@ -34,8 +32,3 @@ pub record IsProfiled (events : List Event) (root sites : ℕ) (burdens : Burden
 abbrev pub IsReference : Recording → Burdens → Reference → Type 0
 IsReference trace burdens r =
     (events : List Event) × AreEvents trace.records events × IsProfiled events trace.root (length trace.sites) burdens r
-
--- what is refused as bad has just that first bad event; want of memory is told of any run
-abbrev pub IsFaultOf : List Record → ReferenceFault → Type 0
-IsFaultOf records (Bad fault) = IsFirstBad records fault
-IsFaultOf records Memory = Unit {0}

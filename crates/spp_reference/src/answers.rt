@@ -9,21 +9,22 @@ ghost use Rattle.spp_dag.specs.Rows.{AreSpans, contains, row as row_of};
 ghost use Rattle.spp_dag.specs.Limits.{IsSmall};
 ghost use Rattle.spp_reference.specs.Dags.{Lists};
 ghost use Rattle.spp_reference.specs.Places.{holds};
-ghost use Rattle.spp_reference.specs.Profiles.{AreRows, IsProfiled, IsReference, IsFaultOf};
-ghost use Rattle.spp_reference.specs.declared.answers.ReferenceFault.TheVariants.{Bad as BadFault, Memory as MemoryFault};
+ghost use Rattle.spp_reference.specs.Profiles.{AreRows, IsProfiled, IsReference};
+ghost use Rattle.spp_frame.specs.Answers.{IsFaultOf};
+ghost use Rattle.spp_frame.specs.declared.profile_fault.ProfileFault.TheVariants.{Bad as BadFault, Memory as MemoryFault};
 
 use crate::dag::Dag;
 use crate::rows::{Places, is_in, row, work};
 use crate::walks::{path, span};
 use spp_dag::Row;
 use spp_event::{Event, Trace};
-use spp_frame::{Fault, check};
+use spp_frame::{ProfileFault, check};
 use spp_maxplus::Burdens;
 use std::alloc::{AllocError, Global};
 
 /// The rows of a table.
 #[derive(Debug, Drop)]
-pub struct Table {
+pub struct SiteRows {
     /// The row of the root frame.
     pub root: Row,
     /// The row of each call site, in order.
@@ -44,34 +45,9 @@ pub struct Reference {
     /// For each event, whether the path passes it.
     pub marks: Vec<bool>,
     /// The rows on the whole dag.
-    pub dag_rows: Table,
+    pub dag_rows: SiteRows,
     /// The rows on the path.
-    pub path_rows: Table,
-}
-
-/// Why there is no profile.
-#[derive(Clone, Copy, Debug, PartialEq, Eq)]
-pub enum ReferenceFault {
-    /// The trace isn't well-formed; this is the first bad event.
-    Bad(Fault),
-    /// A growth was refused.
-    Memory,
-}
-
-impl From<Fault> for ReferenceFault {
-    ghost from_gives = { λ f e. e ≡ BadFault f };
-
-    fn from(fault: Fault) -> ReferenceFault {
-        ReferenceFault::Bad(fault)
-    }
-}
-
-impl From<AllocError> for ReferenceFault {
-    ghost from_gives = { λ _ e. e ≡ MemoryFault };
-
-    fn from(_e: AllocError) -> ReferenceFault {
-        ReferenceFault::Memory
-    }
+    pub path_rows: SiteRows,
 }
 
 /// The events of a well-formed trace.
@@ -122,7 +98,7 @@ fn rows_of(
     spans: &[u128],
     places: Places<'_>,
     sites: u32,
-) -> Result<Table, AllocError>
+) -> Result<SiteRows, AllocError>
     requires count { length spans.now ≡ suc (length dag.now) }
     requires spans { AreSpans dag.now (λ f. get_or spans.now f 0) }
     ensures { IfOk result (λ t. AreRows (row_of dag.now root (λ f. get_or spans.now f 0) (holds places.entry)) sites t) }
@@ -131,7 +107,7 @@ fn rows_of(
     for site in 0..sites {
         rows.push(row(dag, root, spans, places, Some(site)))?;
     }
-    Ok(Table {
+    Ok(SiteRows {
         root: row(dag, root, spans, places, None),
         sites: rows,
     })
@@ -188,7 +164,7 @@ pub fn profile(
     alloc: Global,
     trace: &Trace<'_>,
     burdens: Burdens,
-) -> Result<Reference, ReferenceFault>
+) -> Result<Reference, ProfileFault>
     ensures profile { IfOk result (λ r. IsReference trace.now burdens r) }
     ensures fault { IfErr result (λ f. IsFaultOf trace.now.records f) }
 {

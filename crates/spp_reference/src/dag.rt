@@ -228,7 +228,7 @@ impl<'t> Dag<'t> {
         if matches!(events[frame - 1], Event::Spawn { .. }) {
             return Some(Edge {
                 to: self.join(frame - 1),
-                burden: burdens.on_return,
+                burden: burdens.join,
             });
         }
         Some(Edge {
@@ -262,7 +262,7 @@ impl<'t> Dag<'t> {
                 first: on,
                 second: Some(Edge {
                     to: self.closing(u + 1) + 1,
-                    burden: burdens.on_continuation,
+                    burden: burdens.continuation,
                 }),
             },
             _ => Edges {

@@ -10,7 +10,7 @@ mod dag;
 mod rows;
 mod walks;
 
-pub use answers::{Reference, ReferenceFault, Table, profile};
+pub use answers::{Reference, SiteRows, profile};
 
 #[cfg(test)]
 mod tests;

@@ -1,8 +1,9 @@
-use crate::{Reference, ReferenceFault, profile};
+use crate::{Reference, profile};
 use spp_dag::Row;
-use spp_event::{Event, open_trace, record_of};
-use spp_frame::{Fault, Why};
+use spp_event::{Event, open_trace};
+use spp_frame::{Fault, ProfileFault, Why};
 use spp_maxplus::Burdens;
+use spp_samples::trace_of;
 use std::alloc::{AllocError, Global};
 use std::test::Fail;
 
@@ -12,27 +13,14 @@ fn strand(count: u64) -> Event {
     Event::Strand { count }
 }
 
-/// The bytes of a trace of the functions `main` and `f`, the site `A` and these events.
-fn trace_of(alloc: Global, events: &[Event]) -> Result<Vec<u8>, AllocError> {
-    let mut bytes = b"SPTRACE1\x00\x00\x00\x02\x00\x00\x00\x01\x00\x00\x00\x00\x00\x00\x00".to_vec(
-        alloc,
-    )?;
-    bytes.push(u8::try_from(events.len()).unwrap_or(0))?;
-    bytes.extend_from_slice(b"\x00\x04main\x00\x01f\x00\x01A")?;
-    for event in events {
-        bytes.extend_from_slice(&record_of(*event))?;
-    }
-    Ok(bytes)
-}
-
 /// The profile of a trace of these events with a burden of 3, or none where its bytes open as no trace.
 fn profiled(
     alloc: Global,
     events: &[Event],
-) -> Result<Option<Result<Reference, ReferenceFault>>, AllocError> {
+) -> Result<Option<Result<Reference, ProfileFault>>, AllocError> {
     let bytes = trace_of(alloc, events)?;
     Ok(match open_trace(alloc, bytes.as_slice()) {
-        Ok(trace) => Some(profile(alloc, &trace, Burdens::both(3))),
+        Ok(trace) => Some(profile(alloc, &trace, Burdens::equal(3))),
         Err(_) => None,
     })
 }
@@ -79,7 +67,7 @@ fn a_bad_trace_has_no_profile(rt: HostRuntime) -> Result<(), Fail> {
     assert!(rt;
         matches!(
             told,
-            Some(Err(ReferenceFault::Bad(Fault {
+            Some(Err(ProfileFault::Bad(Fault {
                 at: 1,
                 why: Why::RootReturn
             })))

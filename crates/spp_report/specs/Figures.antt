@@ -1,6 +1,6 @@
 -- The text of the figures of a run.
 use Rattle.std.specs.Prelude.{ℕ, zero, suc, ◌*◌, ◌/◌, ◌%◌, List, ◌++◌, Option, Some, None, codes, decimal}
-use Rattle.spp_piece.specs.declared.figures.Figures.{Figures}
+use Rattle.spp_dag.specs.declared.figures.Figures.{Figures}
 
 -- the hundredths of a ratio, rounded down; there is none where the divisor is 0
 abbrev pub hundredths : ℕ → ℕ → Option ℕ

@@ -3,7 +3,7 @@ use Rattle.std.specs.Prelude.{ℕ, ◌-◌, nat_eq, cond, List, [], ◌++◌, le
 use Rattle.std.specs.List.{flat_map, range_with_len}
 use Rattle.spp_event.specs.Recordings.{Recording}
 use Rattle.spp_site.specs.Table.{Sums, row_at}
-use Rattle.spp_piece.specs.declared.figures.Figures.{Figures}
+use Rattle.spp_dag.specs.declared.figures.Figures.{Figures}
 use Rattle.spp_report.specs.Csv.{cells, dag_columns}
 use Rattle.spp_report.specs.Figures.{line, figures_text}
 

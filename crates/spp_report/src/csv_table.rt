@@ -126,8 +126,7 @@ fn write_tables<W: Write + Drop>(
 pub fn csv_text(alloc: Global, named: &Named<'_, '_>) -> Result<Vec<u8>, AllocError>
     ensures { IfOk result (λ text. text.items ≡ csv_of_profile named.now.trace.now named.now.profile.now.dag named.now.profile.now.path) }
 {
-    // Its clauses tell that names are printable.
-    let _count = named.trace.count();
+    named.trace.keeps_limits();
     let mut writer = WriterBuilder::new().from_writer(Vec::new(alloc));
     let mut fields = ByteRecord::new(alloc);
     write_tables(&mut writer, &mut fields, named)?;

@@ -4,7 +4,7 @@ ghost use Rattle.std.specs.Prelude.{◌≡◌, ◌<◌, ◌^◌, IfOk};
 ghost use Rattle.std.specs.String.{string_bytes};
 ghost use Rattle.spp_report.specs.Figures.{hundredths as hundredths_of, ratio_text, figures_text as text_of_figures};
 
-use spp_piece::Figures;
+use spp_dag::Figures;
 use std::alloc::{AllocError, Global};
 
 /// The parallelism of a run in hundredths, rounded down: its work over its span, both in instructions, the work below

@@ -1,7 +1,7 @@
 //! What a report tells.
 
 use spp_event::Trace;
-use spp_serial::Profile;
+use spp_site::Profile;
 
 /// The profile of a run, with the trace that has the names.
 #[derive(Clone, Copy)]

@@ -1,10 +1,9 @@
 ghost use Rattle.std.specs.Prelude.{◌≡◌, IfOk};
 
 use crate::{Named, csv_text, figures_text, hundredths, plain_text};
+use spp_dag::Figures;
 use spp_event::open_trace;
-use spp_piece::Figures;
-use spp_serial::Profile;
-use spp_site::{Row, Table};
+use spp_site::{Profile, Row, Table};
 use std::alloc::{AllocError, Global};
 use std::test::Fail;
 

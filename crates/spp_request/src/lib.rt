@@ -1,12 +1,6 @@
-//! The command line: from words to a request, or the text that the user is shown in its place.
+//! What a user asks for, or why the words of a command line ask for nothing.
 #![tactic(auto)]
 
-mod command_line;
-mod parts;
 mod request;
 
-pub use parts::Parts;
-pub use request::{Command, Request, UsageFault, read_request};
-
-#[cfg(test)]
-mod tests;
+pub use request::{Command, Request, UsageFault};

@@ -1,14 +1,1 @@
-pub mod Keeping
-pub mod Told
-pub mod Bounded
-pub mod Shared
-pub mod Choosing
-pub mod Projected
-pub mod Passed
-pub mod Tops
 pub mod Whole
-pub mod Marking
-pub mod Suspending
-pub mod Reaching
-pub mod Anywhere
-pub mod Going

@@ -7,22 +7,11 @@ use Rattle.spp_maxplus.specs.declared.state.Burdens.{Burdens}
 use Rattle.spp_dag.specs.Profile as dag
 use Rattle.spp_dag.specs.Rows.{row, everywhere, contains}
 use Rattle.spp_dag.proofs.Profiles.{rows_one}
-use Rattle.spp_path.specs.Tables.{IsPathTable, ArePathRows}
-use Rattle.spp_piece.specs.Figures.{AreFigures}
-use Rattle.spp_serial.specs.declared.Profile.{Profile}
-use Rattle.spp_serial.specs.Tables.{IsDagTable, IsProfileOf, AreDagRows}
-
--- records spell one list of events
-same_events : (es fs : List Event) → map {A = Event} {B = Record} (λ e. Ok e) es ≡ map (λ e. Ok e) fs → es ≡ fs
-same_events [] [] h = refl
-same_events [] (f ∷ fs) h = absurd (cc)
-same_events (e ∷ es) [] h = absurd (cc)
-same_events (e ∷ es) (f ∷ fs) h =
-    let first : ◌≡◌ {A = Record} (Ok e) (Ok f) = cc in
-    let rest : map {A = Event} {B = Record} (λ e. Ok e) es ≡ map (λ e. Ok e) fs = cc in
-    let same : es ≡ fs = same_events es fs rest in
-    let head : e ≡ f = cc in
-    cc
+use Rattle.spp_site.specs.Profiles.{IsPathTable, ArePathRows}
+use Rattle.spp_dag.specs.Figures.{AreFigures}
+use Rattle.spp_dag.proofs.EventsOfRecords.{same_events}
+use Rattle.spp_site.specs.declared.profile.Profile.{Profile}
+use Rattle.spp_site.specs.Profiles.{IsDagTable, IsProfileOf, AreDagRows}
 
 pub whole : (trace : Recording) (burdens : Burdens) (p : Profile) → AreFigures trace.records burdens p.figures → IsDagTable trace p.dag → IsPathTable trace p.path
     → IsProfileOf trace burdens p

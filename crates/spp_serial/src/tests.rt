@@ -1,9 +1,9 @@
-use crate::first_pass::first_pass;
-use crate::{ProfileFault, figures_serial, profile_serial};
-use spp_event::{Event, open_trace, record_of};
-use spp_frame::{Fault, Why};
-use spp_path::{End, Join};
-use spp_piece::Figures;
+use crate::profile_serial;
+use spp_dag::Figures;
+use spp_event::{Event, open_trace};
+use spp_frame::{Fault, ProfileFault, Why};
+use spp_maxplus::Burdens;
+use spp_samples::trace_of;
 use spp_site::Row;
 use std::alloc::{AllocError, Global};
 use std::test::Fail;
@@ -16,20 +16,6 @@ fn strand(count: u64) -> Event {
     Event::Strand { count }
 }
 
-/// The bytes of a trace of these events, of the functions `main` and `f` and the site `A`.
-fn trace_of(alloc: Global, events: &[Event]) -> Result<Vec<u8>, AllocError> {
-    let count = u8::try_from(events.len()).unwrap_or(0);
-    let mut bytes = b"SPTRACE1\x00\x00\x00\x02\x00\x00\x00\x01\x00\x00\x00\x00\x00\x00\x00".to_vec(
-        alloc,
-    )?;
-    bytes.push(count)?;
-    bytes.extend_from_slice(b"\x00\x04main\x00\x01f\x00\x01A")?;
-    for event in events {
-        bytes.extend_from_slice(&record_of(*event))?;
-    }
-    Ok(bytes)
-}
-
 /// The figures of a run of these events with a burden of 3, or none where the bytes open as no trace.
 fn figures_of(
     alloc: Global,
@@ -39,7 +25,10 @@ fn figures_of(
     let Ok(trace) = open_trace(alloc, bytes.as_slice()) else {
         return Ok(None);
     };
-    Ok(Some(figures_serial(alloc, &trace, 3)))
+    match profile_serial(alloc, &trace, Burdens::equal(3)) {
+        Ok(profile) => Ok(Some(Ok(profile.figures))),
+        Err(fault) => Ok(Some(Err(fault))),
+    }
 }
 
 fn figures(work: u128, span: u128, burdened: u128) -> Figures {
@@ -56,7 +45,7 @@ fn rows_of(alloc: Global, events: &[Event]) -> Result<Option<(Row, Row)>, AllocE
     let Ok(trace) = open_trace(alloc, bytes.as_slice()) else {
         return Ok(None);
     };
-    match profile_serial(alloc, &trace, 3) {
+    match profile_serial(alloc, &trace, Burdens::equal(3)) {
         Ok(profile) => Ok(Some((profile.dag.root_row(), profile.dag.row(0)))),
         Err(ProfileFault::Bad(_)) => Ok(None),
         Err(ProfileFault::Memory) => Err(AllocError),
@@ -193,77 +182,5 @@ fn a_run_has_its_rows(rt: HostRuntime) -> Result<(), Fail> {
             row(3, 3, (1, 3, 3), (2, 5, 5))
         ))
     );
-    Ok(())
-}
-
-/// Whether the first pass over a run of these events gives its figures and these choices; none where it has no profile.
-fn has_choices(
-    alloc: Global,
-    events: &[Event],
-    ends: &[End],
-    joins: &[Join],
-) -> Result<Option<bool>, AllocError> {
-    let bytes = trace_of(alloc, events)?;
-    let Ok(trace) = open_trace(alloc, bytes.as_slice()) else {
-        return Ok(None);
-    };
-    let figures = figures_serial(alloc, &trace, 3);
-    match first_pass(alloc, &trace, 3) {
-        Ok(pass) => Ok(Some(
-            figures == Ok(pass.figures)
-                && pass.choices.ends.as_slice() == ends
-                && pass.choices.joins.as_slice() == joins,
-        )),
-        Err(ProfileFault::Bad(_)) => Ok(None),
-        Err(ProfileFault::Memory) => Err(AllocError),
-    }
-}
-
-fn end(at: u32, spawn: u32) -> End {
-    End { at, spawn }
-}
-
-fn join(at: u32, spawn: u32) -> Join {
-    Join { at, spawn }
-}
-
-#[test]
-fn a_run_has_its_choices(rt: HostRuntime) -> Result<(), Fail> {
-    let ret = Event::Ret;
-    let sync = Event::Sync;
-    let five = strand(5);
-    let all: [(&[Event], &[End], &[Join]); 6] = [
-        (&[SPAWN, five, ret, five, sync], &[end(2, 0)], &[join(4, 0)]),
-        (&[SPAWN, five, ret, strand(6), sync], &[end(2, 0)], &[]),
-        (
-            &[SPAWN, five, ret, SPAWN, five, ret, sync],
-            &[end(2, 0), end(5, 3)],
-            &[join(6, 0)],
-        ),
-        (&[SPAWN, five, ret, strand(2)], &[end(2, 0)], &[join(4, 0)]),
-        (&[CALL, five, ret], &[], &[]),
-        (
-            &[
-                SPAWN,
-                SPAWN,
-                strand(3),
-                ret,
-                strand(1),
-                ret,
-                strand(2),
-                sync,
-                strand(1),
-            ],
-            &[end(3, 1), end(5, 0)],
-            &[join(5, 1), join(7, 0)],
-        ),
-    ];
-    for (i, (events, ends, joins)) in all.iter().enumerate() {
-        assert_eq!(rt;
-            has_choices(rt.alloc(), events, ends, joins)?,
-            Some(true),
-            "run {i}"
-        );
-    }
     Ok(())
 }

@@ -7,7 +7,7 @@ use Rattle.spp_event.specs.Texts.{header_fault_text}
 use Rattle.spp_frame.specs.declared.Fault.{Fault}
 use Rattle.spp_frame.specs.Nesting.{IsWellFormed, IsFirstBad, work}
 use Rattle.spp_frame.specs.Texts.{fault_text}
-use Rattle.spp_shell.specs.Lines.{line}
+use Rattle.spp_report.specs.Figures.{line}
 
 abbrev pub work_text : ℕ → List ℕ
 work_text n = line (codes "work " ++ decimal n)

@@ -6,7 +6,7 @@ use Rattle.spp_text.specs.declared.fault.TextFault.{TextFault}
 use Rattle.spp_text.specs.FaultTexts.{text_why_text}
 use Rattle.spp_text.specs.Parsed.{IsEncoded}
 use Rattle.spp_text.specs.Reading.{read_text, fault_at}
-use Rattle.spp_shell.specs.Lines.{line, line_feed}
+use Rattle.spp_report.specs.Figures.{line}
 
 abbrev pub text_line : TextFault → List ℕ
 text_line fault = line (codes "bad text line " ++ decimal fault.line ++ codes ": " ++ text_why_text fault.why)
@@ -15,9 +15,9 @@ text_line fault = line (codes "bad text line " ++ decimal fault.line ++ codes ":
 abbrev pub IsBadText : List ℕ → TextFault → Type 0
 IsBadText bytes fault = IsUtf8 bytes × (read_text bytes ≡ Err fault)
 
--- the number of the line that the bytes end on
+-- the number of the line that the bytes end on: one more than there are line feeds in them
 abbrev pub end_line : List ℕ → ℕ
-end_line bytes = 1 + count_by (λ b. b == line_feed) bytes
+end_line bytes = 1 + count_by (λ b. b == 10) bytes
 
 -- the bytes are UTF-8 up to n and no further, and the fault is a wrong word on the line where that is
 abbrev pub IsNoText : List ℕ → TextFault → Type 0

@@ -1,4 +1,4 @@
-pub mod Lines
+pub mod Troubles
 pub mod Reading
 pub mod Refusals
 pub mod InSources
@@ -8,6 +8,7 @@ pub mod Figures
 pub mod Profiles
 pub mod Requests
 pub mod Tasks
+pub mod Devices
 pub mod Endings
 pub mod Usage
 pub mod Fakes

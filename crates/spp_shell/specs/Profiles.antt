@@ -2,10 +2,10 @@
 use Rattle.std.specs.Prelude.{◌≡◌, ℕ, Bool, true, false, List, [], ◌∷◌}
 use Rattle.spp_event.specs.Recordings.{Recording}
 use Rattle.spp_event.specs.Header.{IsTraceOf}
-use Rattle.spp_maxplus.specs.State.{both}
-use Rattle.spp_piece.specs.declared.figures.Figures.{Figures}
+use Rattle.spp_maxplus.specs.declared.state.Burdens.{Burdens}
+use Rattle.spp_dag.specs.declared.figures.Figures.{Figures}
 use Rattle.spp_site.specs.Table.{Sums}
-use Rattle.spp_serial.specs.Tables.{IsProfileOf}
+use Rattle.spp_site.specs.Profiles.{IsProfileOf}
 use Rattle.spp_report.specs.Csv.{csv_text}
 use Rattle.spp_report.specs.Plain.{plain_text}
 
@@ -15,11 +15,11 @@ report_text true t f dag path = csv_text t dag path
 report_text false t f dag path = plain_text t f dag path
 
 -- the bytes are those of a well-formed trace, and the text tells the profile of its run
-abbrev pub TellsProfile : ℕ → Bool → List ℕ → List ℕ → Type 0
-TellsProfile burden csv bytes text =
+abbrev pub TellsProfile : Burdens → Bool → List ℕ → List ℕ → Type 0
+TellsProfile burdens csv bytes text =
     (t : Recording) × (body : List ℕ) × (f : Figures) × (dag : Sums) × (path : Sums)
-    × IsTraceOf bytes t body × IsProfileOf t (both burden) (record { figures = f; dag = dag; path = path }) × (text ≡ report_text csv t f dag path)
+    × IsTraceOf bytes t body × IsProfileOf t burdens (record { figures = f; dag = dag; path = path }) × (text ≡ report_text csv t f dag path)
 
 -- the text for one input
-abbrev pub IsProfileText : ℕ → Bool → List (List ℕ) → List ℕ → Type 0
-IsProfileText burden csv inputs text = (bytes : List ℕ) × (inputs ≡ bytes ∷ []) × TellsProfile burden csv bytes text
+abbrev pub IsProfileText : Burdens → Bool → List (List ℕ) → List ℕ → Type 0
+IsProfileText burdens csv inputs text = (bytes : List ℕ) × (inputs ≡ bytes ∷ []) × TellsProfile burdens csv bytes text

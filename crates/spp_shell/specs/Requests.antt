@@ -2,6 +2,7 @@
 use Rattle.std.specs.Prelude.{ℕ, Bool, List}
 use Rattle.spp_request.specs.declared.request.Command.{Command}
 use Rattle.spp_request.specs.declared.request.Command.TheVariants.{Check, Figures, Profile, Encode}
+use Rattle.spp_maxplus.specs.State.{equal}
 use Rattle.spp_shell.specs.Check.{IsCheckText, IsCheckLine}
 use Rattle.spp_shell.specs.Encode.{IsEncodeText, IsEncodeLine}
 use Rattle.spp_shell.specs.Figures.{IsFiguresText}
@@ -10,8 +11,8 @@ use Rattle.spp_shell.specs.Profiles.{IsProfileText}
 -- the text of the answer, with that burden, and as comma-separated values or not, where the command asks for these
 abbrev pub text_for : Command → ℕ → Bool → List (List ℕ) → List ℕ → Type 0
 text_for Check burden csv = IsCheckText
-text_for Figures burden csv = IsFiguresText burden
-text_for Profile burden csv = IsProfileText burden csv
+text_for Figures burden csv = IsFiguresText (equal burden)
+text_for Profile burden csv = IsProfileText (equal burden) csv
 text_for Encode burden csv = IsEncodeText
 
 -- the line of fault of inputs that are refused

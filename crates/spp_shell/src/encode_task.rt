@@ -28,10 +28,7 @@ fn refusal_of_text(alloc: Global, fault: TextFault) -> Refusal
 {
     match fault.why {
         TextWhy::Memory => Refusal::Memory,
-        _ => match line_of_text(alloc, fault) {
-            Ok(line) => Refusal::Line(line),
-            Err(_) => Refusal::Memory,
-        },
+        _ => Refusal::of_line(line_of_text(alloc, fault)),
     }
 }
 

@@ -2,22 +2,25 @@
 //! fault.
 ghost use Rattle.std.specs.Prelude.{◌≡◌, IfErr};
 ghost use Rattle.spp_shell.specs.Tasks.{IfLine};
+ghost use Rattle.spp_maxplus.specs.State.{equal};
 ghost use Rattle.spp_shell.specs.Check.{IsCheckLine};
 ghost use Rattle.spp_shell.specs.Figures.{IsFiguresText};
 
-use crate::check_task::{line_of_event, refusal_of_header};
+use crate::opening::{open_or_refuse, refusal_of_event};
 use crate::task::{Refusal, Task};
-use spp_event::open_trace;
-use spp_piece::{FiguresFault, figures_in_parts};
+use spp_cut::Parts;
+use spp_frame::ProfileFault;
+use spp_maxplus::Burdens;
 use spp_report::figures_text;
-use spp_request::{Parts, Request};
+use spp_request::Request;
+use spp_summary::figures_in_parts;
 use std::alloc::Global;
 
 /// Tells the figures of a run.
 #[derive(Drop)]
 pub(crate) struct FiguresTask {
-    /// What each continuation edge and each return edge bears, in instructions.
-    pub(crate) burden: u32,
+    /// What continuation edges and return edges bear, in instructions.
+    pub(crate) burdens: Burdens,
     /// Into how many parts the trace is cut, which changes no answer.
     pub(crate) parts: Parts,
 }
@@ -25,30 +28,27 @@ pub(crate) struct FiguresTask {
 impl FiguresTask {
     /// The task that is asked for.
     pub(crate) fn of(request: &Request) -> Self
-        ensures burden { result.burden ≡ request.now.burden }
+        ensures burdens { result.burdens ≡ equal request.now.burden }
         ensures parts { result.parts ≡ request.now.parts }
     {
         FiguresTask {
-            burden: request.burden,
+            burdens: Burdens::equal(request.burden),
             parts: request.parts,
         }
     }
 }
 
 impl Task for FiguresTask {
-    ghost text_for = { λ task. IsFiguresText task.burden };
+    ghost text_for = { λ task. IsFiguresText task.burdens };
 
     ghost line_for = { λ _. IsCheckLine };
 
     fn answer(&self, alloc: Global, bytes: &[u8]) -> Result<Vec<u8>, Refusal> {
-        let trace = match open_trace(alloc, bytes) {
-            Ok(trace) => trace,
-            Err(fault) => return Err(refusal_of_header(alloc, fault)),
-        };
-        match figures_in_parts(alloc, &trace, self.burden, self.parts.number()) {
+        let trace = open_or_refuse(alloc, bytes)?;
+        match figures_in_parts(alloc, &trace, self.burdens, self.parts) {
             Ok(figures) => Ok(figures_text(alloc, &figures)?),
-            Err(FiguresFault::Bad(fault)) => Err(Refusal::Line(line_of_event(alloc, fault)?)),
-            Err(FiguresFault::Memory) => Err(Refusal::Memory),
+            Err(ProfileFault::Bad(fault)) => Err(refusal_of_event(alloc, fault)),
+            Err(ProfileFault::Memory) => Err(Refusal::Memory),
         }
     }
 }

@@ -5,13 +5,16 @@ mod check_task;
 mod encode_task;
 mod figures_task;
 mod in_source;
+mod opening;
 mod profile_task;
 mod reading;
 mod running;
 mod source;
 pub mod status;
 mod task;
+mod trouble;
 mod usage;
+mod writing;
 
 pub use in_source::InSource;
 pub use reading::{ReadFault, read_all, read_within};

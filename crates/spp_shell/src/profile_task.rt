@@ -1,21 +1,23 @@
 //! The task `profile`: the figures and both tables of a run, or its trace's first fault.
 ghost use Rattle.std.specs.Prelude.{◌≡◌, ◌<◌, ◌^◌, IfOk};
+ghost use Rattle.spp_maxplus.specs.State.{equal};
 ghost use Rattle.spp_shell.specs.Check.{IsCheckLine};
 ghost use Rattle.spp_shell.specs.Profiles.{IsProfileText, report_text};
 
-use crate::check_task::{line_of_event, refusal_of_header};
+use crate::opening::{open_or_refuse, refusal_of_event};
 use crate::task::{Refusal, Task};
-use spp_event::open_trace;
+use spp_frame::ProfileFault;
+use spp_maxplus::Burdens;
 use spp_report::{Named, csv_text, plain_text};
 use spp_request::Request;
-use spp_serial::{ProfileFault, profile_serial};
+use spp_serial::profile_serial;
 use std::alloc::{AllocError, Global};
 
 /// Tells the figures and tables of a run.
 #[derive(Drop)]
 pub(crate) struct ProfileTask {
-    /// What each continuation edge and each return edge bears, in instructions.
-    pub(crate) burden: u32,
+    /// What continuation edges and return edges bear, in instructions.
+    pub(crate) burdens: Burdens,
     /// Whether the tables alone are told, as comma-separated values.
     pub(crate) csv: bool,
 }
@@ -23,11 +25,11 @@ pub(crate) struct ProfileTask {
 impl ProfileTask {
     /// The task that is asked for.
     pub(crate) fn of(request: &Request) -> Self
-        ensures burden { result.burden ≡ request.now.burden }
+        ensures burdens { result.burdens ≡ equal request.now.burden }
         ensures csv { result.csv ≡ request.now.csv }
     {
         ProfileTask {
-            burden: request.burden,
+            burdens: Burdens::equal(request.burden),
             csv: request.csv,
         }
     }
@@ -46,16 +48,13 @@ fn report(alloc: Global, named: &Named<'_, '_>, csv: bool) -> Result<Vec<u8>, Al
 }
 
 impl Task for ProfileTask {
-    ghost text_for = { λ task. IsProfileText task.burden task.csv };
+    ghost text_for = { λ task. IsProfileText task.burdens task.csv };
 
     ghost line_for = { λ _. IsCheckLine };
 
     fn answer(&self, alloc: Global, bytes: &[u8]) -> Result<Vec<u8>, Refusal> {
-        let trace = match open_trace(alloc, bytes) {
-            Ok(trace) => trace,
-            Err(fault) => return Err(refusal_of_header(alloc, fault)),
-        };
-        match profile_serial(alloc, &trace, self.burden) {
+        let trace = open_or_refuse(alloc, bytes)?;
+        match profile_serial(alloc, &trace, self.burdens) {
             Ok(profile) => {
                 let named = Named {
                     trace: &trace,
@@ -63,7 +62,7 @@ impl Task for ProfileTask {
                 };
                 Ok(report(alloc, &named, self.csv)?)
             }
-            Err(ProfileFault::Bad(fault)) => Err(Refusal::Line(line_of_event(alloc, fault)?)),
+            Err(ProfileFault::Bad(fault)) => Err(refusal_of_event(alloc, fault)),
             Err(ProfileFault::Memory) => Err(Refusal::Memory),
         }
     }

@@ -1,7 +1,6 @@
 //! One run: read, answer, write.
-ghost use Rattle.std.specs.Prelude.{◌≡◌};
-ghost use Rattle.spp_report.specs.Devices.{Raised};
-ghost use Rattle.spp_shell.specs.Endings.{RunEnds, ToldLine, OneRead, OneUnread};
+ghost use Rattle.spp_shell.specs.Devices.{devices_of, taking_of};
+ghost use Rattle.spp_shell.specs.Endings.{RunEnds};
 ghost use Rattle.spp_shell.specs.Requests.{text_for, line_for};
 
 use crate::check_task::Check;
@@ -10,21 +9,13 @@ use crate::figures_task::FiguresTask;
 use crate::profile_task::ProfileTask;
 use crate::reading::{ReadFault, read_all};
 use crate::source::Source;
-use crate::status::{BAD_INPUT, DEVICE, GOOD, MEMORY};
+use crate::status::BAD_INPUT;
 use crate::task::{Refusal, Task};
-use spp_report::{Sink, WriteFault, write_out};
+use crate::trouble::Trouble;
+use crate::writing::{tell, tell_trouble, write_answer};
+use spp_report::Sink;
 use spp_request::{Command, Request};
 use std::alloc::Global;
-
-/// Writes one line; whether the device took it is not told on.
-pub(crate) fn tell<E: Sink>(err: &mut E, line: &[u8])
-    ensures { ToldLine E.took E.finished E.failures err.old err.new line.now }
-{
-    match write_out(err, line) {
-        Ok(()) => {}
-        Err(WriteFault::Device { written: _ }) => {}
-    }
-}
 
 /// One run of a task over one input.
 fn run_task<C: Task, S: Source, O: Sink, E: Sink>(
@@ -34,49 +25,21 @@ fn run_task<C: Task, S: Source, O: Sink, E: Sink>(
     out: &mut O,
     err: &mut E,
 ) -> u8
-    ensures ends { RunEnds (record {
-      WasRead = OneRead S.answered first.old first.new;
-      Unread = OneUnread S.answered S.failures first.old first.new;
-      Took = λ text. O.took out.old text out.new;
-      Finished = O.finished out.new;
-      OutFailed = Raised (O.failures out.old) (O.failures out.new);
-      OutUntouched = out.new ≡ out.old;
-      Told = ToldLine E.took E.finished E.failures err.old err.new;
-      Silent = err.new ≡ err.old;
-    }) (C.text_for task.now) (C.line_for task.now) result }
+    ensures ends { RunEnds (devices_of S.answered S.failures first.old first.new (taking_of O.took O.finished O.failures out.old out.new) (taking_of E.took E.finished E.failures err.old err.new)) (C.text_for task.now) (C.line_for task.now) result }
 {
     let bytes = match read_all(alloc, first) {
         Ok(bytes) => bytes,
-        Err(ReadFault::Device) => {
-            tell(err, b"cannot read input\n".as_slice());
-            return DEVICE;
-        }
-        Err(ReadFault::TooLong) => {
-            tell(err, b"input too long\n".as_slice());
-            return DEVICE;
-        }
-        Err(ReadFault::Memory) => {
-            tell(err, b"out of memory\n".as_slice());
-            return MEMORY;
-        }
+        Err(ReadFault::Device) => return tell_trouble(err, Trouble::CannotRead),
+        Err(ReadFault::TooLong) => return tell_trouble(err, Trouble::TooLong),
+        Err(ReadFault::Memory) => return tell_trouble(err, Trouble::NoMemory),
     };
-    let text = match task.answer(alloc, bytes.as_slice()) {
-        Ok(text) => text,
+    match task.answer(alloc, bytes.as_slice()) {
+        Ok(text) => write_answer(text.as_slice(), out, err),
         Err(Refusal::Line(line)) => {
             tell(err, line.as_bytes());
-            return BAD_INPUT;
+            BAD_INPUT
         }
-        Err(Refusal::Memory) => {
-            tell(err, b"out of memory\n".as_slice());
-            return MEMORY;
-        }
-    };
-    match write_out(out, text.as_slice()) {
-        Ok(()) => GOOD,
-        Err(WriteFault::Device { written: _ }) => {
-            tell(err, b"cannot write output\n".as_slice());
-            DEVICE
-        }
+        Err(Refusal::Memory) => tell_trouble(err, Trouble::NoMemory),
     }
 }
 
@@ -91,16 +54,7 @@ pub fn run<S: Source, O: Sink, E: Sink>(
     out: &mut O,
     err: &mut E,
 ) -> u8
-    ensures ends { RunEnds (record {
-      WasRead = OneRead S.answered first.old first.new;
-      Unread = OneUnread S.answered S.failures first.old first.new;
-      Took = λ text. O.took out.old text out.new;
-      Finished = O.finished out.new;
-      OutFailed = Raised (O.failures out.old) (O.failures out.new);
-      OutUntouched = out.new ≡ out.old;
-      Told = ToldLine E.took E.finished E.failures err.old err.new;
-      Silent = err.new ≡ err.old;
-    }) (text_for request.now.command request.now.burden request.now.csv) (line_for request.now.command) result }
+    ensures ends { RunEnds (devices_of S.answered S.failures first.old first.new (taking_of O.took O.finished O.failures out.old out.new) (taking_of E.took E.finished E.failures err.old err.new)) (text_for request.now.command request.now.burden request.now.csv) (line_for request.now.command) result }
 {
     match request.command {
         Command::Check => run_task(alloc, &Check, first, out, err),

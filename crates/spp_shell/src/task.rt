@@ -1,7 +1,7 @@
 //! A task of the program over the bytes that were read.
-ghost use Rattle.std.specs.Prelude.{◌≡◌, ℕ, List, [], ◌∷◌, IfOk, IfErr};
+ghost use Rattle.std.specs.Prelude.{◌≡◌, ℕ, List, [], ◌∷◌, IfOk, IfErr, MatchResult};
 ghost use Rattle.spp_shell.specs.Tasks.{IfLine};
-ghost use Rattle.spp_shell.specs.declared.task.Refusal.TheVariants.{Memory};
+ghost use Rattle.spp_shell.specs.declared.task.Refusal.TheVariants.{Line, Memory};
 
 use std::alloc::{AllocError, Global};
 
@@ -12,6 +12,18 @@ pub(crate) enum Refusal {
     Line(String),
     /// No memory was left.
     Memory,
+}
+
+impl Refusal {
+    /// That the bytes are refused by this line, or that no memory was left for it.
+    pub(crate) fn of_line(line: Result<String, AllocError>) -> Refusal
+        ensures { MatchResult line (λ text. result ≡ Line text) (λ _. result ≡ Memory) }
+    {
+        match line {
+            Ok(line) => Refusal::Line(line),
+            Err(_) => Refusal::Memory,
+        }
+    }
 }
 
 impl From<AllocError> for Refusal {

@@ -5,3 +5,5 @@ pub mod Adding
 pub mod Merging
 pub mod Small
 pub mod Marked
+pub mod RowSums
+pub mod LastFirst

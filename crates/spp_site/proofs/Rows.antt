@@ -3,20 +3,8 @@ use Rattle.std.proofs.Common.{◌≡◌, ◌+◌, Bool, true, false, cond, refl,
 use Rattle.std.proofs.lemmas.Bool.{and_parts, eqb-true}
 use Rattle.spp_dag.specs.declared.row.Row.{Row}
 use Rattle.spp_dag.specs.Shares.{zero_row, plus}
+use Rattle.spp_dag.proofs.Shares.{same_rows}
 use Rattle.spp_site.specs.Rows.{Fits, is_zero}
-
-pub same_rows : (a b : Row) → a.count ≡ b.count → a.local ≡ b.local → a.site_count ≡ b.site_count → a.site_work ≡ b.site_work → a.site_span ≡ b.site_span
-    → a.caller_count ≡ b.caller_count → a.caller_work ≡ b.caller_work → a.caller_span ≡ b.caller_span → a ≡ b
-same_rows a b c l sc sw ss cc' cw cs = λ i. record {
-  count = c i;
-  local = l i;
-  site_count = sc i;
-  site_work = sw i;
-  site_span = ss i;
-  caller_count = cc' i;
-  caller_work = cw i;
-  caller_span = cs i;
-}
 
 pub plus-zero : (r : Row) → plus r zero_row ≡ r
 plus-zero r = same_rows (plus r zero_row) r (omega arith) (omega arith) (omega arith) (omega arith) (omega arith) (omega arith) (omega arith) (omega arith)

@@ -1,5 +1,6 @@
 pub mod Rows
 pub mod Table
+pub mod Profiles
 pub mod Slots
 pub mod Laws
 pub mod Marks

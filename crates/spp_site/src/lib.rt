@@ -4,12 +4,14 @@
 mod closed_frame;
 mod laws;
 mod marks;
+mod profile;
 mod row_sums;
 mod table;
 
 pub use closed_frame::ClosedFrame;
 pub use laws::table_laws;
 pub use marks::Marks;
+pub use profile::Profile;
 pub use spp_dag::Row;
 pub use table::Table;
 

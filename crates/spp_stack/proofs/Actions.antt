@@ -14,8 +14,8 @@ use Rattle.spp_dag.specs.Trace.{weight_of}
 use Rattle.spp_dag.specs.Stack.{after_child}
 use Rattle.spp_dag.specs.Steps.{opened, entry_after}
 use Rattle.spp_piece.specs.declared.pieces.Frame.{Frame}
-use Rattle.spp_piece.specs.declared.pieces.Kind.{Kind}
-use Rattle.spp_piece.specs.declared.pieces.Kind.TheVariants.{Called, Spawned}
+use Rattle.spp_maxplus.specs.declared.child.ChildKind.{ChildKind}
+use Rattle.spp_maxplus.specs.declared.child.ChildKind.TheVariants.{Called, Spawned}
 use Rattle.spp_piece.specs.declared.pieces.Segs.{Segs}
 use Rattle.spp_piece.specs.Pair.{act, fed, fed_by}
 use Rattle.spp_piece.specs.Stack.{with_states}
@@ -38,14 +38,14 @@ along_push : (g : Segs) (f : Frame) (fs : List EntryFrame) (w : ℕ)
 along_push g f [] w = refl
 along_push g f (e ∷ es) w = refl
 
-fed_plain : (k : Kind) (burden : Burdens) (at g h : ℕ) (s : State) → after_child unburdened (kind_of k) at g s ≡ seg.act (fed_by k burden at g h).plain s
-fed_plain Called burden at g h s = sym (one.act-call g s)
-fed_plain Spawned burden at g h s = sym (one.act-spawn at g unburdened s)
+fed_plain : (k : ChildKind) (burdens : Burdens) (at g h : ℕ) (s : State) → after_child unburdened (kind_of k) at g s ≡ seg.act (fed_by k burdens at g h).plain s
+fed_plain Called burdens at g h s = sym (one.act-call g s)
+fed_plain Spawned burdens at g h s = sym (one.act-spawn at g unburdened s)
 
-ret_push : (burden : Burdens) (f : Frame) (fs : List EntryFrame) (w : ℕ) → ret_by (push_by fs f w).frames (push_by fs f w).work ≡ along_by fs (fed burden f).plain w
-ret_push burden f [] w = refl
-ret_push burden f (e ∷ es) w =
-    ap (λ (s : State). now (record e { state = s } ∷ es) w) (fed_plain f.kind burden f.at (close f.states.plain) (close f.states.burdened) e.state)
+ret_push : (burdens : Burdens) (f : Frame) (fs : List EntryFrame) (w : ℕ) → ret_by (push_by fs f w).frames (push_by fs f w).work ≡ along_by fs (fed burdens f).plain w
+ret_push burdens f [] w = refl
+ret_push burdens f (e ∷ es) w =
+    ap (λ (s : State). now (record e { state = s } ∷ es) w) (fed_plain f.kind burdens f.at (close f.states.plain) (close f.states.burdened) e.state)
 
 no_work : (fs : List EntryFrame) (w : ℕ) → worked_by fs 0 w ≡ now fs w
 no_work [] w = refl
@@ -71,12 +71,12 @@ push_worked f n [] w = refl
 push_worked f n (e ∷ es) w =
     ap (λ k. now (record (entered f (e ∷ es) e es w) { before = k } ∷ e ∷ es) (w + n)) (let z : w + n + f.before ≡ w + (n + f.before) = omega arith in z)
 
-pub entry_laws : (burden : Burdens) → Laws burden entry_ops
-entry_laws burden = record {
+pub entry_laws : (burdens : Burdens) → Laws burdens entry_ops
+entry_laws burdens = record {
   idle = λ x. idle_by x.frames x.work;
   then = λ a b x. then_by a.plain b.plain x.frames x.work;
   along-push = λ g f x. along_push g f x.frames x.work;
-  ret-push = λ at f x. ret_push burden f x.frames x.work;
+  ret-push = λ at f x. ret_push burdens f x.frames x.work;
   no_work = λ x. no_work x.frames x.work;
   worked-worked = λ m n x. worked_worked m n x.frames x.work;
   along-worked = λ g n x. along_worked g n x.frames x.work;

@@ -71,10 +71,10 @@ events_follow es wf root i (r ∷ rs) more x d h =
     (events_follow es wf root (i + 1) rs more (event entry_ops i r x) left after)
 
 -- by its summary
-pub part_follows : (es : List Event) → IsWellFormed es → (root i : ℕ) (rs more : List Record) (burden : Burdens) (x : Now) → drop i (records es) ≡ rs ++ more
-    → Follows es root i x → Follows es root (i + length rs) (play entry_ops (summary_of burden i rs) x)
-part_follows es wf root i rs more burden x d h =
-    subst (λ (y : Now). Follows es root (i + length rs) y) (sym (play_summary burden entry_ops (entry_laws burden) i rs x)) (events_follow es wf root i rs more x d h)
+pub part_follows : (es : List Event) → IsWellFormed es → (root i : ℕ) (rs more : List Record) (burdens : Burdens) (x : Now) → drop i (records es) ≡ rs ++ more
+    → Follows es root i x → Follows es root (i + length rs) (play entry_ops (summary_of burdens i rs) x)
+part_follows es wf root i rs more burdens x d h =
+    subst (λ (y : Now). Follows es root (i + length rs) y) (sym (play_summary burdens entry_ops (entry_laws burdens) i rs x)) (events_follow es wf root i rs more x d h)
 
 -- ---- the weights of an entry
 
@@ -84,7 +84,7 @@ peaks_are es root (f ∷ fs) = let e = peaks_are es root fs in omega arith
 
 pub entry_fits : (es : List Event) → IsWellFormed es → IsSmall es → (root i : ℕ) (x : Now) → Follows es root i x → peaks x.frames < 2 ^ 92
 entry_fits es wf small root i x h =
-    let fits = stack_fits es wf small unburdened (record { on_continuation = omega arith; on_return = omega arith }) i h.is.0 h.within (root, h.is.1) in
+    let fits = stack_fits es wf small unburdened (record { continuation = omega arith; join = omega arith }) i h.is.0 h.within (root, h.is.1) in
     let e = ap peaks h.is.2 in
     let f = peaks_are es root h.is.0 in
     omega (arith, fits.0)

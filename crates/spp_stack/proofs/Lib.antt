@@ -3,5 +3,5 @@ pub mod Standing
 pub mod Passing
 pub mod Actions
 pub mod Following
-pub mod Gone
+pub mod PartsPassed
 mod Linked

@@ -16,9 +16,9 @@ use Rattle.spp_piece.specs.declared.pieces.Unmatched.{Unmatched}
 use Rattle.spp_piece.specs.Summary.{Sum, play_returns, play_frames, play_fault, play}
 use Rattle.spp_piece.specs.Bound.{most_before}
 use Rattle.spp_piece.proofs.Lists.{reverse_push, before_at, before-reverse}
-use Rattle.spp_stack.specs.declared.walk.Walk.{Walk}
+use Rattle.spp_stack.specs.declared.stack_builder.StackBuilder.{StackBuilder}
 use Rattle.spp_stack.specs.Machine.{Now, now, along_by, ret_by, push_by, worked_by, entry_ops, IsOpen, peaks, rises}
-use Rattle.spp_stack.specs.Walk.{Stands, moved}
+use Rattle.spp_stack.specs.StackBuilder.{Stands, moved}
 use Rattle.spp_stack.proofs.Standing.{moved_stands, top_peak}
 
 -- ---- how large the states get
@@ -55,21 +55,21 @@ open_before rs x h = by x.frames x.work h
 -- ---- the returns
 
 -- what the walk holds while these returns are left
-pub record Reached (w : Walk) (rest : List Unmatched) (end : Now) (bound : ℕ) : Type 0 where
+pub record Reached (w : StackBuilder) (rest : List Unmatched) (end : Now) (bound : ℕ) : Type 0 where
   pub at : Now
   pub stands : Stands w at
   pub is : play_returns entry_ops rest at ≡ end
   pub load : peaks at.frames + rises rest ≤ bound
 
-pub record Step (w : Walk) (r : Unmatched) (rest : List Unmatched) (end : Now) (bound : ℕ) : Type 0 where
+pub record Step (w : StackBuilder) (r : Unmatched) (rest : List Unmatched) (end : Now) (bound : ℕ) : Type 0 where
   pub mid : Now
   pub peak : peak w.top.frame.state + rise r.segs.plain ≤ bound
   pub stands : Stands (moved r.segs.plain w) mid
   pub goes : IsOpen (ret_by mid.frames mid.work).frames
   pub load : peaks mid.frames ≤ bound
-  pub next : (v : Walk) → Stands v (ret_by mid.frames mid.work) → Reached v rest end bound
+  pub next : (v : StackBuilder) → Stands v (ret_by mid.frames mid.work) → Reached v rest end bound
 
-pub return_step : (w : Walk) (rs : List Unmatched) (r : Unmatched) (rest : List Unmatched) (end : Now) (bound : ℕ) → rs ≡ r ∷ rest → Reached w rs end bound
+pub return_step : (w : StackBuilder) (rs : List Unmatched) (r : Unmatched) (rest : List Unmatched) (end : Now) (bound : ℕ) → rs ≡ r ∷ rest → Reached w rs end bound
     → IsOpen end.frames → Step w r rest end bound
 return_step w rs r rest end bound e h goes =
     let load : peaks h.at.frames + rises (r ∷ rest) ≤ bound = subst (λ l. peaks h.at.frames + rises l ≤ bound) e h.load in
@@ -153,7 +153,7 @@ played_by s x g n e middle work =
     ∙ ap (λ k. let z = play_frames entry_ops s.frames (along_by y.frames s.middle.plain y.work) in worked_by z.frames k z.work) work
     ∙ sym (played s x e)
 
-pub stands_is : (v : Walk) (a b : Now) → a ≡ b → Stands v a → Stands v b
+pub stands_is : (v : StackBuilder) (a b : Now) → a ≡ b → Stands v a → Stands v b
 stands_is v a b e s = subst (λ (n : Now). Stands v n) e s
 
 pub open_returns : (s : Sum) (x : Now) → s.fault ≡ None → IsOpen (play entry_ops s x).frames → IsOpen (play_returns entry_ops s.returns x).frames

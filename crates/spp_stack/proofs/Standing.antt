@@ -11,21 +11,21 @@ use Rattle.spp_dag.specs.declared.stack.FrameKind.TheVariants as kind
 use Rattle.spp_dag.specs.Stack.{after_child}
 use Rattle.spp_dag.specs.Steps.{has_site, has_func, same_key, site_by}
 use Rattle.spp_piece.specs.declared.pieces.Frame.{Frame}
-use Rattle.spp_piece.specs.declared.pieces.Kind.{Kind}
-use Rattle.spp_piece.specs.declared.pieces.Kind.TheVariants.{Called, Spawned}
+use Rattle.spp_maxplus.specs.declared.child.ChildKind.{ChildKind}
+use Rattle.spp_maxplus.specs.declared.child.ChildKind.TheVariants.{Called, Spawned}
 use Rattle.spp_piece.specs.Model.{kind_of}
 use Rattle.spp_stack.specs.declared.node.Node.{Node}
-use Rattle.spp_stack.specs.declared.walk.Walk.{Walk}
+use Rattle.spp_stack.specs.declared.stack_builder.StackBuilder.{StackBuilder}
 use Rattle.spp_site.specs.Marks.{is_marked, with_mark, without}
 use Rattle.spp_stack.specs.Chain.{IsNodeOf, IsUnder, IsChain, IsLink, AreLinks, IsTree, AreLinked, IsMarked, opens_site}
 use Rattle.spp_stack.specs.Machine.{Now, entered, along_by, push_by, ret_by, worked_by, IsOpen, peaks}
-use Rattle.spp_stack.specs.Walk.{HoldsAll, Stands, IsKept, Unmarked, moved}
+use Rattle.spp_stack.specs.StackBuilder.{HoldsAll, Stands, IsKept, Unmarked, moved}
 use Rattle.spp_stack.proofs.Chains.{chain_more, links_more, tree_more, linked_more, under_more, under_either, chain_depth, link}
 use Rattle.spp_site.proofs.Marked.{marked_more, marked_less}
 
 -- ---- the innermost frame's state changes
 
-pub moved_stands : (w : Walk) (g : Seg) (x : Now) → Stands w x → Stands (moved g w) (along_by x.frames g x.work)
+pub moved_stands : (w : StackBuilder) (g : Seg) (x : Now) → Stands w x → Stands (moved g w) (along_by x.frames g x.work)
 moved_stands w g x s = by x.frames s.frames
   where
     by : (fs : List EntryFrame) → HoldsAll w fs → Stands (moved g w) (along_by fs g x.work)
@@ -49,7 +49,7 @@ moved_stands w g x s = by x.frames s.frames
       work = s.work;
     }
 
-pub top_peak : (w : Walk) (x : Now) → Stands w x → peak w.top.frame.state ≤ peaks x.frames
+pub top_peak : (w : StackBuilder) (x : Now) → Stands w x → peak w.top.frame.state ≤ peaks x.frames
 top_peak w x s = by x.frames s.frames
   where
     by : (fs : List EntryFrame) → HoldsAll w fs → peak w.top.frame.state ≤ peaks fs
@@ -58,7 +58,7 @@ top_peak w x s = by x.frames s.frames
 
 -- ---- a node is added
 
-pub kept_stands : (w v : Walk) → v.nodes.items ≡ w.nodes.items ++ w.top ∷ [] → v.top ≡ w.top → v.sites ≡ w.sites → v.funcs ≡ w.funcs → v.work ≡ w.work
+pub kept_stands : (w v : StackBuilder) → v.nodes.items ≡ w.nodes.items ++ w.top ∷ [] → v.top ≡ w.top → v.sites ≡ w.sites → v.funcs ≡ w.funcs → v.work ≡ w.work
     → length v.nodes.items ≡ length w.nodes.items + 1 → (x : Now) → Stands w x → Stands v x
 kept_stands w v nodes top sites funcs work long x s = record {
   frames = by x.frames s.frames;
@@ -87,7 +87,7 @@ kept_stands w v nodes top sites funcs work long x s = record {
       funcs = λ y. ap (λ (m : List Bool). is_marked m y) funcs ∙ h.funcs y;
     }
 
-pub depth_fits : (w : Walk) (x : Now) → IsKept w → Stands w x → w.top.depth + 1 ≤ length w.nodes.items
+pub depth_fits : (w : StackBuilder) (x : Now) → IsKept w → Stands w x → w.top.depth + 1 ≤ length w.nodes.items
 depth_fits w x kept s = by x.frames s.frames
   where
     by : (fs : List EntryFrame) → HoldsAll w fs → w.top.depth + 1 ≤ length w.nodes.items
@@ -101,16 +101,16 @@ depth_fits w x kept s = by x.frames s.frames
 
 -- ---- a frame is opened
 
-marked_kind : (k : Kind) (site : ℕ) (fs : List EntryFrame) → IsMarked (kind_of k) (not (has_site fs site)) site fs
+marked_kind : (k : ChildKind) (site : ℕ) (fs : List EntryFrame) → IsMarked (kind_of k) (not (has_site fs site)) site fs
 marked_kind Called site fs = refl
 marked_kind Spawned site fs = refl
 
-key_kind : (k : Kind) (site y : ℕ) → same_key (site_by (kind_of k) site) (Some y) ≡ nat_eq site y
+key_kind : (k : ChildKind) (site y : ℕ) → same_key (site_by (kind_of k) site) (Some y) ≡ nat_eq site y
 key_kind Called site y = refl
 key_kind Spawned site y = refl
 
 -- the frame as the walk makes it
-abbrev pub made : Walk → Frame → EntryFrame
+abbrev pub made : StackBuilder → Frame → EntryFrame
 made w x = record {
   kind = kind_of x.kind;
   at = x.at;
@@ -122,7 +122,7 @@ made w x = record {
   top_caller = w.top.top_func;
 }
 
-pub record Entered (w v : Walk) (x : Frame) : Type 0 where
+pub record Entered (w v : StackBuilder) (x : Frame) : Type 0 where
   pub nodes : v.nodes ≡ w.nodes
   pub work : v.work ≡ w.work
   pub frame : v.top.frame ≡ made w x
@@ -136,7 +136,7 @@ pub record Entered (w v : Walk) (x : Frame) : Type 0 where
   pub sites : (y : ℕ) → is_marked v.sites y ≡ with_mark x.site (is_marked w.sites) y
   pub funcs : (y : ℕ) → is_marked v.funcs y ≡ with_mark x.func (is_marked w.funcs) y
 
-pub entered_stands : (w v : Walk) (x : Frame) → IsKept w → Entered w v x → (n : Now) → Stands w n → Stands v (push_by n.frames x n.work)
+pub entered_stands : (w v : StackBuilder) (x : Frame) → IsKept w → Entered w v x → (n : Now) → Stands w n → Stands v (push_by n.frames x n.work)
 entered_stands w v x kept e n s = by n.frames s.frames
   where
     by : (fs : List EntryFrame) → HoldsAll w fs → Stands v (push_by fs x n.work)
@@ -186,7 +186,7 @@ key_marked kind.Root top site g fs h = absurd (cc)
 key_marked kind.Called top site g fs h = (h, λ y. refl)
 key_marked kind.Spawned top site g fs h = (h, λ y. refl)
 
-pub record Closed (w u v : Walk) : Type 0 where
+pub record Closed (w u v : StackBuilder) : Type 0 where
   pub cleared : Unmarked w u
   pub nodes : v.nodes ≡ w.nodes
   pub work : v.work ≡ w.work
@@ -203,7 +203,7 @@ pub record Closed (w u v : Walk) : Type 0 where
   pub func_link : v.top.func_link ≡ node.func_link
   pub frame : v.top.frame ≡ record node.frame { state = after_child unburdened w.top.frame.kind w.top.frame.at (close w.top.frame.state) node.frame.state }
 
-pub closed_stands : (w u v : Walk) → Closed w u v → (x : Now) → Stands w x → IsOpen (ret_by x.frames x.work).frames → Stands v (ret_by x.frames x.work)
+pub closed_stands : (w u v : StackBuilder) → Closed w u v → (x : Now) → Stands w x → IsOpen (ret_by x.frames x.work).frames → Stands v (ret_by x.frames x.work)
 closed_stands w u v e x s = by x.frames s.frames
   where
     by : (fs : List EntryFrame) → HoldsAll w fs → IsOpen (ret_by fs x.work).frames → Stands v (ret_by fs x.work)
@@ -253,7 +253,7 @@ closed_stands w u v e x s = by x.frames s.frames
 
 -- ---- the work of a part is added
 
-pub worked_stands : (w v : Walk) (n : ℕ) → v.nodes ≡ w.nodes → v.top ≡ w.top → v.sites ≡ w.sites → v.funcs ≡ w.funcs → v.work ≡ w.work + n
+pub worked_stands : (w v : StackBuilder) (n : ℕ) → v.nodes ≡ w.nodes → v.top ≡ w.top → v.sites ≡ w.sites → v.funcs ≡ w.funcs → v.work ≡ w.work + n
     → (x : Now) → Stands w x → Stands v (worked_by x.frames n x.work)
 worked_stands w v n nodes top sites funcs work x s = by x.frames s.frames
   where

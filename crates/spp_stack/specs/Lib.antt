@@ -1,4 +1,4 @@
 pub mod Chain
 pub mod Parts
 pub mod Machine
-pub mod Walk
+pub mod StackBuilder

@@ -15,7 +15,7 @@ use Rattle.spp_stack.specs.Chain.{Stacks, IsStart}
 abbrev pub AreAccounts : ℕ → List Record → List Account → Type 0
 AreAccounts first rs [] = rs ≡ []
 AreAccounts first rs (a ∷ others) =
-    (a ≡ account_of a.burden first (take a.events rs)) × AreAccounts (first + a.events) (drop a.events rs) others
+    (a ≡ account_of a.burdens first (take a.events rs)) × AreAccounts (first + a.events) (drop a.events rs) others
 
 -- the accounts are those of the parts of a cut of the events, which are a well-formed trace within the limits
 pub record AreOfParts (es : List Event) (accounts : List Account) : Type 0 where

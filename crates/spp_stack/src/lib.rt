@@ -8,8 +8,8 @@
 mod node;
 mod parts;
 mod reading;
+mod stack_builder;
 mod stacks;
-mod walk;
 
 pub use node::Node;
 pub use parts::entries;

@@ -4,10 +4,9 @@ ghost use Rattle.std.specs.Prelude.{◌≡◌, ℕ, ◌+◌, ◌≤◌, List, le
 ghost use Rattle.spp_event.specs.declared.records.Event.{Event as EventValue};
 ghost use Rattle.spp_stack.specs.Parts.{AreOfParts, IsEntryOf, open_count};
 
-use crate::reading::burdens_fit;
+use crate::stack_builder::StackBuilder;
 use crate::stacks::{Entries, Start};
-use crate::walk::Walk;
-use spp_piece::Summary;
+use spp_summary::Summary;
 use std::alloc::{AllocError, Global};
 
 /// How many nodes there are at most: one, one for each part, and one for each frame that a part leaves open.
@@ -36,19 +35,19 @@ pub fn entries(alloc: Global, root: u32, summaries: &[Summary]) -> Result<Entrie
     ensures nodes { IfOk result (λ r. length r.nodes ≤ 1 + length summaries.now + open_count summaries.now) }
     ensures entries { IfOk result (λ r. (es : List EventValue) → AreOfParts es summaries.now → (k : ℕ) → k ≤ length summaries.now → IsEntryOf es root summaries.now r k) }
 {
-    let mut walk = Walk::start(alloc, root, most_nodes(summaries))?;
+    let mut builder = StackBuilder::start(alloc, root, most_nodes(summaries))?;
     let mut starts = Vec::with_capacity(alloc, summaries.len() + 1)?;
     starts.push(Start { top: 0, work: 0 })?;
     for summary in summaries {
-        burdens_fit(summary.burden());
-        walk.pass(alloc, summary)?;
+        summary.burdens().are_small();
+        builder.pass(alloc, summary)?;
         starts.push(Start {
-            top: walk.last(),
-            work: walk.work,
+            top: builder.last(),
+            work: builder.work,
         })?;
     }
     Ok(Entries {
-        nodes: walk.nodes,
+        nodes: builder.nodes,
         starts,
     })
 }

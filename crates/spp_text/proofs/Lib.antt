@@ -1,11 +1,9 @@
-pub mod Lines
 pub mod Numerals
-pub mod Kept
-pub mod Encoding
-pub mod LinesOf
-pub mod WordsOf
-pub mod NamesOf
-pub mod EventsOf
+pub mod KeptDrafts
+pub mod LinesInTurn
+pub mod WordsAndNumbers
+pub mod NameLines
+pub mod EventLines
 pub mod TextLaws
 pub mod LineByLine
 pub mod LineAdds

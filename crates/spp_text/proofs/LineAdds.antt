@@ -8,7 +8,8 @@ use Rattle.spp_event.specs.Records.{names_site, names_func}
 use Rattle.spp_event.specs.Checks.{is_taken}
 use Rattle.spp_text.specs.declared.fault.TextWhy.{TextWhy}
 use Rattle.spp_text.specs.declared.fault.TextWhy.TheVariants.{Name, SameName, Limits, Late, Root, Site, Func}
-use Rattle.spp_text.specs.Reading.{Said, begins_with, words, number_in, event_in, has_event, is_name, read_func, read_site, set_root, read_root, add_event, opening_fault, add_read, read_event, read_words, read_line}
+use Rattle.spp_event.specs.Checks.{is_name}
+use Rattle.spp_text.specs.Reading.{Said, begins_with, words, number_in, event_in, has_event, read_func, read_site, set_root, read_root, add_event, opening_fault, add_read, read_event, read_words, read_line}
 use Rattle.spp_text.specs.LineKinds.{func_on, site_on, root_in, root_on, good_event, event_spelled, event_on}
 
 -- what is said then is what was said before, and these

@@ -6,14 +6,14 @@ use Rattle.spp_event.specs.declared.records.Event.{Event}
 use Rattle.spp_event.specs.Records.{IsEventOf}
 use Rattle.spp_event.specs.Recordings.{Record, Recording, InLimits}
 use Rattle.spp_event.specs.Header.{HasGoodNames}
-use Rattle.spp_event.proofs.Again.{cross_none}
+use Rattle.spp_event.proofs.TracesPass.{cross_none}
 use Rattle.spp_text.specs.Text.{site_line, root_line, event_line, text_of}
 use Rattle.spp_text.specs.Reading.{nothing}
 use Rattle.spp_text.specs.Laws.{TextNamesTrace}
-use Rattle.spp_text.proofs.LinesOf.{SaysAfter, line_says, end_says}
-use Rattle.spp_text.proofs.WordsOf.{decimal_printable}
-use Rattle.spp_text.proofs.NamesOf.{declared, funcs_say, sites_say}
-use Rattle.spp_text.proofs.EventsOf.{opened, root_read, opened_well, events_say}
+use Rattle.spp_text.proofs.LinesInTurn.{SaysAfter, line_says, end_says}
+use Rattle.spp_text.proofs.WordsAndNumbers.{decimal_printable}
+use Rattle.spp_text.proofs.NameLines.{declared, funcs_say, sites_say}
+use Rattle.spp_text.proofs.EventLines.{opened, root_read, opened_well, events_say}
 
 -- the lines of the events
 events_text : (t : Recording) (es : List Event) → InLimits t → length es ≤ 268435456 → AllByRecursion (IsEventOf (length t.sites) (length t.funcs)) es

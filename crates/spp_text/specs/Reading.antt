@@ -8,7 +8,7 @@ use Rattle.std.specs.Str.Lines.{lines}
 use Rattle.spp_event.specs.declared.records.Event.{Event}
 use Rattle.spp_event.specs.declared.records.Event.TheVariants.{Strand, Call, Spawn, Ret, Sync}
 use Rattle.spp_event.specs.Records.{names_site, names_func}
-use Rattle.spp_event.specs.Checks.{is_printable, is_taken}
+use Rattle.spp_event.specs.Checks.{is_name, is_taken}
 use Rattle.spp_text.specs.declared.fault.TextWhy.{TextWhy}
 use Rattle.spp_text.specs.declared.fault.TextWhy.TheVariants.{Word, Count, Number, Name, SameName, Limits, Late, Root, NoFunc, Site, Func}
 use Rattle.spp_text.specs.declared.fault.TextFault.{TextFault}
@@ -52,9 +52,6 @@ number_in most word = if nat_lt 0 (length word) && list_all is_digit word && nat
 
 abbrev pub has_event : Said → Bool
 has_event s = nat_lt 0 (length s.events)
-
-abbrev pub is_name : List ℕ → Bool
-is_name name = nat_lt 0 (length name) && nat_le (length name) 200 && is_printable name
 
 -- a name for the next function; functions may share one
 unfoldable pub read_func : Said → List ℕ → Result Said TextWhy

@@ -4,18 +4,16 @@ ghost use Rattle.std.specs.Prelude.{◌≡◌, ◌≢◌, if◌then◌else◌, n
 ghost use Rattle.std.specs.List.{flat_map};
 ghost use Rattle.std.specs.Str.{bytes_eq};
 ghost use Rattle.spp_event.specs.NameSets.{has};
-ghost use Rattle.spp_event.specs.Header.{root_name, IsTraceOf};
+ghost use Rattle.spp_event.specs.Header.{IsTraceOf};
 ghost use Rattle.spp_event.specs.Records.{names_site, names_func, spelling, IsEvent};
-ghost use Rattle.spp_event.specs.Checks.{is_printable as printable};
-ghost use Rattle.spp_text.specs.Reading.{nothing, has_event, is_name as good_name, begins_with, number_in, event_in, opening_fault, read_func, read_site, read_root, set_root as set_root_to, add_event as adds_event, read_event, read_words, read_line};
+ghost use Rattle.spp_text.specs.Reading.{nothing, has_event, begins_with, number_in, event_in, opening_fault, read_func, read_site, read_root, set_root as set_root_to, add_event as adds_event, read_event, read_words, read_line};
 ghost use Rattle.spp_text.specs.Parsed.{Reads, recording_of};
 ghost use Rattle.spp_text.specs.Steps.{AfterFront};
 
-use crate::bytes::{push_names, push_records, push_word};
 use crate::events::{event_of, short_number};
 use crate::fault::TextWhy;
 use crate::words::words_of;
-use spp_event::Event;
+use spp_event::{Contents, Event, is_name, is_root_name, trace_bytes};
 use std::alloc::{AllocError, Global};
 use std::collections::BTreeSet;
 use std::marker::Model;
@@ -46,27 +44,6 @@ impl<'t> Model for Draft<'t> {
 
     ghost invariant = { λ d.
         IsKept d.site_names (map (λ n. n.now) d.funcs.items) (map (λ n. n.now) d.sites.items) (unwrap_or d.root 0) d.events.items };
-}
-
-/// Whether each byte is a printable one.
-fn is_printable(name: &[u8]) -> bool
-    ensures { result ≡ printable name.now }
-{
-    name.iter().all(|b| (0x20..=0x7e).contains(b))
-}
-
-/// Whether it can be the name of a function or of a site.
-fn is_name(name: &[u8]) -> bool
-    ensures { result ≡ good_name name.now }
-{
-    !name.is_empty() && name.len() <= 200 && is_printable(name)
-}
-
-/// Whether it is the name of the root's row, which no site may have.
-fn is_root_name(name: &[u8]) -> bool
-    ensures { result ≡ bytes_eq name.now root_name }
-{
-    name == b"(root)".as_slice()
 }
 
 /// Notes a site's name, and says whether it was new.
@@ -253,17 +230,13 @@ impl<'t> Draft<'t> {
         requires { opening_fault self.now ≡ None }
         ensures { IfOk result (λ bytes. IsTraceOf bytes.items (recording_of self.now) (flat_map spelling self.now.events)) }
     {
-        let mut bytes = Vec::new(alloc);
-        bytes.extend_from_slice(b"SPTRACE1".as_slice())?;
-        push_word(&mut bytes, self.funcs.len() as u32)?;
-        push_word(&mut bytes, self.sites.len() as u32)?;
-        push_word(&mut bytes, self.root.unwrap_or(0))?;
-        push_word(&mut bytes, self.events.len() as u32)?;
-        push_names(&mut bytes, self.funcs.as_slice())?;
-        push_names(&mut bytes, self.sites.as_slice())?;
-        bytes.reserve(16 * self.events.len())?;
-        push_records(&mut bytes, self.events.as_slice())?;
-        Ok(bytes)
+        let contents = Contents {
+            funcs: self.funcs.as_slice(),
+            sites: self.sites.as_slice(),
+            root: self.root.unwrap_or(0),
+            events: self.events.as_slice(),
+        };
+        trace_bytes(alloc, &contents)
     }
 
     /// One line more.

@@ -1,7 +1,6 @@
 //! The text form of a trace, in which people write and read traces by hand.
 #![tactic(auto)]
 
-mod bytes;
 mod draft;
 mod events;
 mod fault;

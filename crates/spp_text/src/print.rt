@@ -4,8 +4,6 @@ ghost use Rattle.std.specs.Prelude.{◌≡◌, ◌++◌, List, length, IfOk, IfE
 ghost use Rattle.std.specs.List.{flat_map};
 ghost use Rattle.std.specs.String.{string_bytes};
 ghost use Rattle.spp_event.specs.declared.records.Event.{Event as AnEvent};
-ghost use Rattle.spp_event.specs.Recordings.{InLimits};
-ghost use Rattle.spp_event.specs.Header.{HasGoodNames};
 ghost use Rattle.spp_text.specs.Parsed.{Names};
 ghost use Rattle.spp_text.specs.Text.{func_line, site_line, root_line, event_line, text_of};
 ghost use Rattle.spp_text.specs.Printed.{PrintsEvents, IsPrintFault};
@@ -114,8 +112,6 @@ fn push_event(text: &mut String, event: Event) -> Result<(), AllocError>
 /// Adds the lines of all events.
 fn push_events(text: &mut String, trace: &Trace<'_>) -> Result<(), PrintFault>
     ensures lines { OnOk result (PrintsEvents (length trace.now.sites) (length trace.now.funcs) (string_bytes text.old) trace.now.records (string_bytes text.new)) }
-    ensures limits { InLimits trace.now }
-    ensures names { HasGoodNames trace.now }
     ensures bad { IfErr result (λ fault. IsPrintFault trace.now.records fault) }
 {
     for at in 0..trace.count() {
@@ -142,6 +138,7 @@ pub fn print_text(alloc: Global, trace: &Trace<'_>) -> Result<String, PrintFault
     ensures names { IfOk result (λ text. Names (string_bytes text) trace.now) }
     ensures bad { IfErr result (λ fault. IsPrintFault trace.now.records fault) }
 {
+    trace.keeps_limits();
     let mut text = String::new(alloc);
     push_funcs(&mut text, trace)?;
     push_sites(&mut text, trace)?;

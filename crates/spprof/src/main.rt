@@ -2,8 +2,9 @@
 //! gives.
 #![tactic(auto)]
 
+use spp_command_line::read_request;
 use spp_report::{OutSink, Sink};
-use spp_request::{Request, UsageFault, read_request};
+use spp_request::{Request, UsageFault};
 use spp_shell::{InSource, refuse_input, run, show_usage, status};
 use std::alloc::Global;
 use std::io::ErrorKind;

@@ -2,7 +2,8 @@
 
 use super::fakes::{dripping, empty_cup};
 use crate::run;
-use spp_request::{Command, Parts, Request};
+use spp_cut::Parts;
+use spp_request::{Command, Request};
 use std::alloc::Global;
 
 /// A request for this over standard input, with a burden of 3 and 16 parts.

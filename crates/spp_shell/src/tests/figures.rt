@@ -1,7 +1,8 @@
 //! Runs of `figures` and `profile`.
 
 use super::commands::{command_ends_with, request_ends_with, request_for};
-use spp_request::{Command, Parts, Request};
+use spp_cut::Parts;
+use spp_request::{Command, Request};
 use std::alloc::Global;
 
 /// A strand of 1, a child that is spawned with a strand of 10, a strand of 4 beside it, a sync, and a strand of 2.

@@ -11,31 +11,31 @@ loop-number-preserved c =
     let inv = c.loop-number.invariant in
     let more = c.in_ok-push_part.ensures in
     let end = c.from.result * c.from-in-loop-number.result / c.from-in-loop-number-2.result in
-    let is : end ≡ (n + 1) * c.count-events.result / c.args.parts =
+    let is : end ≡ (n + 1) * c.count-events.result / c.number-count.result =
     ap₂ (λ a b. a * b / c.from-in-loop-number-2.result) c.from.ensures c.from-in-loop-number.ensures
     ∙ ap (λ d. (n + 1) * c.count-events.result / d) c.from-in-loop-number-2.ensures in
-    let rise = steps_rise c.count-events.result c.args.parts n c.requires.some in
-    let step : c.loop-number.first ≡ n * c.count-events.result / c.args.parts = inv.step in
+    let rise = steps_rise c.count-events.result c.number-count.result n c.number-count.ensures.range.0 in
+    let step : c.loop-number.first ≡ n * c.count-events.result / c.number-count.result = inv.step in
     let le : c.loop-number.first ≤ end = omega arith in
     record {
       count = ap length more ∙ length-append c.loop-number.cut.items _ ∙ ap (λ k. k + 1) inv.count;
       cover = covered t n c.loop-number.first end c.loop-number.cut.items c.push_part.new.parts.items inv.count inv.cover le more;
       step = is;
-      begins = first_more t n c.loop-number.first _ (λ k. k * c.count-events.result / c.args.parts) c.loop-number.cut.items c.push_part.new.parts.items inv.count inv.step inv.begins more;
+      begins = first_more t n c.loop-number.first _ (λ k. k * c.count-events.result / c.number-count.result) c.loop-number.cut.items c.push_part.new.parts.items inv.count inv.step inv.begins more;
     }
 
 pub invariant_of-result : goal.invariant_of-result
 invariant_of-result c =
     let inv = c.loop-number.invariant in
-    let all : c.loop-number.number ≡ c.args.parts = omega (arith, c.loop-number-test.false, c.loop-number.auto.number-end) in
+    let all : c.loop-number.number ≡ c.number-count.result = omega (arith, c.loop-number-test.false, c.loop-number.auto.number-end) in
     subst (λ e. Cover c.args.trace.now 0 0 c.loop-number.cut.items e)
-    (inv.step ∙ ap (λ k. k * c.count-events.result / c.args.parts) all ∙ step_ends c.count-events.result c.args.parts c.requires.some ∙ c.count-events.ensures.count)
+    (inv.step ∙ ap (λ k. k * c.count-events.result / c.number-count.result) all ∙ step_ends c.count-events.result c.number-count.result c.number-count.ensures.range.0 ∙ c.count-events.ensures.count)
     inv.cover
 
 pub returns-clause-cut : goal.returns-clause-cut
 returns-clause-cut c =
     let inv = c.loop-number.invariant in
-    let all : c.loop-number.number ≡ c.args.parts = omega (arith, c.loop-number-test.false, c.loop-number.auto.number-end) in
+    let all : c.loop-number.number ≡ c.number-count.result = omega (arith, c.loop-number-test.false, c.loop-number.auto.number-end) in
     subst (λ e. Cover c.args.trace.now 0 0 c.loop-number.cut.items e)
-    (inv.step ∙ ap (λ k. k * c.count-events.result / c.args.parts) all ∙ step_ends c.count-events.result c.args.parts c.requires.some ∙ c.count-events.ensures.count)
+    (inv.step ∙ ap (λ k. k * c.count-events.result / c.number-count.result) all ∙ step_ends c.count-events.result c.number-count.result c.number-count.ensures.range.0 ∙ c.count-events.ensures.count)
     inv.cover

@@ -2,11 +2,11 @@ use Rattle.std.proofs.Common.{drop, ◌≡◌, [], List, ℕ, length, map, subst
 use Rattle.std.proofs.lemmas.Result.{err_from_is_err_and}
 use Rattle.std.proofs.lemmas.List.{take_rest, length-map}
 use Rattle.spp_event.specs.Checks.{funcs_at, Fails}
-use Rattle.spp_event.proofs.Opening.{Head, funcs_fail, sites_fail, trails, is_made_of}
+use Rattle.spp_event.proofs.BehindGoodHead.{Head, funcs_fail, sites_fail, trails, is_made_of}
 use Rattle.std.specs.List.{AllByRecursion}
 use Rattle.spp_event.specs.Header.{IsName}
-use Rattle.spp_event.proofs.Taken.{IsBytes, IsBytes-drop, funcs_take, sites_take}
-use Rattle.spp_event.proofs.Found.{limited}
+use Rattle.spp_event.proofs.TakenFromFront.{IsBytes, IsBytes-drop, funcs_take, sites_take}
+use Rattle.spp_event.proofs.PassersAreTraces.{limited}
 use Rattle.spp_event.proofs.header.checked.Goals as goal
 
 pub returns-in_err-func_names : goal.returns-in_err-func_names

@@ -2,7 +2,7 @@ use Rattle.std.proofs.Common.{◌≡◌, ◌++◌, ◌∷◌, [], length, map, �
 use Rattle.std.proofs.lemmas.Result.{err_from_is_err_and}
 use Rattle.std.proofs.lemmas.List.{map_push, length-map}
 use Rattle.spp_event.specs.Checks.{funcs_at}
-use Rattle.spp_event.proofs.Names.{funcs_go, funcs_end, funcs_done}
+use Rattle.spp_event.proofs.NamesInTurn.{funcs_go, funcs_end, funcs_done}
 use Rattle.spp_event.proofs.header.funcs_of.Goals as goal
 
 pub returns-in_err-name-clause-names : goal.returns-in_err-name-clause-names

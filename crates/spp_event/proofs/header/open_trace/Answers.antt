@@ -1,6 +1,6 @@
 use Rattle.std.proofs.Common.{arith}
-use Rattle.spp_event.proofs.Answered.{is_found, is_only, is_refused}
-use Rattle.spp_event.proofs.Again.{trace_again}
+use Rattle.spp_event.proofs.OpenTraceAnswers.{is_found, is_only, is_refused}
+use Rattle.spp_event.proofs.TracesPass.{trace_again}
 use Rattle.spp_event.proofs.header.open_trace.Goals as goal
 
 pub returns-clause-found : goal.returns-clause-found

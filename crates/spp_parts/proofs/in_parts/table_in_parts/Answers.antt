@@ -14,7 +14,7 @@ use Rattle.spp_stack.specs.Parts.{AreOfParts}
 use Rattle.spp_parts.proofs.Accounts.{account_in}
 use Rattle.spp_parts.proofs.Shares.{begin_in, begin_zero, AreRowsTo, rows_none, part_read, part_stands, next_begin, told_part, merge_fits, rows_more, all_begun, root_fits, dag_is}
 use Rattle.spp_parts.proofs.Chosen.{AreChosen, chosen_next, chosen_all}
-use Rattle.spp_path.specs.declared.choices.Choices.{Choices}
+use Rattle.spp_dag.specs.declared.choices.Choices.{Choices}
 use Rattle.spp_parts.specs.Choices.{AreChoicesOf}
 use Rattle.spp_parts.proofs.in_parts.table_in_parts.Goals as goal
 

@@ -4,7 +4,7 @@ use Rattle.std.proofs.lemmas.List.{length-map}
 use Rattle.spp_event.specs.Recordings.{Recording}
 use Rattle.spp_cut.specs.Parts.{Cover}
 use Rattle.spp_piece.specs.Account.{Account}
-use Rattle.spp_piece.proofs.InParts.{Summed, summed_next, summed_all, told_ok, told_err, work_told}
+use Rattle.spp_summary.proofs.InParts.{Summed, summed_next, summed_all, told_ok, told_err}
 use Rattle.spp_parts.proofs.Accounts.{account_in, rest_of, accounts_more, accounts_all, are_of_parts, accounts_burden, told_bad}
 use Rattle.spp_parts.proofs.Known.{known_small}
 use Rattle.spp_parts.proofs.surveying.survey.Goals as goal
@@ -42,19 +42,13 @@ returns-clause-figures c =
     let is = summed_all t c.args.burdens (rest_of c.parts-parts.result.now) c.loop-part.part-index c.loop-part.all (omega (arith, c.loop-part-test.false)) c.loop-part.invariant.summed in
     told_ok c.args.burdens t.records c.loop-part.all c.in_ok-finish.field-0 is c.in_ok-finish.ensures.value
 
-pub returns-clause-small : goal.returns-clause-small
-returns-clause-small c =
-    let a = c.loop-part.all in
-    let same = work_told a.burden a.events a.sum c.in_ok-finish.field-0 (sym c.in_ok-finish.ensures.value) in
-    omega (arith, c.work-work.ensures.value, c.work-work.ensures.bound)
-
 pub returns-clause-burdens : goal.returns-clause-burdens
 returns-clause-burdens c =
     let ps = c.parts-parts.result.now in
     let some = subst (λ l. 0 < length l) (sym c.parts-parts.ensures.parts) c.requires in
     let told = subst (λ l. c.loop-part.each.items ≡ map (account_in c.args.burdens) (take (c.loop-part.part-index + 1) l)) (sym c.parts-parts.ensures.parts) c.loop-part.invariant.each in
     let is = accounts_all c.args.burdens ps c.loop-part.part-index c.loop-part.each.items some (omega (arith, c.loop-part-test.false)) told in
-    subst (All (λ (a : Account). a.burden ≡ c.args.burdens)) (sym is) (accounts_burden c.args.burdens ps)
+    subst (All (λ (a : Account). a.burdens ≡ c.args.burdens)) (sym is) (accounts_burden c.args.burdens ps)
 
 pub returns-clause-count : goal.returns-clause-count
 returns-clause-count c =
@@ -82,6 +76,6 @@ returns-clause-parts c es are =
     let is = accounts_all c.args.burdens ps c.loop-part.part-index c.loop-part.each.items some (omega (arith, c.loop-part-test.false)) told in
     let u = c.trace.result.now in
     let same : u.records ≡ t.records = ap (λ (v : Recording). v.records) c.trace.ensures in
-    let small = known_small u.records (length u.sites) (length u.funcs) es c.count-count.ensures.limits.events (same ∙ are) c.count-count.ensures.events in
+    let small = known_small u.records (length u.sites) (length u.funcs) es c.keeps_limits.ensures.limits.events (same ∙ are) c.keeps_limits.ensures.events in
     let cover = subst (λ l. Cover t 0 0 l (length t.records)) (sym c.parts-parts.ensures.parts) c.parts-parts.ensures.cut in
     are_of_parts t c.args.burdens ps c.loop-part.each.items c.in_ok-finish.field-0 es cover is figures are small

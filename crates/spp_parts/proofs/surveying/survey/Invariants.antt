@@ -1,5 +1,5 @@
 use Rattle.std.proofs.Common.{◌≡◌, ◌+◌, map, take, drop}
-use Rattle.spp_piece.proofs.InParts.{Summed}
+use Rattle.spp_summary.proofs.InParts.{Summed}
 use Rattle.spp_parts.proofs.Accounts.{account_in}
 use Rattle.spp_parts.proofs.surveying.survey.Given as goal
 

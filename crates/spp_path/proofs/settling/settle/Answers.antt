@@ -1,9 +1,9 @@
 -- The loop keeps what stands of the settling, note by note.
 use Rattle.std.proofs.Common.{rules, replicate, ◌≡◌, length, ◌-◌, ◌≤◌, true, false, take, Some, None, sym, ap, subst, arith, ◌∙◌}
 use Rattle.std.proofs.lemmas.List.{length-replicate, length-set, set_past}
-use Rattle.spp_path.specs.declared.choices.Choices.{Choices}
+use Rattle.spp_dag.specs.declared.choices.Choices.{Choices}
 use Rattle.spp_path.specs.declared.settling.Note.TheVariants as note
-use Rattle.spp_path.specs.declared.settling.Walk.TheVariants.{Live, Seek}
+use Rattle.spp_path.specs.declared.settling.Onward.TheVariants.{Live, Seek}
 use Rattle.spp_path.specs.Settling.{last, later, runs_to}
 use Rattle.spp_path.proofs.Settled.{Settles, settles_first, settles_ended, settles_passed, settles_taken, settled}
 use Rattle.spp_path.proofs.settling.settle.Goals as goal
@@ -32,8 +32,8 @@ loop-note-preserved-in-End c =
       ends = omega arith;
       joins = i.joins;
       size = i.size;
-      settles = subst (λ w. Settles c.args.count given (c.loop-note.ends - 1) c.loop-note.joins w c.loop-note.marks.items) (sym c.pass-walk.ensures)
-          (settles_ended c.args.count given c.loop-note.ends c.loop-note.joins c.loop-note.walk c.loop-note.marks.items c.in-End.end i.ends i.joins next i.settles);
+      settles = subst (λ w. Settles c.args.count given (c.loop-note.ends - 1) c.loop-note.joins w c.loop-note.marks.items) (sym c.pass-onward.ensures)
+          (settles_ended c.args.count given c.loop-note.ends c.loop-note.joins c.loop-note.onward c.loop-note.marks.items c.in-End.end i.ends i.joins next i.settles);
     }
 
 pub loop-note-preserved-in-Some-get_mut : goal.loop-note-preserved-in-Some-get_mut
@@ -42,12 +42,12 @@ loop-note-preserved-in-Some-get_mut c =
     let given : Choices = c.args.choices.now in
     let was = c.in-Some.ensures in
     let next : later (last (take c.loop-note.ends given.ends.items)) (last (take c.loop-note.joins given.joins.items)) ≡ Some (note.Join c.in-Join.join) = cc in
-    let comes : runs_to c.in-Join.join.at c.loop-note.walk ≡ true = sym c.comes_to.ensures ∙ c.if-comes_to.true in
+    let comes : runs_to c.in-Join.join.at c.loop-note.onward ≡ true = sym c.comes_to.ensures ∙ c.if-comes_to.true in
     record {
       ends = i.ends;
       joins = omega arith;
       size = length-set c.loop-note.marks.items c.in-Join.join.spawn true ∙ i.size;
-      settles = settles_taken c.args.count given c.loop-note.ends c.loop-note.joins c.loop-note.walk c.loop-note.marks.items c.in-Join.join i.ends i.joins next comes i.size i.settles;
+      settles = settles_taken c.args.count given c.loop-note.ends c.loop-note.joins c.loop-note.onward c.loop-note.marks.items c.in-Join.join i.ends i.joins next comes i.size i.settles;
     }
 
 pub loop-note-preserved-in_default-get_mut : goal.loop-note-preserved-in_default-get_mut
@@ -56,14 +56,14 @@ loop-note-preserved-in_default-get_mut c =
     let given : Choices = c.args.choices.now in
     let was = c.in-Some.ensures in
     let next : later (last (take c.loop-note.ends given.ends.items)) (last (take c.loop-note.joins given.joins.items)) ≡ Some (note.Join c.in-Join.join) = cc in
-    let comes : runs_to c.in-Join.join.at c.loop-note.walk ≡ true = sym c.comes_to.ensures ∙ c.if-comes_to.true in
+    let comes : runs_to c.in-Join.join.at c.loop-note.onward ≡ true = sym c.comes_to.ensures ∙ c.if-comes_to.true in
     let past : length c.loop-note.marks.items ≤ c.in-Join.join.spawn = omega (arith, c.in_default-get_mut.ensures.item) in
     record {
       ends = i.ends;
       joins = omega arith;
       size = i.size;
       settles = subst (λ v. Settles c.args.count given c.loop-note.ends (c.loop-note.joins - 1) (Seek c.in-Join.join.spawn) v) (set_past c.loop-note.marks.items c.in-Join.join.spawn true past)
-          (settles_taken c.args.count given c.loop-note.ends c.loop-note.joins c.loop-note.walk c.loop-note.marks.items c.in-Join.join i.ends i.joins next comes i.size i.settles);
+          (settles_taken c.args.count given c.loop-note.ends c.loop-note.joins c.loop-note.onward c.loop-note.marks.items c.in-Join.join i.ends i.joins next comes i.size i.settles);
     }
 
 pub loop-note-preserved : goal.loop-note-preserved
@@ -72,12 +72,12 @@ loop-note-preserved c =
     let given : Choices = c.args.choices.now in
     let was = c.in-Some.ensures in
     let next : later (last (take c.loop-note.ends given.ends.items)) (last (take c.loop-note.joins given.joins.items)) ≡ Some (note.Join c.in-Join.join) = cc in
-    let not : runs_to c.in-Join.join.at c.loop-note.walk ≡ false = sym c.comes_to.ensures ∙ c.if-comes_to.false in
+    let not : runs_to c.in-Join.join.at c.loop-note.onward ≡ false = sym c.comes_to.ensures ∙ c.if-comes_to.false in
     record {
       ends = i.ends;
       joins = omega arith;
       size = i.size;
-      settles = settles_passed c.args.count given c.loop-note.ends c.loop-note.joins c.loop-note.walk c.loop-note.marks.items c.in-Join.join i.ends i.joins next not i.settles;
+      settles = settles_passed c.args.count given c.loop-note.ends c.loop-note.joins c.loop-note.onward c.loop-note.marks.items c.in-Join.join i.ends i.joins next not i.settles;
     }
 
 pub returns : goal.returns
@@ -86,4 +86,4 @@ returns c =
     let given : Choices = c.args.choices.now in
     let was = c.in_default.ensures in
     let none : later (last (take c.loop-note.ends given.ends.items)) (last (take c.loop-note.joins given.joins.items)) ≡ None = cc in
-    settled c.args.count given c.loop-note.ends c.loop-note.joins c.loop-note.walk c.loop-note.marks.items i.ends i.joins none i.size i.settles
+    settled c.args.count given c.loop-note.ends c.loop-note.joins c.loop-note.onward c.loop-note.marks.items i.ends i.joins none i.size i.settles

@@ -7,7 +7,7 @@ invariant-loop-note l = record {
   ends : l.ends ≤ length l.choices.ends.items;
   joins : l.joins ≤ length l.choices.joins.items;
   size : length l.marks.items ≡ l.count;
-  settles : Settles l.count l.choices l.ends l.joins l.walk l.marks.items;
+  settles : Settles l.count l.choices l.ends l.joins l.onward l.marks.items;
 }
 
 abbrev pub decreases-loop-note : goal.decreases-loop-note

@@ -8,13 +8,13 @@ use Rattle.spp_reference.proofs.walks.greatest_weights.Goals as goal
 
 pub loop-after-init : goal.loop-after-init
 loop-after-init c =
-    let sm : AreSmall c.args.burdens = record { on_continuation = omega arith; on_return = omega arith } in
+    let sm : AreSmall c.args.burdens = record { continuation = omega arith; join = omega arith } in
     filled_first c.args.dag.now c.args.burdens c.end.ensures.small sm c.args.end (c.args.end - 0) (c.args.end + 1) c.in_ok-best.best.items c.from.result
     (omega arith) (omega arith) (c.in_ok-best.ensures.items_if_clones_equal (λ y h. search rules)) (omega arith) (c.from.ensures ∙ c.weight.ensures)
 
 pub loop-after-preserved : goal.loop-after-preserved
 loop-after-preserved c =
-    let sm : AreSmall c.args.burdens = record { on_continuation = omega arith; on_return = omega arith } in
+    let sm : AreSmall c.args.burdens = record { continuation = omega arith; join = omega arith } in
     let at : ℕ = c.args.end - 1 - c.loop-after.after in
     let inv = c.loop-after.invariant in
     let f : c.along-first.result ≡ weight_along c.edges-edges.result.first c.loop-after.best.items = c.along-first.ensures ∙ ap (λ (xs : List (Option ℕ)). weight_along c.edges-edges.result.first xs) c.as_slice.ensures.value in

@@ -19,4 +19,4 @@ returns-clause-names c =
     let funcs : string_bytes c.push_funcs.new.text ≡ flat_map func_line t.funcs = c.in_ok-push_funcs.ensures ∙ ap (λ (b : List ℕ). b ++ flat_map func_line t.funcs) c.new-text.ensures.bytes in
     let root : string_bytes c.push_root.new.text ≡ string_bytes c.push_sites.new.text ++ root_line t.root = c.in_ok-push_root.ensures ∙ ap (λ (n : ℕ). string_bytes c.push_sites.new.text ++ root_line n) c.root.ensures in
     let text : string_bytes c.push_events.new.text ≡ text_of t es = whole (string_bytes c.push_funcs.new.text) (string_bytes c.push_sites.new.text) (string_bytes c.push_root.new.text) (string_bytes c.push_events.new.text) (flat_map func_line t.funcs) (flat_map site_line t.sites) (root_line t.root) (flat_map event_line es) funcs c.in_ok-push_sites.ensures root lines.2 in
-    subst (λ (b : List ℕ). Names b t) (sym text) (text_names_trace t es c.push_events.ensures.limits c.push_events.ensures.names lines.1 lines.3)
+    subst (λ (b : List ℕ). Names b t) (sym text) (text_names_trace t es c.keeps_limits.ensures.limits c.keeps_limits.ensures.names lines.1 lines.3)

@@ -1,15 +1,23 @@
-use Rattle.std.proofs.Common.{◌≡◌, ℕ, ◌<◌, List, [], ◌∷◌, ◌++◌, length, Ok, Err, refl, sym, ap, subst, ◌∙◌, arith, inl, inr}
+use Rattle.std.proofs.Common.{◌≡◌, ℕ, ◌+◌, ◌<◌, List, [], ◌∷◌, ◌++◌, length, get_or, take, map, Ok, Err, refl, sym, ap, subst, ◌∙◌, arith, inl, inr}
 use Rattle.std.specs.Prelude.{IsOk}
 use Rattle.std.specs.String.{string_bytes}
 use Rattle.std.proofs.lemmas.Bool.{cases_lt}
-use Rattle.std.proofs.lemmas.List.{flat_map_more}
+use Rattle.std.proofs.lemmas.List.{flat_map_more, take_more, map-append}
+use Rattle.spp_event.specs.declared.records.Event.{Event}
 use Rattle.spp_event.specs.declared.records.EventFault.TheVariants.{Truncated}
 use Rattle.spp_event.specs.Records.{IsEventOf}
-use Rattle.spp_event.specs.Recordings.{Recording, Record, record_at}
+use Rattle.spp_event.specs.Recordings.{Record, record_at}
 use Rattle.spp_text.specs.Text.{event_line}
-use Rattle.spp_text.proofs.Lines.{event_more}
-use Rattle.spp_text.proofs.Kept.{all_more}
+use Rattle.spp_event.proofs.TakenFromFront.{all_more}
 use Rattle.spp_text.proofs.print.push_events.Goals as goal
+
+-- one record more is an event
+pub event_more : (rs : List Record) (n : ℕ) (d : Record) (es : List Event) (e : Event) → n < length rs → get_or rs n d ≡ Ok e → take n rs ≡ map (λ x. Ok x) es → take (n + 1) rs ≡ map (λ x. Ok x) (es ++ e ∷ [])
+event_more rs n d es e lt is so_far =
+    take_more rs n d lt
+    ∙ ap (λ (r : Record). take n rs ++ r ∷ []) is
+    ∙ ap (λ (l : List Record). l ++ Ok e ∷ []) so_far
+    ∙ sym (map-append (λ x. Ok x) es (e ∷ []))
 
 pub loop-at-preserved : goal.loop-at-preserved
 loop-at-preserved c =

@@ -1,4 +1,4 @@
-use Rattle.std.proofs.Common.{◌≡◌, ℕ, ◌<◌, take, length}
+use Rattle.std.proofs.Common.{ℕ, ◌<◌, take, length}
 use Rattle.std.specs.Prelude.{IsOk}
 use Rattle.std.specs.String.{string_bytes}
 use Rattle.spp_event.specs.Recordings.{record_at}

@@ -4,7 +4,7 @@ use Rattle.std.proofs.lemmas.List.{length-map}
 use Rattle.spp_event.specs.declared.records.EventFault.TheVariants.{Truncated}
 use Rattle.spp_event.specs.Records.{read_record, IsEventOf}
 use Rattle.spp_event.specs.Recordings.{Recording, place, record_at}
-use Rattle.spp_event.proofs.Places.{length-records_of, record_at-records_of, truncated}
+use Rattle.spp_event.proofs.RecordPlaces.{length-records_of, record_at-records_of, truncated}
 use Rattle.spp_event.proofs.traces.Trace.event_at.Goals as goal
 
 pub returns-in_default-clause-said : goal.returns-in_default-clause-said

@@ -3,8 +3,8 @@ use Rattle.spp_event.specs.declared.records.Event.{Event}
 use Rattle.spp_event.specs.Records.{read_record, event_in, names_site, names_func, IsEventOf}
 use Rattle.spp_event.specs.Recordings.{Recording, Record, record_at, place}
 use Rattle.std.proofs.lemmas.List.{length-map}
-use Rattle.spp_event.proofs.Places.{length-records_of, record_at-records_of, truncated}
-use Rattle.spp_event.proofs.Said.{Known, known, known_within}
+use Rattle.spp_event.proofs.RecordPlaces.{length-records_of, record_at-records_of, truncated}
+use Rattle.spp_event.proofs.KnownRecords.{Known, known, known_within}
 use Rattle.spp_event.proofs.traces.Trace.known_event.Goals as goal
 
 pub unreachable-requires : goal.unreachable-requires

@@ -4,7 +4,8 @@ use Rattle.spp_site.specs.Table.{IsAdded}
 use Rattle.spp_site.specs.Marks.{is_marked}
 use Rattle.spp_path.specs.declared.rows.EnteredFrame.{EnteredFrame}
 use Rattle.spp_path.specs.Rows.{Told, told, frames_below, OnTop, IsReturned}
-use Rattle.spp_path.proofs.Tops.{topped, some_open}
+use Rattle.spp_path.proofs.Tops.{some_open}
+use Rattle.spp_site.proofs.LastFirst.{topped}
 use Rattle.spp_path.proofs.rows.PathRows.close.Goals as goal
 
 pub returns : goal.returns

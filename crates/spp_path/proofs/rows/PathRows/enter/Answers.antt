@@ -2,7 +2,8 @@ use Rattle.std.proofs.Common.{◌≡◌, ◌-◌, not, List, [], ◌∷◌, leng
 use Rattle.std.proofs.lemmas.List.{reverse-append}
 use Rattle.spp_path.specs.declared.rows.EnteredFrame.{EnteredFrame}
 use Rattle.spp_path.specs.Rows.{Told, told, entered_frame, enter_frames}
-use Rattle.spp_path.proofs.Tops.{topped, some_open}
+use Rattle.spp_path.proofs.Tops.{some_open}
+use Rattle.spp_site.proofs.LastFirst.{topped}
 use Rattle.spp_path.proofs.rows.PathRows.enter.Goals as goal
 
 pub returns : goal.returns

@@ -1,7 +1,8 @@
 use Rattle.std.proofs.Common.{◌≡◌, ◌-◌, List, ◌∷◌, length, reverse, get_or, set, sym, ap, ◌∙◌, arith}
 use Rattle.spp_path.specs.declared.rows.EnteredFrame.{EnteredFrame}
 use Rattle.spp_path.specs.Rows.{Told, told, set_running}
-use Rattle.spp_path.proofs.Tops.{topped, some_open}
+use Rattle.spp_path.proofs.Tops.{some_open}
+use Rattle.spp_site.proofs.LastFirst.{topped}
 use Rattle.spp_path.proofs.rows.PathRows.set_running.Goals as goal
 
 pub returns : goal.returns

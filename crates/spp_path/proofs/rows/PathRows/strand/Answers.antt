@@ -1,7 +1,8 @@
 use Rattle.std.proofs.Common.{◌≡◌, ◌-◌, ◌+◌, List, ◌∷◌, length, reverse, get_or, set, ℕ, sym, ap, ◌∙◌, arith}
 use Rattle.spp_path.specs.declared.rows.EnteredFrame.{EnteredFrame}
 use Rattle.spp_path.specs.Rows.{Told, told, strand_told, strand_frames}
-use Rattle.spp_path.proofs.Tops.{topped, some_open}
+use Rattle.spp_path.proofs.Tops.{some_open}
+use Rattle.spp_site.proofs.LastFirst.{topped}
 use Rattle.spp_path.proofs.rows.PathRows.strand.Goals as goal
 
 pub returns-then-runs-clause-on_path : goal.returns-then-runs-clause-on_path

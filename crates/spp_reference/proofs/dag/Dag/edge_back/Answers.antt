@@ -36,7 +36,7 @@ returns-then-matches c =
       | in-Spawn w ↦ ap spawns r ∙ spawn_spawns _ w.in-Spawn.site w.in-Spawn.func w.in-Spawn.is
       | in_default w ↦ (let e : false ≡ true = sym w.matches-is ∙ c.if-matches.true in cc)
     ] in
-    back_is c.args.self.now c.args.burdens (owner c.args.self.now c.args.u) (c.owner-frame.result - 1) c.args.u c.join.result c.args.burdens.on_return
+    back_is c.args.self.now c.args.burdens (owner c.args.self.now c.args.u) (c.owner-frame.result - 1) c.args.u c.join.result c.args.burdens.join
     (omega arith) (λ _. (c.join.ensures, refl)) (λ n. absurd (both_ways _ n t))
 
 pub returns : goal.returns

@@ -27,7 +27,7 @@ pub returns-in-Spawn-clause-order : goal.returns-in-Spawn-clause-order
 returns-in-Spawn-clause-order c =
     let f = child_closing c.args.self.now c.args.u in
     let a = partner_after c.args.self.now c.args.burdens c.args.u in
-    in_order (c.args.u + 1) 0 (c.closing.result + 1) c.args.burdens.on_continuation (omega arith)
+    in_order (c.args.u + 1) 0 (c.closing.result + 1) c.args.burdens.continuation (omega arith)
 
 pub returns-in_default : goal.returns-in_default
 returns-in_default c =

@@ -2,7 +2,7 @@ use Rattle.std.proofs.Common.{◌≡◌, sym, ◌∙◌, ap, subst}
 use Rattle.spp_dag.specs.Shares.{zero_row}
 use Rattle.spp_site.specs.Table.{row_at}
 use Rattle.spp_site.specs.Slots.{IsIndexed}
-use Rattle.spp_site.proofs.Rows.{same_rows}
+use Rattle.spp_dag.proofs.Shares.{same_rows}
 use Rattle.spp_site.proofs.Adding.{no_row, found_row}
 use Rattle.spp_site.proofs.table.Table.row.Goals as goal
 

@@ -1,7 +1,7 @@
 use Rattle.std.proofs.Common.{◌≡◌, None, length, true, map, unwrap_or, ◌∙◌, sym, subst, arith}
 use Rattle.spp_event.specs.Records.{names_site, names_func}
 use Rattle.spp_text.specs.Reading.{Said, opening_fault}
-use Rattle.spp_text.proofs.Kept.{kept_event, is_opened}
+use Rattle.spp_text.proofs.KeptDrafts.{kept_event, is_opened}
 use Rattle.spp_text.proofs.draft.Draft.add_event.Goals as goal
 
 pub invariant_of-self-2 : goal.invariant_of-self-2

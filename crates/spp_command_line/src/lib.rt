@@ -1,0 +1,10 @@
+//! The command line: from words to a request, or the text that the user is shown in its place.
+#![tactic(auto)]
+
+mod command_line;
+mod reading;
+
+pub use reading::read_request;
+
+#[cfg(test)]
+mod tests;

@@ -1,0 +1,79 @@
+//! Reading the words of a command line.
+ghost use Rattle.std.specs.Prelude.{IfErr, IfOk};
+ghost use Rattle.spp_command_line.specs.Usage.{EndsByUsage};
+
+use crate::command_line::{DEFAULT_BURDEN, command_line};
+use clap::Error;
+use clap::error::ErrorKind;
+use spp_cut::Parts;
+use spp_request::{Command, Request, UsageFault};
+use std::alloc::{AllocError, Global};
+use std::convert::AsStr;
+
+/// What the user is shown where `clap` gives no matches.
+fn shown(alloc: Global, error: Error) -> UsageFault
+    ensures { EndsByUsage result }
+{
+    if error.kind() == ErrorKind::OutOfMemory {
+        return UsageFault::Memory;
+    }
+    let status = if error.use_stderr() { 2 } else { 0 };
+    match error.to_string(alloc) {
+        Ok(text) => UsageFault::Shown { text, status },
+        Err(_) => UsageFault::Memory,
+    }
+}
+
+fn command_of(name: &str) -> Option<Command> {
+    match name {
+        "check" => Some(Command::Check),
+        "figures" => Some(Command::Figures),
+        "profile" => Some(Command::Profile),
+        "encode" => Some(Command::Encode),
+        _ => None,
+    }
+}
+
+/// What the user is shown where there is none of the commands. `clap` has refused such words already.
+fn no_command(alloc: Global) -> Result<UsageFault, AllocError>
+    ensures { IfOk result EndsByUsage }
+{
+    Ok(UsageFault::Shown {
+        text: "error: no such command\n".to_string(alloc)?,
+        status: 2,
+    })
+}
+
+/// Reads a request from the words of a command line, of which the first is the program's name. The texts of help
+/// and usage are those of `clap`, and which words give which request is shown by tests alone.
+///
+/// # Errors
+///
+/// The text that the user is to be shown, or want of memory.
+pub fn read_request<S: AsStr>(alloc: Global, words: &[S]) -> Result<Request, UsageFault>
+    ensures { IfErr result EndsByUsage }
+{
+    let matches = match command_line(alloc)?.try_get_matches_from(words) {
+        Ok(matches) => matches,
+        Err(error) => return Err(shown(alloc, error)),
+    };
+    let Some((name, given)) = matches.subcommand() else {
+        return Err(no_command(alloc)?);
+    };
+    let Some(command) = command_of(name) else {
+        return Err(no_command(alloc)?);
+    };
+    let mut files = Vec::new(alloc);
+    if let Some(path) = given.get_str("FILE") {
+        files.push(path.to_string(alloc)?)?;
+    }
+    let burden = given.get_one::<u32>("burden").unwrap_or(DEFAULT_BURDEN);
+    let parts = given.get_one::<u32>("parts").and_then(Parts::new);
+    Ok(Request {
+        command,
+        files,
+        burden,
+        parts: parts.unwrap_or_default(),
+        csv: given.get_flag("csv"),
+    })
+}

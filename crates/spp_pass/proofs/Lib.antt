@@ -1,0 +1,13 @@
+pub mod Keeping
+pub mod TablePart
+pub mod Bounded
+pub mod Shared
+pub mod Choosing
+pub mod Projected
+pub mod Passed
+pub mod Tops
+pub mod Marking
+pub mod Suspending
+pub mod Reaching
+pub mod Anywhere
+pub mod Going

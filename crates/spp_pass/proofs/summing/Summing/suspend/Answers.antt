@@ -1,0 +1,37 @@
+use Rattle.std.proofs.Common.{ap, sym, refl, arith, reverse}
+use Rattle.spp_dag.specs.Shares.{plus}
+use Rattle.spp_site.specs.Profiles.{key_row}
+use Rattle.spp_pass.specs.Outside.{local_rows}
+use Rattle.spp_pass.proofs.Suspending.{local_rows-reverse, open_fits, open_whole, all_whole}
+use Rattle.spp_pass.proofs.summing.Summing.suspend.Goals as goal
+
+pub loop-frame-init : goal.loop-frame-init
+loop-frame-init c = record {
+  whole = λ key. ap (λ r. plus (key_row c.args.self.table key) r) (sym (local_rows-reverse c.args.self.frames.items key));
+  choices = refl;
+}
+
+pub add_local-requires : goal.add_local-requires
+add_local-requires c =
+    open_fits c.loop-frame.table c.args.self.frames.items c.deref-frame-items.result.now c.loop-frame.frame-index _
+    (λ key. plus (key_row c.args.self.table key) (local_rows (reverse c.args.self.frames.items) key))
+    c.deref-frame-items.ensures.value c.loop-frame-test.true c.loop-frame.invariant.whole c.requires
+
+pub loop-frame-preserved : goal.loop-frame-preserved
+loop-frame-preserved c = record {
+  whole =
+      open_whole c.loop-frame.table c.args.self.frames.items c.deref-frame-items.result.now c.loop-frame.frame-index _
+      (λ key. plus (key_row c.args.self.table key) (local_rows (reverse c.args.self.frames.items) key))
+      c.deref-frame-items.ensures.value c.loop-frame-test.true c.loop-frame.invariant.whole c.add_local.new.table c.in_ok-add_local.ensures;
+  choices = refl;
+}
+
+pub returns : goal.returns
+returns c = record {
+  table =
+      all_whole c.loop-frame.table c.args.self.frames.items c.deref-frame-items.result.now c.loop-frame.frame-index
+      (λ key. plus (key_row c.args.self.table key) (local_rows (reverse c.args.self.frames.items) key))
+      c.deref-frame-items.ensures.value (omega (arith, c.loop-frame-test.false)) c.loop-frame.invariant.whole;
+  ends = refl;
+  joins = refl;
+}

@@ -1,0 +1,4 @@
+pub mod Weights
+pub mod Passes
+pub mod Shares
+pub mod Outside

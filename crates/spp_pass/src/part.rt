@@ -1,0 +1,65 @@
+//! One reading of the events of a part of a run.
+
+ghost use Rattle.std.specs.Prelude.{◌≡◌, ◌+◌, List, IfOk};
+ghost use Rattle.spp_event.specs.declared.records.Event.{Event as AnEvent};
+ghost use Rattle.spp_frame.specs.Nesting.{AreEvents};
+ghost use Rattle.spp_pass.specs.Outside.{StandsAt};
+ghost use Rattle.spp_pass.specs.Shares.{IsPartOf};
+
+use crate::summing::Summing;
+use spp_cut::Part;
+use spp_dag::{Choices, FrameKind};
+use spp_event::Event;
+use spp_maxplus::Burdens;
+use spp_site::Table;
+use spp_stack::Entry;
+use std::alloc::{AllocError, Global};
+
+/// What a part of a run tells.
+#[derive(Drop)]
+pub struct PartResult {
+    /// Its share in the rows by call site on the run's whole dag: the strands in the part, and the frames that close in
+    /// it.
+    pub table: Table,
+    /// Of the choices that settle the run's path those in the part, by their positions in the trace.
+    pub choices: Choices,
+}
+
+/// The share of a part in the table of its run, and the choices in it, where `entry` has the frames that are open
+/// before the part. Neither has burdens.
+///
+/// The events of the part are read once, each in constant time, amortized, besides one step in all for each site and
+/// function that is open before the part, and for each number of a site or of a function up to the greatest. A frame of
+/// the entry is taken in once all frames above it have returned. The memory is linear in the numbers of frames that are
+/// opened in the part or returned to, of spawned children that return in it, of sites and of functions.
+///
+/// # Errors
+///
+/// Where a growth was refused.
+pub fn run_part(
+    alloc: Global,
+    part: &Part<'_, '_>,
+    entry: Entry<'_>,
+) -> Result<PartResult, AllocError>
+    requires { StandsAt part.now.trace part.now.first entry }
+    ensures { IfOk result (λ p. (es : List AnEvent) → AreEvents part.now.trace.records es → IsPartOf es part.now.trace.root part.now.first (part.now.first + part.now.count) p.table p.choices) }
+{
+    part.keeps_limits();
+    let first = part.first();
+    let mut summing = Summing::within(alloc, &entry)?;
+    let mut outside = entry.below();
+    for k in 0..part.count() {
+        let at = first + k;
+        match part.known_event(k) {
+            Event::Strand { count } => summing.strand(count),
+            Event::Call { site, func } => summing.open(FrameKind::Called, at, site, func)?,
+            Event::Spawn { site, func } => summing.open(FrameKind::Spawned, at, site, func)?,
+            Event::Ret => {
+                outside = summing.reach(outside)?;
+                summing.ret(at, Burdens::default())?;
+            }
+            Event::Sync => summing.sync(at)?,
+        }
+    }
+    summing.suspend()
+}

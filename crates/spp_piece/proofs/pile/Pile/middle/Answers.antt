@@ -1,8 +1,0 @@
-use Rattle.std.proofs.Common.{arith, reverse}
-use Rattle.spp_piece.proofs.Laid.{laid_since}
-use Rattle.spp_piece.proofs.pile.Pile.middle.Goals as goal
-
-pub overflow_sub-outside : goal.overflow_sub-outside
-overflow_sub-outside c =
-    let p = c.args.self.now in
-    omega (arith, laid_since p.run p.before p.since (reverse p.opens.items) (reverse p.states.items) c.requires.laid, c.outside.ensures)

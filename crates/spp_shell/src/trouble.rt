@@ -1,0 +1,46 @@
+//! What keeps a run from its answer, whatever its input says.
+ghost use Rattle.std.specs.Prelude.{◌≡◌};
+ghost use Rattle.spp_shell.specs.Troubles.{trouble_line, trouble_status};
+
+use crate::status::{DEVICE, MEMORY};
+
+/// What keeps a run from its answer, whatever its input says.
+#[derive(Clone, Copy, Debug, PartialEq, Eq)]
+pub(crate) enum Trouble {
+    /// The input can't be opened.
+    CannotOpen,
+    /// The device of the input failed before its end.
+    CannotRead,
+    /// The input has more bytes, or takes more reads, than are allowed.
+    TooLong,
+    /// The output didn't take the whole answer, or failed to send it on.
+    CannotWrite,
+    /// No memory was left.
+    NoMemory,
+}
+
+impl Trouble {
+    /// The line that tells it, with its line feed.
+    pub(crate) fn line(self) -> &'static [u8]
+        ensures { result.now ≡ trouble_line self }
+    {
+        match self {
+            Trouble::CannotOpen => b"cannot open input\n".as_slice(),
+            Trouble::CannotRead => b"cannot read input\n".as_slice(),
+            Trouble::TooLong => b"input too long\n".as_slice(),
+            Trouble::CannotWrite => b"cannot write output\n".as_slice(),
+            Trouble::NoMemory => b"out of memory\n".as_slice(),
+        }
+    }
+
+    /// The exit status that goes with it.
+    pub(crate) fn status(self) -> u8
+        ensures { result ≡ trouble_status self }
+    {
+        match self {
+            Trouble::CannotOpen | Trouble::CannotRead | Trouble::TooLong | Trouble::CannotWrite =>
+                DEVICE,
+            Trouble::NoMemory => MEMORY,
+        }
+    }
+}

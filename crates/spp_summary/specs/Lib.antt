@@ -1,0 +1,6 @@
+pub mod KeptFrames
+pub mod Returns
+pub mod Storage
+pub mod Joining
+pub mod Reading
+pub mod Stored
