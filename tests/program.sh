@@ -83,15 +83,11 @@ for trace in cilksort fib nqueens; do
     done
 done
 expect 'a table of a part of a record' 1 '' "bad event 1: truncated$lf" <(head -c 60 "$small") profile
-expect 'no parts' 2 '' 'error: *' "$small" figures --parts 0
-expect 'parts too many' 2 '' 'error: *' "$small" figures --parts 65537
-expect 'parts without a number' 2 '' 'error: *' "$small" figures --parts x
 printf 'func main\n' | "$spprof" encode > "$folder/empty"
 for parts in 1 16 65536; do
     expect "figures of no events in $parts parts" 0 \
         "work 0${lf}span 0${lf}burdened 0${lf}parallelism -${lf}burdened parallelism -$lf" '' "$folder/empty" figures --parts=$parts
 done
-expect 'a burden too large' 2 '' 'error: *' "$small" figures --burden 4294967296
 
 expect 'no bytes' 1 '' "bad header: short$lf" /dev/null check
 head -c 120 "$small" > "$folder/part"
@@ -116,9 +112,6 @@ judge 'many long names' 0 "work 0$lf" ''
 
 expect 'a file by name' 0 "work 17$lf" '' /dev/null check "$small"
 cp "$small" "$folder/-a b"
-(cd "$folder" && "$spprof" check -- '-a b' > out 2> err)
-status=$?
-judge 'a file whose name begins with a dash' 0 "work 17$lf" ''
 expect 'a bad file by name' 1 '' "bad event 5: truncated$lf" /dev/null check "$folder/part"
 expect 'a file that is not there' 3 '' "cannot open input$lf" "$small" check "$folder/nothing"
 expect 'a folder by name' 3 '' "cannot read input$lf" "$small" check "$folder"
@@ -226,13 +219,61 @@ timeout 30 "$spprof" encode < "$folder/text" > "$folder/bytes" 2> "$folder/err"
 status=$?
 judge 'a text of many long names' 0 "work 0$lf" ''
 
-expect 'help' 0 'A call-site profiler*' '' /dev/null --help
-expect 'help of a command' 0 'Check a trace*' '' /dev/null check --help
-expect 'no command' 2 '' 'error: *Usage: *' /dev/null
-expect 'another command' 2 '' 'error: *' /dev/null chek
-expect 'two files' 2 '' 'error: *' /dev/null check a b
-expect 'an option of another command' 2 '' 'error: *' /dev/null check --parts 3
-expect 'another option' 2 '' 'error: *' /dev/null check --nothing
+# Which words are which request, and what is shown for others, word for word.
+shown() { # NAME STATUS WORDS..: with these words the program tells just what the file tests/usage/NAME.txt has
+    local name=$1 wanted=$2 stream=err
+    shift 2
+    [ "$wanted" -ne 0 ] || stream=out
+    "$spprof" "$@" < /dev/null > "$folder/out" 2> "$folder/err"
+    status=$?
+    cmp -s "$folder/$stream" "$top/tests/usage/$name.txt" && : > "$folder/$stream"
+    judge "usage: $name" "$wanted" '' ''
+}
+shown help 0 --help
+shown help 0 -h
+for command in check figures profile encode; do
+    shown help_of_$command 0 $command --help
+    shown help_of_$command 0 $command -h
+    expect "$command with an option that isn't there" 2 '' 'error: *' "$small" $command --nothing
+done
+shown no_command 2
+shown two_files 2 check a b
+shown two_texts 2 encode a b
+shown unknown_option 2 encode --nothing
+shown no_parts 2 figures --parts 0
+shown too_many_parts 2 figures --parts 65537
+shown parts_of_check 2 check --parts 3
+for word in chek encod --nothing ''; do
+    expect "no command: '$word'" 2 '' 'error: *' "$small" "$word"
+done
+for word in 4294967296 -1 x ''; do
+    expect "no burden: '$word'" 2 '' 'error: *' "$small" figures --burden "$word"
+    expect "no number of parts: '$word'" 2 '' 'error: *' "$small" figures --parts "$word"
+done
+expect 'parts without a number' 2 '' 'error: *' "$small" figures --parts
+for command in check encode; do
+    expect "$command with a burden" 2 '' 'error: *' "$small" $command --burden 3
+done
+for command in check profile encode; do
+    expect "$command with parts" 2 '' 'error: *' "$small" $command --parts 3
+done
+for command in check figures encode; do
+    expect "$command with --csv" 2 '' 'error: *' "$small" $command --csv
+done
+of_small="work 17${lf}span 13${lf}burdened"
+expect 'a burden of 0' 0 "$of_small 13$lf*" '' "$small" figures --burden 0
+expect 'a burden behind =' 0 "$of_small 16$lf*" '' "$small" figures --burden=3
+expect 'the greatest burden' 0 "$of_small 4294967308$lf*" '' "$small" figures --burden 4294967295
+expect 'a burden, parts and a file' 0 "$of_small 16$lf*" '' /dev/null figures --burden 3 --parts=7 "$small"
+expect 'a burden of a profile' 0 "$of_small 16$lf*" '' /dev/null profile --burden 3 "$small"
+expect 'tables alone with a burden' 0 "name,*" '' /dev/null profile --csv --burden 3 "$small"
+for command in check figures profile; do
+    expect "$command of an input" 0 'work 17*' '' "$small" $command
+    expect "$command of a file" 0 'work 17*' '' /dev/null $command "$folder/-a b"
+    (cd "$folder" && "$spprof" $command -- '-a b' > out 2> err)
+    status=$?
+    judge "$command of a file whose name begins with a dash" 0 'work 17*' ''
+done
 expect 'a word that is no UTF-8' 2 '' "error: an argument is not UTF-8 text$lf" /dev/null $'\377'
 "$spprof" --help > /dev/full 2> "$folder/err"
 status=$?

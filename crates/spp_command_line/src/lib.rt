@@ -5,6 +5,3 @@ mod command_line;
 mod reading;
 
 pub use reading::read_request;
-
-#[cfg(test)]
-mod tests;

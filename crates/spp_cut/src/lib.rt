@@ -8,6 +8,3 @@ mod parts;
 pub use cutting::{Cut, CutFault, cut_at, cut_even};
 pub use part::Part;
 pub use parts::Parts;
-
-#[cfg(test)]
-mod tests;

@@ -40,6 +40,19 @@ impl<'t, 'a> Part<'t, 'a> {
         self.trace.keeps_limits();
     }
 
+    /// The same part: a value of its own, for a loop that reads its events while it writes elsewhere.
+    #[inline(always)]
+    pub fn again(&self) -> Part<'t, 'a>
+        ensures { result ≡ self.now }
+    {
+        Part {
+            trace: self.trace,
+            number: self.number,
+            first: self.first,
+            count: self.count,
+        }
+    }
+
     /// How many parts of its cut come before it.
     pub fn number(&self) -> u32
         ensures { result ≡ self.now.number }

@@ -5,4 +5,5 @@ pub mod Checks
 pub mod NameSets
 pub mod Texts
 pub mod Contents
+pub mod Samples
 pub mod Laws

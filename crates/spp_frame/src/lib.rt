@@ -115,6 +115,3 @@ pub fn nesting_laws()
     ensures either { WellFormedOrBad }
     ensures events { WellFormedAreEvents }
 {}
-
-#[cfg(test)]
-mod tests;

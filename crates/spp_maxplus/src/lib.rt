@@ -12,6 +12,3 @@ pub use child::ChildKind;
 pub use laws::seg_laws;
 pub use seg::Seg;
 pub use state::{Burdens, State};
-
-#[cfg(test)]
-mod tests;

@@ -5,15 +5,13 @@ ghost use Rattle.spp_maxplus.specs.State.{
   equal as equal_burdens,
   start as opened,
   after_strand as strand_added,
-  after_call as call_added,
-  after_spawn as spawn_added,
   after_child as child_added,
   after_sync as synced,
   close as close_of,
   taken as taken_by,
 };
 
-use crate::candidate::{better, greatest, offer};
+use crate::candidate::{greatest, offer};
 use crate::child::ChildKind;
 
 /// What edges of the dag cost beside the strands.
@@ -69,53 +67,7 @@ impl State {
         }
     }
 
-    /// After a strand of that many instructions.
-    pub fn after_strand(self, count: u64) -> Self
-        requires { self.spine + count < 2 ^ 128 }
-        ensures { result ≡ strand_added count self }
-    {
-        State {
-            spine: self.spine + u128::from(count),
-            child: self.child,
-        }
-    }
-
-    /// After the return of a called child that closed with this weight.
-    pub fn after_call(self, weight: u128) -> Self
-        requires { self.spine + weight < 2 ^ 128 }
-        ensures { result ≡ call_added weight self }
-    {
-        State {
-            spine: self.spine + weight,
-            child: self.child,
-        }
-    }
-
-    /// After the return of a child that was spawned at the position `at` and closed with this weight. The burdens are
-    /// those of the state: none where spans are measured without them.
-    pub fn after_spawn(self, at: u32, weight: u128, burdens: Burdens) -> Self
-        requires continuation { self.spine + burdens.continuation < 2 ^ 128 }
-        requires through { self.spine + (weight + burdens.join) < 2 ^ 128 }
-        ensures { result ≡ spawn_added at weight burdens self }
-    {
-        let through = self.spine + (weight + u128::from(burdens.join));
-        State {
-            spine: self.spine + u128::from(burdens.continuation),
-            child: better(self.child, Some((through, at))),
-        }
-    }
-
-    /// After a sync, or before a return, which waits as a sync does: no child is waited for any longer.
-    pub fn after_sync(self) -> Self
-        ensures { result ≡ synced self }
-    {
-        State {
-            spine: self.close(),
-            child: None,
-        }
-    }
-
-    /// So many instructions of the frame itself or of called children, where the state lies.
+    /// So many instructions of the frame itself or of called children.
     #[inline(always)]
     pub fn run(&mut self, count: u128)
         requires { self.old.spine + count < 2 ^ 128 }
@@ -124,7 +76,7 @@ impl State {
         self.spine += count;
     }
 
-    /// A sync, where the state lies.
+    /// A sync, or what comes before a return, which waits as a sync does: no child is waited for any longer.
     #[inline(always)]
     pub fn wait(&mut self)
         ensures { self.new ≡ synced self.old }
@@ -133,8 +85,8 @@ impl State {
         self.child = None;
     }
 
-    /// The return of a child that was entered so at the position `at` and closed with this weight, where the state
-    /// lies. The burdens are those of the state.
+    /// The return of a child that was entered so at the position `at` and closed with this weight. The burdens are those
+    /// of the state: none where spans are measured without them.
     #[inline(always)]
     pub fn receive(&mut self, kind: ChildKind, at: u32, weight: u128, burdens: Burdens)
         requires continuation { self.old.spine + burdens.continuation < 2 ^ 128 }

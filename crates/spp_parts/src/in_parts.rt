@@ -8,7 +8,7 @@ ghost use Rattle.spp_site.specs.Rows.{frame_row};
 ghost use Rattle.spp_frame.specs.Answers.{IsFaultOf};
 ghost use Rattle.spp_site.specs.Profiles.{IsDagTable};
 
-use crate::found::Tabled;
+use crate::results::Tabled;
 use crate::surveying::survey;
 use spp_cut::Cut;
 use spp_dag::{Figures, Row};

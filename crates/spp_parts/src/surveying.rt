@@ -10,7 +10,7 @@ ghost use Rattle.spp_frame.specs.Answers.{IsFaultOf};
 ghost use Rattle.spp_dag.specs.Figures.{AreFigures};
 ghost use Rattle.spp_stack.specs.Parts.{AreOfParts};
 
-use crate::found::Survey;
+use crate::results::Survey;
 use spp_cut::{Cut, Part};
 use spp_frame::ProfileFault;
 use spp_maxplus::Burdens;

@@ -20,6 +20,3 @@ mod whole_run;
 pub use part::{PartResult, run_part};
 pub use summing::FirstPass;
 pub use whole_run::first_pass;
-
-#[cfg(test)]
-mod tests;

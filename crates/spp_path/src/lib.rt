@@ -10,6 +10,3 @@ mod settling;
 
 pub use rows::path_table;
 pub use settling::settle;
-
-#[cfg(test)]
-mod tests;

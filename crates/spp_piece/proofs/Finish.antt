@@ -4,7 +4,7 @@ use Rattle.spp_maxplus.specs.declared.state.Burdens.{Burdens}
 use Rattle.spp_event.specs.declared.records.EventFault.{EventFault}
 use Rattle.spp_frame.specs.declared.Fault.{Fault}
 use Rattle.spp_frame.specs.declared.Why.TheVariants.{Event as Record, RootReturn, Unclosed}
-use Rattle.spp_piece.specs.declared.pieces.Segs.{Segs}
+use Rattle.spp_piece.specs.declared.segs.Segs.{Segs}
 use Rattle.spp_piece.specs.declared.pieces.Frame.{Frame}
 use Rattle.spp_piece.specs.declared.pieces.Unmatched.{Unmatched}
 use Rattle.spp_piece.specs.Pair.{act, start}

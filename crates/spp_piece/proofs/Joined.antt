@@ -2,7 +2,7 @@
 use Rattle.std.proofs.Common.{◌≡◌, ℕ, ◌+◌, ◌≤◌, max, List, [], ◌∷◌, length, Option, Some, None, refl, sym, ◌∙◌, ap, subst, arith}
 use Rattle.spp_maxplus.specs.declared.state.Burdens.{Burdens}
 use Rattle.spp_event.specs.declared.records.EventFault.{EventFault}
-use Rattle.spp_piece.specs.declared.pieces.Segs.{Segs}
+use Rattle.spp_piece.specs.declared.segs.Segs.{Segs}
 use Rattle.spp_piece.specs.declared.pieces.Frame.{Frame}
 use Rattle.spp_piece.specs.declared.pieces.Unmatched.{Unmatched}
 use Rattle.spp_piece.specs.Machine.{Ops}

@@ -18,7 +18,7 @@ use Rattle.spp_dag.specs.Dag.{IsSpan}
 use Rattle.spp_dag.specs.Stack.{advance, run as run_events, root_frame}
 use Rattle.spp_dag.proofs.Stacks.{machine_gives_spans}
 use Rattle.spp_piece.specs.declared.pieces.Frame.{Frame}
-use Rattle.spp_piece.specs.declared.pieces.States.{States}
+use Rattle.spp_piece.specs.declared.states.States.{States}
 use Rattle.spp_maxplus.specs.declared.child.ChildKind.{ChildKind}
 use Rattle.spp_maxplus.specs.declared.child.ChildKind.TheVariants.{Called, Spawned}
 use Rattle.spp_dag.specs.Figures.{AreFigures}

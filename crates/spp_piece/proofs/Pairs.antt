@@ -3,8 +3,8 @@ use Rattle.spp_maxplus.specs.declared.state.Burdens.{Burdens}
 use Rattle.spp_maxplus.specs.declared.state.State.{State}
 use Rattle.spp_maxplus.specs.declared.seg.Seg.{Seg}
 use Rattle.spp_maxplus.proofs.SegLaws as one
-use Rattle.spp_piece.specs.declared.pieces.States.{States}
-use Rattle.spp_piece.specs.declared.pieces.Segs.{Segs}
+use Rattle.spp_piece.specs.declared.states.States.{States}
+use Rattle.spp_piece.specs.declared.segs.Segs.{Segs}
 use Rattle.spp_piece.specs.declared.pieces.Frame.{Frame}
 use Rattle.spp_maxplus.specs.declared.child.ChildKind.{ChildKind}
 use Rattle.spp_maxplus.specs.declared.child.ChildKind.TheVariants.{Called, Spawned}

@@ -5,8 +5,8 @@ use Rattle.spp_event.specs.declared.records.Event.{Event}
 use Rattle.spp_event.specs.declared.records.Event.TheVariants.{Strand, Call, Spawn, Ret, Sync}
 use Rattle.spp_event.specs.declared.records.EventFault.{EventFault}
 use Rattle.spp_frame.specs.declared.Fault.{Fault}
-use Rattle.spp_piece.specs.declared.pieces.Segs.{Segs}
-use Rattle.spp_piece.specs.declared.pieces.States.{States}
+use Rattle.spp_piece.specs.declared.segs.Segs.{Segs}
+use Rattle.spp_piece.specs.declared.states.States.{States}
 use Rattle.spp_piece.specs.declared.pieces.Frame.{Frame}
 use Rattle.spp_piece.specs.Pair.{act, then, idle, fed, after_return}
 use Rattle.spp_piece.specs.Stack.{Stack, touch, touch_by, closed_by, with_states, step_from, run}

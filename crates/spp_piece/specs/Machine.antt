@@ -5,7 +5,7 @@ use Rattle.spp_event.specs.declared.records.Event.TheVariants.{Strand, Call, Spa
 use Rattle.spp_event.specs.declared.records.EventFault.{EventFault}
 use Rattle.spp_maxplus.specs.declared.child.ChildKind.{ChildKind}
 use Rattle.spp_maxplus.specs.declared.child.ChildKind.TheVariants.{Called, Spawned}
-use Rattle.spp_piece.specs.declared.pieces.Segs.{Segs}
+use Rattle.spp_piece.specs.declared.segs.Segs.{Segs}
 use Rattle.spp_piece.specs.declared.pieces.Frame.{Frame}
 use Rattle.spp_piece.specs.Pair.{start, strand, sync}
 

@@ -3,7 +3,7 @@ use Rattle.std.specs.Prelude.{ℕ, List, [], ◌∷◌}
 use Rattle.spp_dag.specs.declared.stack.OpenFrame.{OpenFrame}
 use Rattle.spp_dag.specs.declared.stack.FrameKind.{FrameKind}
 use Rattle.spp_dag.specs.declared.stack.FrameKind.TheVariants as kind
-use Rattle.spp_piece.specs.declared.pieces.States.{States}
+use Rattle.spp_piece.specs.declared.states.States.{States}
 use Rattle.spp_piece.specs.declared.pieces.Frame.{Frame}
 use Rattle.spp_maxplus.specs.declared.child.ChildKind.{ChildKind}
 use Rattle.spp_maxplus.specs.declared.child.ChildKind.TheVariants.{Called, Spawned}

@@ -3,9 +3,9 @@ use Rattle.std.specs.Prelude.{ℕ}
 use Rattle.spp_maxplus.specs.declared.state.Burdens.{Burdens}
 use Rattle.spp_maxplus.specs.State as one
 use Rattle.spp_maxplus.specs.Seg as seg
-use Rattle.spp_piece.specs.declared.in_place.ClosingWeights.{ClosingWeights}
-use Rattle.spp_piece.specs.declared.pieces.States.{States}
-use Rattle.spp_piece.specs.declared.pieces.Segs.{Segs}
+use Rattle.spp_piece.specs.declared.states.ClosingWeights.{ClosingWeights}
+use Rattle.spp_piece.specs.declared.states.States.{States}
+use Rattle.spp_piece.specs.declared.segs.Segs.{Segs}
 use Rattle.spp_piece.specs.declared.pieces.Frame.{Frame}
 use Rattle.spp_maxplus.specs.declared.child.ChildKind.{ChildKind}
 

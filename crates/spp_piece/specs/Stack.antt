@@ -8,7 +8,7 @@ use Rattle.spp_frame.specs.declared.Why.TheVariants.{Event as Record, RootReturn
 use Rattle.spp_frame.specs.declared.Fault.{Fault}
 use Rattle.spp_maxplus.specs.declared.child.ChildKind.{ChildKind}
 use Rattle.spp_maxplus.specs.declared.child.ChildKind.TheVariants.{Called, Spawned}
-use Rattle.spp_piece.specs.declared.pieces.States.{States}
+use Rattle.spp_piece.specs.declared.states.States.{States}
 use Rattle.spp_piece.specs.declared.pieces.Frame.{Frame}
 use Rattle.spp_piece.specs.Pair.{start, after_strand, after_sync, after_return}
 

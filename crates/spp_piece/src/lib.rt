@@ -2,10 +2,12 @@
 //! laws by which what neighbours do joins to what both do.
 #![tactic(auto)]
 
-mod in_place;
 mod laws;
 mod pieces;
+mod segs;
+mod states;
 
-pub use in_place::ClosingWeights;
 pub use laws::piece_laws;
-pub use pieces::{Frame, Segs, States, Unmatched};
+pub use pieces::{Frame, Unmatched};
+pub use segs::Segs;
+pub use states::{ClosingWeights, States};

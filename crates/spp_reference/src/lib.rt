@@ -11,6 +11,3 @@ mod rows;
 mod walks;
 
 pub use answers::{Reference, SiteRows, profile};
-
-#[cfg(test)]
-mod tests;

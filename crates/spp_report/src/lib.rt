@@ -18,6 +18,3 @@ pub use out_sink::OutSink;
 pub use plain::plain_text;
 pub use sink::{Sink, SinkFault, WriteFault};
 pub use writing::write_out;
-
-#[cfg(test)]
-mod tests;

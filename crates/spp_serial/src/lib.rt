@@ -46,6 +46,3 @@ pub fn profile_serial(
         path,
     })
 }
-
-#[cfg(test)]
-mod tests;

@@ -11,4 +11,3 @@ pub mod Tasks
 pub mod Devices
 pub mod Endings
 pub mod Usage
-pub mod Fakes

@@ -21,6 +21,3 @@ pub use reading::{ReadFault, read_all, read_within};
 pub use running::run;
 pub use source::{Source, SourceFault};
 pub use usage::{refuse_input, show_usage};
-
-#[cfg(test)]
-mod tests;

@@ -14,6 +14,3 @@ pub use marks::Marks;
 pub use profile::Profile;
 pub use spp_dag::Row;
 pub use table::Table;
-
-#[cfg(test)]
-mod tests;

@@ -16,7 +16,7 @@ use Rattle.spp_dag.specs.Steps.{opened, entry_after}
 use Rattle.spp_piece.specs.declared.pieces.Frame.{Frame}
 use Rattle.spp_maxplus.specs.declared.child.ChildKind.{ChildKind}
 use Rattle.spp_maxplus.specs.declared.child.ChildKind.TheVariants.{Called, Spawned}
-use Rattle.spp_piece.specs.declared.pieces.Segs.{Segs}
+use Rattle.spp_piece.specs.declared.segs.Segs.{Segs}
 use Rattle.spp_piece.specs.Pair.{act, fed, fed_by}
 use Rattle.spp_piece.specs.Stack.{with_states}
 use Rattle.spp_piece.specs.Model.{kind_of}

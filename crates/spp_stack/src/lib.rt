@@ -6,11 +6,10 @@
 #![tactic(auto)]
 
 mod node;
-mod parts;
-mod reading;
+mod part_by_part;
 mod stack_builder;
 mod stacks;
 
 pub use node::Node;
-pub use parts::entries;
+pub use part_by_part::entries;
 pub use stacks::{Entries, Entry};

@@ -12,7 +12,6 @@ ghost use Rattle.spp_stack.specs.Machine.{Now, now, ret_by, push_by, entry_ops, 
 ghost use Rattle.spp_stack.specs.StackBuilder.{Stands, IsKept, AreKept, moved, Unmarked};
 
 use crate::node::Node;
-use crate::reading::open_frames;
 use spp_dag::{EntryFrame, FrameKind};
 use spp_maxplus::{Burdens, ChildKind, Seg, State};
 use spp_piece::Frame;
@@ -74,11 +73,13 @@ fn after_child(kind: FrameKind, at: u32, weight: u128, parent: State) -> State
     requires { parent.spine + weight < 2 ^ 128 }
     ensures { result ≡ child_returned unburdened kind at weight parent }
 {
+    let mut state = parent;
     match kind {
-        FrameKind::Root => parent,
-        FrameKind::Called => parent.after_call(weight),
-        FrameKind::Spawned => parent.after_spawn(at, weight, Burdens::default()),
+        FrameKind::Root => {}
+        FrameKind::Called => state.receive(ChildKind::Called, at, weight, Burdens::default()),
+        FrameKind::Spawned => state.receive(ChildKind::Spawned, at, weight, Burdens::default()),
     }
+    state
 }
 
 /// The link of a node over one that is marked or not, from that one's own.
@@ -86,6 +87,18 @@ fn nearest(marked: bool, number: u32, link: Option<u32>) -> Option<u32>
     ensures { result ≡ cond marked (Some number) link }
 {
     if marked { Some(number) } else { link }
+}
+
+/// The frames that a part leaves open, the outermost first. It takes time and memory linear in their number.
+fn open_frames(alloc: Global, summary: &Summary) -> Result<Vec<Frame>, AllocError>
+    ensures { IfOk result (λ v. v.items ≡ reverse summary.now.sum.frames) }
+{
+    let mut frames = Vec::with_capacity(alloc, summary.frame_count())?;
+    for frame in summary.frames() {
+        frames.push(frame)?;
+    }
+    frames.reverse();
+    Ok(frames)
 }
 
 impl StackBuilder {

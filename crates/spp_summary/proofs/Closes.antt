@@ -1,7 +1,7 @@
 -- The lists by which unmatched returns are kept.
 use Rattle.std.proofs.Common.{◌≡◌, ℕ, ◌+◌, List, [], ◌∷◌, ◌++◌, length, refl, sym, ap, ◌∙◌, arith}
 use Rattle.std.proofs.lemmas.List.{append-nil}
-use Rattle.spp_piece.specs.declared.pieces.Segs.{Segs}
+use Rattle.spp_piece.specs.declared.segs.Segs.{Segs}
 use Rattle.spp_summary.specs.declared.returns.Close.{Close}
 use Rattle.spp_summary.specs.declared.returns.Close.TheVariants.{Strand, Kept}
 use Rattle.spp_piece.specs.Pair.{strand}

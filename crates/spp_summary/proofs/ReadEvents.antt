@@ -4,15 +4,15 @@ use Rattle.spp_maxplus.specs.declared.state.Burdens.{Burdens}
 use Rattle.spp_event.specs.declared.records.EventFault.{EventFault}
 use Rattle.spp_maxplus.specs.declared.child.ChildKind.{ChildKind}
 use Rattle.spp_maxplus.specs.declared.child.ChildKind.TheVariants.{Called, Spawned}
-use Rattle.spp_piece.specs.declared.pieces.Segs.{Segs}
-use Rattle.spp_piece.specs.declared.pieces.States.{States}
+use Rattle.spp_piece.specs.declared.segs.Segs.{Segs}
+use Rattle.spp_piece.specs.declared.states.States.{States}
 use Rattle.spp_piece.specs.declared.pieces.Frame.{Frame}
 use Rattle.spp_piece.specs.declared.pieces.Unmatched.{Unmatched}
 use Rattle.spp_summary.specs.declared.opens.Open.{Open}
 use Rattle.spp_summary.specs.declared.opens.Kept.{Kept}
 use Rattle.spp_piece.specs.Pair.{act, then, strand, sync, start, after_strand, after_sync, after_return, after_return_by}
 use Rattle.spp_piece.specs.Summary.{Sum, along_by, ret_by, working}
-use Rattle.spp_piece.specs.declared.in_place.ClosingWeights.{ClosingWeights}
+use Rattle.spp_piece.specs.declared.states.ClosingWeights.{ClosingWeights}
 use Rattle.spp_maxplus.specs.Candidate.{greatest}
 use Rattle.spp_summary.specs.Storage.{open_load, with_work}
 use Rattle.spp_summary.specs.KeptFrames.{kept_of, past, ran, with_kept, frame_of, frames_of, outside, told, HasKept, AreLaid}

@@ -1,11 +1,11 @@
 -- Unmatched returns as they are kept.
 use Rattle.std.specs.Prelude.{ℕ, ◌+◌, List, [], ◌∷◌, Option, Some, None}
-use Rattle.spp_piece.specs.declared.in_place.ClosingWeights.{ClosingWeights}
+use Rattle.spp_piece.specs.declared.states.ClosingWeights.{ClosingWeights}
 use Rattle.spp_summary.specs.declared.returns.Close.{Close}
 use Rattle.spp_summary.specs.declared.returns.Close.TheVariants.{Strand, Kept}
 use Rattle.spp_summary.specs.declared.returns.Return.{Return}
 use Rattle.spp_summary.specs.declared.returns.Return.TheVariants as return
-use Rattle.spp_piece.specs.declared.pieces.Segs.{Segs}
+use Rattle.spp_piece.specs.declared.segs.Segs.{Segs}
 use Rattle.spp_piece.specs.declared.pieces.Unmatched.{Unmatched}
 use Rattle.spp_piece.specs.Pair.{idle, then, strand, added}
 

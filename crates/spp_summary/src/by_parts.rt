@@ -82,6 +82,3 @@ pub fn figures_in_parts(
     let cut = cut_even(alloc, trace, parts)?;
     figures_of_cut(alloc, &cut, burdens)
 }
-
-#[cfg(test)]
-mod tests;

@@ -21,6 +21,3 @@ pub use by_parts::figures_in_parts;
 pub use frames::FrameReader;
 pub use returns::ReturnReader;
 pub use summary::{JoinRefused, Summary};
-
-#[cfg(test)]
-mod tests;

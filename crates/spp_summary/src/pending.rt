@@ -24,7 +24,7 @@ pub(crate) struct Pending {
 
 impl Model for Pending {
     ghost use Rattle.spp_summary.specs.Returns.{pending_of};
-    ghost use Rattle.spp_piece.specs.declared.pieces.Segs.{Segs};
+    ghost use Rattle.spp_piece.specs.declared.segs.Segs.{Segs};
 
     ghost Value = { Segs };
 

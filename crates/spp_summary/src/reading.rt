@@ -211,7 +211,7 @@ impl Reading {
                     let last = self.states.len() - 1;
                     let kept = &mut self.states[last];
                     kept.states.run(self.run - kept.counted);
-                    kept.states.sync();
+                    kept.states.wait();
                     kept.counted = self.run;
                 }
             }
@@ -254,11 +254,13 @@ impl Reading {
         ensures small { IfOk result (λ r. IsSmall burdens part.now.count (so_far r)) }
     {
         part.keeps_limits();
+        // A value of its own, whose fields need no new look while the lists are written.
+        let own = part.again();
         let first = part.first();
         let events = part.count();
         let mut reading = Reading::new(spare);
         for k in 0..events {
-            match part.event_at(k) {
+            match own.event_at(k) {
                 Ok(event) => reading.read(burdens, first + k, event)?,
                 Err(why) => {
                     reading.fault = Some((first + k, why));

@@ -13,6 +13,3 @@ pub use fault::{TextFault, TextWhy};
 pub use laws::text_laws;
 pub use parse::parse_text;
 pub use print::{PrintFault, print_text};
-
-#[cfg(test)]
-mod tests;

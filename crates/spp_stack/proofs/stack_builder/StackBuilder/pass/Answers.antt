@@ -1,6 +1,6 @@
 use Rattle.std.proofs.Common.{◌≡◌, ◌+◌, ◌<◌, ◌^◌, arith, sym, subst, refl}
 use Rattle.spp_maxplus.specs.Seg.{peak, rise}
-use Rattle.spp_piece.specs.declared.pieces.Segs.{Segs}
+use Rattle.spp_piece.specs.declared.segs.Segs.{Segs}
 use Rattle.spp_piece.specs.Summary.{play_returns, play_frames}
 use Rattle.spp_stack.specs.Machine.{entry_ops, along_by}
 use Rattle.spp_stack.specs.StackBuilder.{Stands}

@@ -1,6 +1,6 @@
 use Rattle.std.proofs.Common.{◌≡◌, ℕ, ◌-◌, ◌+◌, ◌<◌, ◌∷◌, length, reverse, vec_len, true, sym, ap, ◌∙◌, arith, refl}
 use Rattle.std.proofs.lemmas.List.{length-reverse}
-use Rattle.spp_piece.specs.declared.in_place.ClosingWeights.{ClosingWeights}
+use Rattle.spp_piece.specs.declared.states.ClosingWeights.{ClosingWeights}
 use Rattle.spp_piece.specs.Pair.{after_return, after_return_by}
 use Rattle.spp_piece.specs.Bound.{worst}
 use Rattle.spp_summary.specs.KeptFrames.{kept_of, past, ran, frame_of}

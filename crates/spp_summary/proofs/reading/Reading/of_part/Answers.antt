@@ -2,6 +2,7 @@ use Rattle.std.proofs.Common.{◌≡◌, ◌+◌, ◌<◌, get_or, drop, Ok, Err
 use Rattle.std.proofs.lemmas.List.{at_drop_all}
 use Rattle.spp_event.specs.declared.records.EventFault.TheVariants.{Truncated}
 use Rattle.spp_cut.specs.Parts.{records_in}
+use Rattle.spp_event.specs.Recordings.{record_at}
 use Rattle.spp_piece.specs.Machine.{event, events}
 use Rattle.spp_piece.specs.Summary.{failing, summary_ops, summary_of}
 use Rattle.spp_summary.specs.Reading.{so_far}
@@ -22,7 +23,7 @@ loop-k-preserved c =
     let lt : k < p.count = omega (arith, c.count-events.ensures) in
     let all = count_in p c.keeps_limits.ensures.within in
     let item : c.event_at.result ≡ get_or xs k (Err Truncated) =
-    c.event_at.ensures.said ∙ sym (record_in p k (Err Truncated) lt) in
+    c.event_at.ensures.said ∙ ap (λ q. record_at q.trace.records (q.first + k)) c.again-own.ensures ∙ sym (record_in p k (Err Truncated) lt) in
     let read : t ≡ event o at (get_or xs k (Err Truncated)) s = c.in_ok-read-in-Ok.ensures.value ∙ ap (λ x. event o at x s) (sym c.in-Ok.is ∙ item) in
     record {
       value = event_step c.args.burdens c.first-first.result k k xs (Err Truncated) s t (omega arith) refl read ∙ v.value;
@@ -46,7 +47,7 @@ returns-in-Err c =
     let lt : k < p.count = omega (arith, c.count-events.ensures) in
     let all = count_in p c.keeps_limits.ensures.within in
     let item : c.event_at.result ≡ get_or xs k (Err Truncated) =
-    c.event_at.ensures.said ∙ sym (record_in p k (Err Truncated) lt) in
+    c.event_at.ensures.said ∙ ap (λ q. record_at q.trace.records (q.first + k)) c.again-own.ensures ∙ sym (record_in p k (Err Truncated) lt) in
     let failed : t ≡ event o at (Err why) s = sym (event_fail b at why s v.sound) in
     let read : t ≡ event o at (get_or xs k (Err Truncated)) s = failed ∙ ap (λ x. event o at x s) (sym c.in-Err.is ∙ item) in
     record {

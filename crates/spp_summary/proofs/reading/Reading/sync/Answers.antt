@@ -46,7 +46,7 @@ returns-then-top c =
     let lt = top_kept p.run p.before p.since xs ts top os.below os.old c.if-top.true c.requires.laid in
     let i = c.len-last.ensures in
     let end = c.len-last.result - 1 in
-    let ss = ends_at ts end end c.index_mut-kept.result.now (as_kept c.sync.new.self p.run) lt (omega arith) (omega arith) c.index_mut-kept.ensures.value in
-    let x = ap (λ s. as_kept s p.run) (c.sync.ensures ∙ ap after_sync c.run-then-top.ensures) in
+    let ss = ends_at ts end end c.index_mut-kept.result.now (as_kept c.wait-then-top.new.self p.run) lt (omega arith) (omega arith) c.index_mut-kept.ensures.value in
+    let x = ap (λ s. as_kept s p.run) (c.wait-then-top.ensures ∙ ap after_sync c.run-then-top.ensures) in
     let now = sync_ends p.returns.items p.middle p.since p.fault p.run p.before xs xs ts _ top _ _ os ss c.if-top.true x c.requires.laid in
     record { value = now.value; laid = now.laid; fault = refl }

@@ -1,0 +1,112 @@
+#!/usr/bin/env python3
+"""Builds the program spprof: proves its crate and each that it stands on, and leaves crates/spprof/out/spprof. What is
+proved already, and hasn't changed, isn't proved again.
+
+`rt run` proves one crate after the other, and `rt all check --jobs N` gives each crate one processor, so that most
+processors wait for the longest chain of crates. So this takes the toolchain's own steps in another order: crates that
+don't stand on each other go side by side, those with the longest chain behind them get several processes each, and the
+rest what the processors have left. Tells how far it is on standard error, and what the prover said of a crate that it
+refuses; its status is then other than 0. It counts on the toolchain that README.md names, whose own steps it calls.
+"""
+import importlib.machinery
+import importlib.util
+import os
+import queue
+import re
+import shutil
+import subprocess
+import sys
+import tempfile
+import threading
+
+TOP = os.path.dirname(os.path.realpath(__file__))
+PROCESSORS = len(os.sched_getaffinity(0))
+
+
+def toolchain():
+    """The toolchain's command `rt`, as a module."""
+    loader = importlib.machinery.SourceFileLoader("rt", os.path.realpath(shutil.which("rt")))
+    module = importlib.util.module_from_spec(importlib.util.spec_from_loader("rt", loader))
+    loader.exec_module(module)
+    return module
+
+
+def tell(line):
+    print(f"spprof: {line}", file=sys.stderr, flush=True)
+
+
+def at_a_time(rt):
+    """How many crates are checked at a time: as many as there are processors, and 4 GB of memory for each."""
+    return max(1, min(PROCESSORS, rt.free() // 4_000_000_000))
+
+
+def prove(crate, is_first, ended):
+    """Proves and builds a crate over what it stands on, and hands on what was said where that fails."""
+    if not is_first:
+        os.setpriority(os.PRIO_PROCESS, threading.get_native_id(), 10)
+    jobs = min(4 if is_first else 2, PROCESSORS) if crate.is_large() else 1
+    flags = ["--jobs", str(jobs)]
+    said = "its check could not be run"
+    try:
+        os.makedirs(f"{crate.folder}/out", exist_ok=True)
+        with tempfile.TemporaryFile("w+", errors="replace") as crate.out:
+            failed = crate.check(flags) if crate.is_program else crate.build_rlib(flags, anew=False)
+            crate.out.seek(0)
+            said = crate.out.read() if failed else None
+    finally:
+        ended.put((crate, said))
+
+
+def refuse(name, said):
+    """Tells why a crate is not built: the first lines that say what is wrong, and where all that was said stands."""
+    with tempfile.NamedTemporaryFile("w", prefix="spprof-build-", delete=False) as log:
+        log.write(said)
+    wrong = [it for it in said.splitlines() if re.search("error|not proved|no proof", it)]
+    print(*wrong[:20], sep="\n", file=sys.stderr)
+    tell(f"the build failed at {name}; all that it said is in {log.name}")
+
+
+def prove_all(rt, crates):
+    """Proves the crates, each after those that it stands on, and returns whether all are proved."""
+    behind = {}
+    for it in reversed(crates):
+        above = [behind[other] for other in crates if it in other.below()]
+        behind[it] = it.count(rb"\n") + max(above, default=0)
+    left, running, done, ended = sorted(crates, key=lambda it: -behind[it]), [], [], queue.Queue()
+    while left or running:
+        ready = [it for it in left if all(low in done for low in it.below())]
+        for it in ready[: at_a_time(rt) - len(running)]:
+            is_first = all(behind[it] >= behind[other] for other in running)
+            left.remove(it)
+            running.append(it)
+            # A thread for each, since one that has taken a lower priority keeps it.
+            threading.Thread(target=prove, args=(it, is_first, ended), daemon=True).start()
+        crate, said = ended.get()
+        running.remove(crate)
+        done.append(crate)
+        tell(f"{len(done)} of {len(crates)} crates")
+        if said is not None:
+            refuse(crate.name, said)
+            return False
+    return True
+
+
+def main():
+    rt = toolchain()
+    rt.rtlib.guarded()
+    crates = sorted(rt.rtlib.crates_below(f"{TOP}/crates/spprof"), key=lambda it: len(it.below()))
+    held = rt.rtlib.lock(crates)
+    tell(f"building; the first time this proves all {len(crates)} crates, which takes some minutes")
+    if not prove_all(rt, crates):
+        return 1
+    for it in held:
+        os.close(it)
+    how = {"cwd": f"{TOP}/crates/spprof", "stdout": subprocess.PIPE, "stderr": subprocess.STDOUT, "text": True}
+    linked = subprocess.run(["rt", "run", "--", "--help"], **how)
+    if linked.returncode:
+        refuse("spprof", linked.stdout)
+    return linked.returncode
+
+
+if __name__ == "__main__":
+    sys.exit(main())

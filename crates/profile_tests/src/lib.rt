@@ -1,0 +1,25 @@
+//! Tests of the figures and tables of runs, by each way to them.
+#![tactic(auto)]
+
+#[cfg(test)]
+mod figures;
+#[cfg(test)]
+mod frame;
+#[cfg(test)]
+mod maxplus;
+#[cfg(test)]
+mod parts;
+#[cfg(test)]
+mod pass;
+#[cfg(test)]
+mod path;
+#[cfg(test)]
+mod reference;
+#[cfg(test)]
+mod serial;
+#[cfg(test)]
+mod site;
+#[cfg(test)]
+mod summary;
+#[cfg(test)]
+mod worked;

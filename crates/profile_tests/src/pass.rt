@@ -1,0 +1,77 @@
+use crate::worked::{CALL, RET, S1, S2, S3, S5, S6, SPAWN, SYNC};
+use spp_dag::{End, Join};
+use spp_event::{Event, open_trace, trace_of};
+use spp_frame::ProfileFault;
+use spp_maxplus::Burdens;
+use spp_pass::first_pass;
+use std::alloc::{AllocError, Global};
+use std::test::Fail;
+
+/// A run with what its first pass notes: of each spawned child the return, and each join at which a child is taken.
+struct Noted {
+    events: &'static [Event],
+    ends: &'static [End],
+    joins: &'static [Join],
+}
+
+const NOTED: &[Noted] = &[
+    Noted {
+        events: &[SPAWN, S5, RET, S5, SYNC],
+        ends: &[End { at: 2, spawn: 0 }],
+        joins: &[Join { at: 4, spawn: 0 }],
+    },
+    Noted {
+        events: &[SPAWN, S5, RET, S6, SYNC],
+        ends: &[End { at: 2, spawn: 0 }],
+        joins: &[],
+    },
+    Noted {
+        events: &[SPAWN, S5, RET, SPAWN, S5, RET, SYNC],
+        ends: &[End { at: 2, spawn: 0 }, End { at: 5, spawn: 3 }],
+        joins: &[Join { at: 6, spawn: 0 }],
+    },
+    Noted {
+        events: &[SPAWN, S5, RET, S2],
+        ends: &[End { at: 2, spawn: 0 }],
+        joins: &[Join { at: 4, spawn: 0 }],
+    },
+    Noted {
+        events: &[CALL, S5, RET],
+        ends: &[],
+        joins: &[],
+    },
+    Noted {
+        events: &[SPAWN, SPAWN, S3, RET, S1, RET, S2, SYNC, S1],
+        ends: &[End { at: 3, spawn: 1 }, End { at: 5, spawn: 0 }],
+        joins: &[Join { at: 5, spawn: 1 }, Join { at: 7, spawn: 0 }],
+    },
+];
+
+/// Whether the first pass over a run of these events notes these choices; none where it has no profile.
+fn has_choices(
+    alloc: Global,
+    events: &[Event],
+    ends: &[End],
+    joins: &[Join],
+) -> Result<Option<bool>, AllocError> {
+    let bytes = trace_of(alloc, events)?;
+    let Ok(trace) = open_trace(alloc, bytes.as_slice()) else {
+        return Ok(None);
+    };
+    match first_pass(alloc, &trace, Burdens::equal(3)) {
+        Ok(pass) => Ok(Some(
+            pass.choices.ends.as_slice() == ends && pass.choices.joins.as_slice() == joins,
+        )),
+        Err(ProfileFault::Bad(_)) => Ok(None),
+        Err(ProfileFault::Memory) => Err(AllocError),
+    }
+}
+
+#[test]
+fn a_run_has_its_choices(rt: HostRuntime) -> Result<(), Fail> {
+    for (i, run) in NOTED.iter().enumerate() {
+        let noted = has_choices(rt.alloc(), run.events, run.ends, run.joins)?;
+        assert_eq!(rt; noted, Some(true), "run {i}");
+    }
+    Ok(())
+}

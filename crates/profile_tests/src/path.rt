@@ -1,0 +1,148 @@
+use spp_dag::{Choices, End, Join};
+use spp_path::settle;
+use std::alloc::{AllocError, Global};
+use std::test::Fail;
+
+/// The choices of a run, each a position and that of a spawn.
+fn choices_of(
+    alloc: Global,
+    ends: &[(u32, u32)],
+    joins: &[(u32, u32)],
+) -> Result<Choices, AllocError> {
+    let mut choices = Choices {
+        ends: Vec::new(alloc),
+        joins: Vec::new(alloc),
+    };
+    for (at, spawn) in ends {
+        choices.ends.push(End {
+            at: *at,
+            spawn: *spawn,
+        })?;
+    }
+    for (at, spawn) in joins {
+        choices.joins.push(Join {
+            at: *at,
+            spawn: *spawn,
+        })?;
+    }
+    Ok(choices)
+}
+
+/// The spawns of the children that the path of a run with so many events enters.
+fn entered(
+    alloc: Global,
+    count: u32,
+    ends: &[(u32, u32)],
+    joins: &[(u32, u32)],
+) -> Result<Vec<usize>, AllocError> {
+    let marks = settle(alloc, count, &choices_of(alloc, ends, joins)?)?;
+    let mut spawns = Vec::new(alloc);
+    for (at, mark) in marks.iter().enumerate() {
+        if *mark {
+            spawns.push(at)?;
+        }
+    }
+    Ok(spawns)
+}
+
+#[test]
+fn each_event_has_a_mark(rt: HostRuntime) -> Result<(), Fail> {
+    let choices = choices_of(rt.alloc(), &[(2, 0)], &[(4, 0)])?;
+    let marks = settle(rt.alloc(), 6, &choices)?;
+    assert_eq!(rt;
+        marks.as_slice(),
+        [true, false, false, false, false, false].as_slice()
+    );
+    let none = choices_of(rt.alloc(), &[], &[])?;
+    assert_eq!(rt; settle(rt.alloc(), 0, &none)?.len(), 0);
+    Ok(())
+}
+
+/// A run: the number of its events, its ends and its joins, and the spawns of the children that its path enters.
+struct Run {
+    count: u32,
+    ends: &'static [(u32, u32)],
+    joins: &'static [(u32, u32)],
+    entered: &'static [usize],
+}
+
+const RUNS: &[Run] = &[
+    // spawn, 5, return, 3, sync, 1; and with 7 in place of the 3
+    Run {
+        count: 6,
+        ends: &[(2, 0)],
+        joins: &[(4, 0)],
+        entered: &[0],
+    },
+    Run {
+        count: 6,
+        ends: &[(2, 0)],
+        joins: &[],
+        entered: &[],
+    },
+    // spawn, 7, return, 2: the child joins at the end
+    Run {
+        count: 4,
+        ends: &[(2, 0)],
+        joins: &[(4, 0)],
+        entered: &[0],
+    },
+    // spawn, 5, return, spawn, 5, return, sync: of two equal children the earlier one
+    Run {
+        count: 7,
+        ends: &[(2, 0), (5, 3)],
+        joins: &[(6, 0)],
+        entered: &[0],
+    },
+    // spawn, spawn, 3, return, 1, return, 2, sync, 1: the outer child's return waits for the inner one
+    Run {
+        count: 9,
+        ends: &[(3, 1), (5, 0)],
+        joins: &[(5, 1), (7, 0)],
+        entered: &[0, 1],
+    },
+    // with 9 in place of the 2 the outer child isn't taken
+    Run {
+        count: 9,
+        ends: &[(3, 1), (5, 0)],
+        joins: &[(5, 1)],
+        entered: &[],
+    },
+    // spawn, spawn, 5, return, sync, return, 10, sync
+    Run {
+        count: 8,
+        ends: &[(3, 1), (5, 0)],
+        joins: &[(4, 1)],
+        entered: &[],
+    },
+    // spawn, 4, return, 1, sync, spawn, 2, return, 5, sync
+    Run {
+        count: 10,
+        ends: &[(2, 0), (7, 5)],
+        joins: &[(4, 0)],
+        entered: &[0],
+    },
+    // spawn, 6, return, call, spawn, 5, return, 1, return, 2, sync
+    Run {
+        count: 11,
+        ends: &[(2, 0), (6, 4)],
+        joins: &[(8, 4)],
+        entered: &[4],
+    },
+    // with 9 in place of the 6 the path goes through the first child, and not through the call
+    Run {
+        count: 11,
+        ends: &[(2, 0), (6, 4)],
+        joins: &[(8, 4), (10, 0)],
+        entered: &[0],
+    },
+];
+
+#[test]
+fn the_path_enters_the_children_that_are_taken_on_it(rt: HostRuntime) -> Result<(), Fail> {
+    for (i, run) in RUNS.iter().enumerate() {
+        let spawns = entered(rt.alloc(), run.count, run.ends, run.joins)?;
+        assert_eq!(rt; spawns.as_slice(), run.entered, "run {i}");
+    }
+    Ok(())
+}

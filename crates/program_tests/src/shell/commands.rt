@@ -1,0 +1,45 @@
+//! A command over bytes in memory.
+
+use super::fakes::{dripping, empty_cup};
+use spp_cut::Parts;
+use spp_request::{Command, Request};
+use spp_shell::run;
+use std::alloc::Global;
+
+/// A request for this over standard input, with a burden of 3 and 16 parts.
+pub fn request_for(alloc: Global, command: Command) -> Request {
+    Request {
+        command,
+        files: Vec::new(alloc),
+        burden: 3,
+        parts: Parts::default(),
+        csv: false,
+    }
+}
+
+/// Runs the command on the bytes, and says whether it ended with this status, output and line of fault.
+pub fn command_ends_with(
+    alloc: Global,
+    command: Command,
+    bytes: &[u8],
+    ends: u8,
+    text: &[u8],
+    line: &[u8],
+) -> bool {
+    let request = request_for(alloc, command);
+    request_ends_with(alloc, &request, bytes, ends, text, line)
+}
+
+/// Runs the request on the bytes, and says the same.
+pub fn request_ends_with(
+    alloc: Global,
+    request: &Request,
+    bytes: &[u8],
+    ends: u8,
+    text: &[u8],
+    line: &[u8],
+) -> bool {
+    let (mut out, mut err) = (empty_cup(alloc, 1000), empty_cup(alloc, 100));
+    let got = run(alloc, request, &mut dripping(bytes), &mut out, &mut err);
+    got == ends && out.taken.as_slice() == text && err.taken.as_slice() == line
+}

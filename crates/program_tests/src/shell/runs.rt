@@ -1,0 +1,188 @@
+//! Whole runs: what goes out, what is told, and the status.
+
+use super::commands::{command_ends_with, request_for};
+use super::fakes::{Cup, dripping, empty_cup, failing};
+use spp_report::Sink;
+use spp_request::{Command, Request, UsageFault};
+use spp_shell::{refuse_input, run, show_usage, status};
+use std::alloc::{AllocError, Global};
+use std::test::Fail;
+
+/// A request to check standard input.
+fn check_input(alloc: Global) -> Request {
+    request_for(alloc, Command::Check)
+}
+
+/// A header of the functions `main` and `f`, the site `A` and two events.
+const HEADER: &[u8] = b"SPTRACE1\x00\x00\x00\x02\x00\x00\x00\x01\x00\x00\x00\x00\x00\x00\x00\x02\
+\x00\x04main\x00\x01f\x00\x01A";
+
+const STRAND: &[u8] = b"\x00\x00\x00\x00\x00\x00\x00\x00\xff\xff\xff\xff\xff\xff\xff\xff";
+
+const CALL: &[u8] = b"\x01\x00\x00\x00\x00\x00\x00\x00\x00\x00\x00\x01\x00\x00\x00\x00";
+
+const RETURN: &[u8] = b"\x03\x00\x00\x00\x00\x00\x00\x00\x00\x00\x00\x00\x00\x00\x00\x00";
+
+const OTHER_TAG: &[u8] = b"\x05\x00\x00\x00\x00\x00\x00\x00\x00\x00\x00\x00\x00\x00\x00\x00";
+
+/// The bytes of a trace with these two records.
+fn trace_of(alloc: Global, records: [&[u8]; 2]) -> Result<Vec<u8>, AllocError> {
+    let mut bytes = HEADER.to_vec(alloc)?;
+    bytes.extend_from_slice(records[0])?;
+    bytes.extend_from_slice(records[1])?;
+    Ok(bytes)
+}
+
+/// Whether `check` of the bytes ends with this status, output and line of fault.
+fn ends_with(alloc: Global, bytes: &[u8], ends: u8, text: &[u8], line: &[u8]) -> bool {
+    command_ends_with(alloc, Command::Check, bytes, ends, text, line)
+}
+
+#[test]
+fn a_good_trace_prints_its_work(rt: HostRuntime) -> Result<(), Fail> {
+    let bytes = trace_of(rt.alloc(), [STRAND, STRAND])?;
+    let text = b"work 36893488147419103230\n".as_slice();
+    assert!(rt; ends_with(rt.alloc(), bytes.as_slice(), 0, text, b"".as_slice()));
+    let bytes = trace_of(rt.alloc(), [CALL, RETURN])?;
+    let text = b"work 0\n".as_slice();
+    assert!(rt; ends_with(rt.alloc(), bytes.as_slice(), 0, text, b"".as_slice()));
+    Ok(())
+}
+
+/// Two records, and the line that tells what is wrong with a trace of them.
+const BAD_EVENTS: &[(&[u8], &[u8], &[u8])] = &[
+    (STRAND, RETURN, b"bad event 1: root return\n"),
+    (CALL, STRAND, b"bad event 2: unclosed 1\n"),
+    (CALL, OTHER_TAG, b"bad event 1: tag\n"),
+    (CALL, b"\x01", b"bad event 1: truncated\n"),
+];
+
+#[test]
+fn a_bad_trace_is_told_in_one_line(rt: HostRuntime) -> Result<(), Fail> {
+    for (first, second, line) in BAD_EVENTS {
+        let bytes = trace_of(rt.alloc(), [first, second])?;
+        assert!(rt; ends_with(rt.alloc(), bytes.as_slice(), 1, b"".as_slice(), line));
+    }
+    Ok(())
+}
+
+/// Bytes that are no header, and the line that tells it.
+const BAD_HEADERS: &[(&[u8], &[u8])] = &[
+    (b"", b"bad header: short\n"),
+    (b"SPTRACE2................", b"bad header: magic\n"),
+];
+
+#[test]
+fn a_bad_header_is_told_in_one_line(rt: HostRuntime) {
+    for (bytes, line) in BAD_HEADERS {
+        assert!(rt; ends_with(rt.alloc(), bytes, 1, b"".as_slice(), line));
+    }
+}
+
+#[test]
+fn an_output_that_fails_ends_with_status_3(rt: HostRuntime) -> Result<(), Fail> {
+    let bytes = trace_of(rt.alloc(), [CALL, RETURN])?;
+    for room in 0..7usize {
+        let (mut out, mut err) = (empty_cup(rt.alloc(), room), empty_cup(rt.alloc(), 100));
+        let mut first = dripping(bytes.as_slice());
+        let ends = run(
+            rt.alloc(),
+            &check_input(rt.alloc()),
+            &mut first,
+            &mut out,
+            &mut err,
+        );
+        assert_eq!(rt; ends, status::DEVICE);
+        assert_eq!(rt;
+            Some(out.taken.as_slice()),
+            b"work 0\n".as_slice().get(..room)
+        );
+        assert_eq!(rt; err.taken.as_slice(), b"cannot write output\n".as_slice());
+    }
+    Ok(())
+}
+
+#[test]
+fn an_input_that_fails_ends_with_status_3(rt: HostRuntime) -> Result<(), Fail> {
+    let bytes = trace_of(rt.alloc(), [CALL, RETURN])?;
+    for fails_at in [0, 1, 67, 68] {
+        let (mut out, mut err) = (empty_cup(rt.alloc(), 100), empty_cup(rt.alloc(), 100));
+        let mut first = failing(bytes.as_slice(), fails_at);
+        let ends = run(
+            rt.alloc(),
+            &check_input(rt.alloc()),
+            &mut first,
+            &mut out,
+            &mut err,
+        );
+        assert_eq!(rt; ends, status::DEVICE);
+        assert_eq!(rt; out.taken.len(), 0);
+        assert_eq!(rt; err.taken.as_slice(), b"cannot read input\n".as_slice());
+    }
+    Ok(())
+}
+
+#[test]
+fn a_device_for_faults_that_fails_changes_nothing_else(rt: HostRuntime) {
+    let (mut out, mut err) = (empty_cup(rt.alloc(), 100), empty_cup(rt.alloc(), 4));
+    let ends = run(
+        rt.alloc(),
+        &check_input(rt.alloc()),
+        &mut dripping(b"".as_slice()),
+        &mut out,
+        &mut err,
+    );
+    assert_eq!(rt; ends, status::BAD_INPUT);
+    assert_eq!(rt; out.taken.len(), 0);
+    assert_eq!(rt; err.failures(), 1);
+}
+
+/// A text that is shown.
+fn shown(alloc: Global, ends: u8) -> Result<UsageFault, AllocError> {
+    Ok(UsageFault::Shown {
+        text: "text\n".to_string(alloc)?,
+        status: ends,
+    })
+}
+
+/// Shows a fault, and says whether that ended with this status, output and line of fault.
+fn shows(
+    fault: UsageFault,
+    mut out: Cup,
+    mut err: Cup,
+    ends: u8,
+    text: &[u8],
+    line: &[u8],
+) -> bool {
+    let got = show_usage(fault, &mut out, &mut err);
+    got == ends && out.taken.as_slice() == text && err.taken.as_slice() == line
+}
+
+#[test]
+fn help_goes_to_the_output_and_the_rest_does_not(rt: HostRuntime) -> Result<(), Fail> {
+    let cup = || empty_cup(rt.alloc(), 100);
+    let (text, none) = (b"text\n".as_slice(), b"".as_slice());
+    assert!(rt; shows(shown(rt.alloc(), 0)?, cup(), cup(), 0, text, none));
+    assert!(rt; shows(shown(rt.alloc(), 2)?, cup(), cup(), 2, none, text));
+    let line = b"out of memory\n".as_slice();
+    assert!(rt; shows(UsageFault::Memory, cup(), cup(), 4, none, line));
+    let (part, line) = (b"te".as_slice(), b"cannot write output\n".as_slice());
+    assert!(rt;
+        shows(
+            shown(rt.alloc(), 0)?,
+            empty_cup(rt.alloc(), 2),
+            cup(),
+            3,
+            part,
+            line
+        )
+    );
+    Ok(())
+}
+
+#[test]
+fn an_input_that_cannot_be_opened_is_told(rt: HostRuntime) {
+    let mut err = empty_cup(rt.alloc(), 100);
+    assert_eq!(rt; refuse_input(&mut err), status::DEVICE);
+    assert_eq!(rt; err.taken.as_slice(), b"cannot open input\n".as_slice());
+}

@@ -1,0 +1,8 @@
+-- The recordings of small traces, for tests and examples.
+use Rattle.std.specs.Prelude.{List, [], ◌∷◌, map, codes, Ok}
+use Rattle.spp_event.specs.declared.records.Event.{Event}
+use Rattle.spp_event.specs.Recordings.{Recording}
+
+-- of the functions `main` and `f` and the site `A`, with these events
+abbrev pub sample : List Event → Recording
+sample events = record { funcs = codes "main" ∷ codes "f" ∷ []; sites = codes "A" ∷ []; root = 0; records = map (λ e. Ok e) events }

@@ -1,9 +1,0 @@
-use Rattle.std.proofs.Common.{arith, refl, ap}
-use Rattle.spp_site.specs.Table.{row_at}
-use Rattle.spp_site.proofs.Small.{small_empty, small_kept, small_fits, small_thirty}
-use Rattle.spp_report.proofs.tests.table_of.Goals as goal
-
-pub add-requires : goal.add-requires
-add-requires c =
-    let start = small_kept 0 c.new-table.result c.add_root.new.self (small_empty c.new-table.result c.new-table.ensures) (ap (λ t. t.sites) c.add_root.ensures) in
-    small_fits 0 30 (row_at c.add_root.new.self 0) _ (omega arith) (start 0) (small_thirty _ refl)
