@@ -1,55 +1,45 @@
 use spp_maxplus::{Burdens, ChildKind, Seg, State};
 
-/// A state after the return of a child that was spawned there.
-fn after_spawn(before: State, at: u32, weight: u128, burdens: Burdens) -> State {
-    let mut state = before;
-    state.receive(ChildKind::Spawned, at, weight, burdens);
-    state
-}
-
-/// A state after so many instructions more.
-fn after_strand(before: State, count: u128) -> State {
-    let mut state = before;
-    state.run(count);
-    state
-}
-
 #[test]
 fn a_child_and_a_longer_continuation(rt: HostRuntime) {
     let burdens = Burdens {
         continuation: 3,
         join: 5,
     };
-    let waiting = after_spawn(after_strand(State::start(), 1), 1, 10, burdens);
+    let mut state = State::start();
+    state.run(1);
+    state.receive(ChildKind::Spawned, 1, 10, burdens);
     assert_eq!(rt;
-        waiting,
+        state,
         State {
             spine: 4,
             child: Some((16, 1)),
         }
     );
-    assert_eq!(rt; after_strand(waiting, 4).taken(), Some(1));
-    assert_eq!(rt; after_strand(waiting, 4).close(), 16);
-    assert_eq!(rt; after_strand(waiting, 12).taken(), Some(1));
-    assert_eq!(rt; after_strand(waiting, 13).taken(), None);
-    assert_eq!(rt; after_strand(waiting, 13).close(), 17);
-    assert_eq!(rt; waiting.close_after(13), 17);
+    assert_eq!(rt; state.close_after(4), 16);
+    assert_eq!(rt; state.close_after(13), 17);
+    state.run(12);
+    assert_eq!(rt; state.taken(), Some(1));
+    assert_eq!(rt; state.close(), 16);
+    state.run(1);
+    assert_eq!(rt; state.taken(), None);
+    assert_eq!(rt; state.close(), 17);
 }
 
 #[test]
 fn the_earlier_of_equal_children(rt: HostRuntime) {
-    let one = after_spawn(State::start(), 0, 5, Burdens::default());
-    let two = after_spawn(one, 3, 5, Burdens::default());
-    assert_eq!(rt; two.child, Some((5, 0)));
-    assert_eq!(rt;
-        after_spawn(two, 6, 6, Burdens::default()).child,
-        Some((6, 6))
-    );
+    let mut state = State::start();
+    state.receive(ChildKind::Spawned, 0, 5, Burdens::default());
+    state.receive(ChildKind::Spawned, 3, 5, Burdens::default());
+    assert_eq!(rt; state.child, Some((5, 0)));
+    state.receive(ChildKind::Spawned, 6, 6, Burdens::default());
+    assert_eq!(rt; state.child, Some((6, 6)));
 }
 
 #[test]
 fn a_sync_joins_the_child(rt: HostRuntime) {
-    let mut state = after_spawn(State::start(), 0, 7, Burdens::default());
+    let mut state = State::start();
+    state.receive(ChildKind::Spawned, 0, 7, Burdens::default());
     state.run(2);
     state.wait();
     assert_eq!(rt;
