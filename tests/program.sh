@@ -168,6 +168,15 @@ judge 'rows of a million nested calls in parts' 0 "(root),1,0,1,5,5,1,5,5${lf}A,
 head -c 1000000 "$folder/nested" > "$folder/open"
 expect 'figures of frames left open' 1 '' "bad event *: truncated$lf" "$folder/open" figures
 
+# Numbers above 64 bits, in each form of a report.
+printf 'func f\nstrand 18446744073709551615\nstrand 18446744073709551615\n' | "$spprof" encode > "$folder/great"
+great=36893488147419103230
+expect 'a great work' 0 "work $great$lf" '' "$folder/great" check
+expect 'great figures' 0 "work $great${lf}span $great${lf}burdened $great${lf}parallelism 1.00*" '' "$folder/great" figures
+expect 'a great report' 0 "work $great$lf*1 $great *1 $great $great * (root)$lf*1 $great * (root)$lf" '' "$folder/great" profile
+expect 'great tables' 0 "name,*$lf(root),1,$great,1,$great,$great,1,$great,$great,1,$great,1,$great,$great,1,$great,$great$lf" '' \
+    "$folder/great" profile --csv
+
 # Texts and bytes, each made out of the other.
 gives() { # NAME FILE WORDS..: with the input `input`, the program writes just the bytes of the file
     local name=$1 file=$2
@@ -231,6 +240,9 @@ shown() { # NAME STATUS WORDS..: with these words the program tells just what th
 }
 shown help 0 --help
 shown help 0 -h
+for word in --version -V; do
+    expect "$word" 0 "spprof 0.1.0$lf" '' /dev/null $word
+done
 for command in check figures profile encode; do
     shown help_of_$command 0 $command --help
     shown help_of_$command 0 $command -h
@@ -273,6 +285,7 @@ for command in check figures profile; do
     (cd "$folder" && "$spprof" $command -- '-a b' > out 2> err)
     status=$?
     judge "$command of a file whose name begins with a dash" 0 'work 17*' ''
+    expect "$command of standard input as -" 0 'work 17*' '' "$small" $command -
 done
 expect 'a word that is no UTF-8' 2 '' "error: an argument is not UTF-8 text$lf" /dev/null $'\377'
 "$spprof" --help > /dev/full 2> "$folder/err"

@@ -4,17 +4,15 @@
 
 ghost use Rattle.std.specs.Prelude.{◌≡◌};
 
-use spp_command_line::read_request;
 use spp_cut::Parts;
 use spp_dag::Figures;
-use spp_event::{HeaderFault, open_trace};
+use spp_event::{HeaderFault, Trace, open_trace};
 use spp_frame::{ProfileFault, check};
 use spp_maxplus::Burdens;
 use spp_reference::profile;
-use spp_report::{Named, OutSink, csv_text, figures_text, plain_text};
-use spp_request::{Command, Request, UsageFault};
+use spp_report::{Named, csv_text, figures_text, plain_text};
 use spp_serial::profile_serial;
-use spp_shell::{InSource, ReadFault, read_all, read_within, run};
+use spp_shell::{InSource, ReadFault, read_all, read_within};
 use spp_site::{Profile, Table};
 use spp_summary::figures_in_parts;
 use spp_text::{PrintFault, TextFault, TextWhy, parse_text, print_text};
@@ -76,6 +74,22 @@ enum Answer {
     Memory,
 }
 
+/// The trace of these bytes, or what to answer where they don't open.
+fn trace_in(alloc: Global, bytes: &[u8]) -> Result<Trace<'_>, Answer> {
+    match open_trace(alloc, bytes) {
+        Ok(trace) => Ok(trace),
+        Err(HeaderFault::Memory) => Err(Answer::Memory),
+        Err(_) => Err(Answer::Other),
+    }
+}
+
+/// The answer of a call, or what was answered before it.
+fn first(answer: Result<Answer, Answer>) -> Answer {
+    match answer {
+        Ok(answer) | Err(answer) => answer,
+    }
+}
+
 fn opened(alloc: Global) -> Answer {
     match open_trace(alloc, TRACE) {
         Ok(trace) if check(&trace) == Ok(17) => Answer::Good,
@@ -84,17 +98,13 @@ fn opened(alloc: Global) -> Answer {
     }
 }
 
-fn printed(alloc: Global) -> Answer {
-    let trace = match open_trace(alloc, TRACE) {
-        Ok(trace) => trace,
-        Err(HeaderFault::Memory) => return Answer::Memory,
-        Err(_) => return Answer::Other,
-    };
-    match print_text(alloc, &trace) {
+fn printed(alloc: Global) -> Result<Answer, Answer> {
+    let trace = trace_in(alloc, TRACE)?;
+    Ok(match print_text(alloc, &trace) {
         Ok(text) if text.as_str() == TEXT => Answer::Good,
         Err(PrintFault::Memory) => Answer::Memory,
         _ => Answer::Other,
-    }
+    })
 }
 
 fn parsed(alloc: Global) -> Answer {
@@ -110,17 +120,13 @@ fn parsed(alloc: Global) -> Answer {
     }
 }
 
-fn profiled(alloc: Global) -> Answer {
-    let trace = match open_trace(alloc, NESTED) {
-        Ok(trace) => trace,
-        Err(HeaderFault::Memory) => return Answer::Memory,
-        Err(_) => return Answer::Other,
-    };
-    match profile_serial(alloc, &trace, Burdens::equal(3)) {
+fn profiled(alloc: Global) -> Result<Answer, Answer> {
+    let trace = trace_in(alloc, NESTED)?;
+    Ok(match profile_serial(alloc, &trace, Burdens::equal(3)) {
         Ok(profile) if profile.dag.row(0).count == 1 => Answer::Good,
         Err(ProfileFault::Memory) => Answer::Memory,
         _ => Answer::Other,
-    }
+    })
 }
 
 /// The profile that is told.
@@ -138,53 +144,43 @@ fn without_rows(alloc: Global) -> Profile
     }
 }
 
-fn summed(alloc: Global) -> Answer {
-    let trace = match open_trace(alloc, NESTED) {
-        Ok(trace) => trace,
-        Err(HeaderFault::Memory) => return Answer::Memory,
-        Err(_) => return Answer::Other,
-    };
+fn summed(alloc: Global) -> Result<Answer, Answer> {
+    let trace = trace_in(alloc, NESTED)?;
     let named = Named {
         trace: &trace,
         profile: &without_rows(alloc),
     };
-    match csv_text(alloc, &named) {
+    Ok(match csv_text(alloc, &named) {
         Ok(text) if text.as_slice() == NO_ROWS.as_bytes() => Answer::Good,
         Ok(_) => Answer::Other,
         Err(_) => Answer::Memory,
-    }
+    })
 }
 
-fn reported(alloc: Global) -> Answer {
-    let trace = match open_trace(alloc, NESTED) {
-        Ok(trace) => trace,
-        Err(HeaderFault::Memory) => return Answer::Memory,
-        Err(_) => return Answer::Other,
-    };
+fn reported(alloc: Global) -> Result<Answer, Answer> {
+    let trace = trace_in(alloc, NESTED)?;
     let named = Named {
         trace: &trace,
         profile: &without_rows(alloc),
     };
-    match plain_text(alloc, &named) {
+    Ok(match plain_text(alloc, &named) {
         Ok(text) if text.as_slice() == REPORT.as_bytes() => Answer::Good,
         Ok(_) => Answer::Other,
         Err(_) => Answer::Memory,
-    }
+    })
 }
 
 /// The figures of the nested trace, by way of a part for each of its two events.
-fn measured_in_parts(alloc: Global) -> Answer {
-    let trace = match open_trace(alloc, NESTED) {
-        Ok(trace) => trace,
-        Err(HeaderFault::Memory) => return Answer::Memory,
-        Err(_) => return Answer::Other,
-    };
+fn measured_in_parts(alloc: Global) -> Result<Answer, Answer> {
+    let trace = trace_in(alloc, NESTED)?;
     let parts = Parts::new(2).unwrap_or_default();
-    match figures_in_parts(alloc, &trace, Burdens::equal(3), parts) {
-        Ok(figures) if figures.burdened == 0 => Answer::Good,
-        Err(ProfileFault::Memory) => Answer::Memory,
-        _ => Answer::Other,
-    }
+    Ok(
+        match figures_in_parts(alloc, &trace, Burdens::equal(3), parts) {
+            Ok(figures) if figures.burdened == 0 => Answer::Good,
+            Err(ProfileFault::Memory) => Answer::Memory,
+            _ => Answer::Other,
+        },
+    )
 }
 
 fn told(alloc: Global) -> Answer {
@@ -200,17 +196,13 @@ fn told(alloc: Global) -> Answer {
     }
 }
 
-fn referred(alloc: Global) -> Answer {
-    let trace = match open_trace(alloc, NESTED) {
-        Ok(trace) => trace,
-        Err(HeaderFault::Memory) => return Answer::Memory,
-        Err(_) => return Answer::Other,
-    };
-    match profile(alloc, &trace, Burdens::equal(3)) {
+fn referred(alloc: Global) -> Result<Answer, Answer> {
+    let trace = trace_in(alloc, NESTED)?;
+    Ok(match profile(alloc, &trace, Burdens::equal(3)) {
         Ok(told) if told.path.as_slice() == [0, 1, 2].as_slice() => Answer::Good,
         Err(ProfileFault::Memory) => Answer::Memory,
         _ => Answer::Other,
-    }
+    })
 }
 
 /// Words behind the first of an event's line, more than are kept without memory.
@@ -240,60 +232,19 @@ fn of_reading(answer: Result<Vec<u8>, ReadFault>) -> Answer {
     }
 }
 
-fn requested(alloc: Global) -> Answer {
-    match read_request(alloc, ["spprof", "check"].as_slice()) {
-        Ok(_) => Answer::Good,
-        Err(UsageFault::Memory) => Answer::Memory,
-        Err(_) => Answer::Other,
-    }
-}
-
-fn refused(alloc: Global) -> Answer {
-    match read_request(alloc, ["spprof", "--nothing"].as_slice()) {
-        Err(UsageFault::Shown { text: _, status: 2 }) => Answer::Good,
-        Err(UsageFault::Memory) => Answer::Memory,
-        _ => Answer::Other,
-    }
-}
-
-/// A run on the bytes, over devices in memory of which the output has room for every answer.
-fn ran(alloc: Global, command: Command, csv: bool, bytes: &[u8], wanted: u8) -> Answer {
-    let request = Request {
-        command,
-        files: Vec::new(alloc),
-        burden: 3,
-        parts: Parts::default(),
-        csv,
-    };
-    let (mut text, mut line) = ([0u8; 1024], [0u8; 64]);
-    let mut out = OutSink::new(text.as_mut_slice());
-    let mut err = OutSink::new(line.as_mut_slice());
-    match run(
-        alloc,
-        &request,
-        &mut InSource::new(bytes),
-        &mut out,
-        &mut err,
-    ) {
-        4 => Answer::Memory,
-        status if status == wanted => Answer::Good,
-        _ => Answer::Other,
-    }
-}
-
 fn main(rt: HostRuntime) -> io::Result<()> {
     let alloc = rt.alloc();
     for _ in 0..2 {
         println!(rt; "open_trace: {:?}", opened(alloc))?;
-        println!(rt; "print_text: {:?}", printed(alloc))?;
+        println!(rt; "print_text: {:?}", first(printed(alloc)))?;
         println!(rt; "parse_text: {:?}", parsed(alloc))?;
         println!(rt; "parse_text, a fault: {:?}", misparsed(alloc))?;
-        println!(rt; "figures_in_parts: {:?}", measured_in_parts(alloc))?;
-        println!(rt; "profile_serial: {:?}", profiled(alloc))?;
-        println!(rt; "csv_text: {:?}", summed(alloc))?;
-        println!(rt; "plain_text: {:?}", reported(alloc))?;
+        println!(rt; "figures_in_parts: {:?}", first(measured_in_parts(alloc)))?;
+        println!(rt; "profile_serial: {:?}", first(profiled(alloc)))?;
+        println!(rt; "csv_text: {:?}", first(summed(alloc)))?;
+        println!(rt; "plain_text: {:?}", first(reported(alloc)))?;
         println!(rt; "figures_text: {:?}", told(alloc))?;
-        println!(rt; "the reference's profile: {:?}", referred(alloc))?;
+        println!(rt; "the reference's profile: {:?}", first(referred(alloc)))?;
         println!(rt;
             "read_all: {:?}",
             of_reading(read_all(alloc, &mut InSource::new(TRACE)))
@@ -302,24 +253,6 @@ fn main(rt: HostRuntime) -> io::Result<()> {
             "read_within: {:?}",
             of_reading(read_within(alloc, &mut InSource::new(TRACE), 100, 2))
         )?;
-        println!(rt; "read_request, check: {:?}", requested(alloc))?;
-        println!(rt; "read_request, a fault: {:?}", refused(alloc))?;
-        for (name, command, bytes, wanted) in [
-            ("a good trace", Command::Check, TRACE, 0),
-            ("figures of a good trace", Command::Figures, NESTED, 0),
-            ("figures of a bad trace", Command::Figures, &TRACE[..60], 1),
-            ("a report", Command::Profile, NESTED, 0),
-            ("a bad header", Command::Check, &TRACE[..23], 1),
-            ("a bad event", Command::Check, &TRACE[..60], 1),
-            ("a good text", Command::Encode, TEXT.as_bytes(), 0),
-            ("a bad text", Command::Encode, b"sync".as_slice(), 1),
-            ("no text", Command::Encode, b"\xff".as_slice(), 1),
-        ] {
-            let answer = ran(alloc, command, false, bytes, wanted);
-            println!(rt; "run, {name}: {answer:?}")?;
-        }
-        let tables = ran(alloc, Command::Profile, true, NESTED, 0);
-        println!(rt; "run, tables alone: {tables:?}")?;
     }
     Ok(())
 }

@@ -22,25 +22,34 @@ fn thousand(alloc: Global) -> Result<Vec<Event>, AllocError> {
     Ok(events)
 }
 
-/// What the figures of a cut trace are with a burden of 3; none where it has no part.
-fn figures_of(alloc: Global, cut: &Cut<'_, '_>) -> Option<Result<Figures, ProfileFault>> {
-    if cut.parts().is_empty() {
-        return None;
-    }
+/// What the figures of a cut trace are with a burden of 3.
+fn figures_of(alloc: Global, cut: &Cut<'_, '_>) -> Result<Figures, ProfileFault> {
     match survey(alloc, cut, Burdens::equal(3)) {
-        Ok(found) => Some(Ok(found.whole)),
-        Err(fault) => Some(Err(fault)),
+        Ok(found) => Ok(found.whole),
+        Err(fault) => Err(fault),
     }
 }
 
 /// The open frames where the parts of a cut trace begin; none where it isn't well-formed or no memory was left.
 fn stacks_of(alloc: Global, cut: &Cut<'_, '_>) -> Option<Entries> {
-    let count = cut.parts().len();
-    if count == 0 || count > 65536 {
-        return None;
-    }
     let found = survey(alloc, cut, Burdens::equal(3)).ok()?;
     entries(alloc, cut.trace().root(), &found.each).ok()
+}
+
+/// The same where the trace of these events is cut at these positions.
+fn stacks_at(alloc: Global, events: &[Event], cuts: &[u32]) -> Option<Entries> {
+    let bytes = trace_of(alloc, events).ok()?;
+    let trace = open_trace(alloc, &bytes).ok()?;
+    let cut = cut_at(alloc, &trace, cuts).ok()?;
+    stacks_of(alloc, &cut)
+}
+
+/// The same where it is cut into so many even parts.
+fn stacks_in(alloc: Global, events: &[Event], parts: u32) -> Option<Entries> {
+    let bytes = trace_of(alloc, events).ok()?;
+    let trace = open_trace(alloc, &bytes).ok()?;
+    let cut = cut_even(alloc, &trace, Parts::new(parts)?).ok()?;
+    stacks_of(alloc, &cut)
 }
 
 /// Up to ten frames where part `k` begins, the innermost first, with their number but the root and the work before.
@@ -120,10 +129,7 @@ fn begins_with(
 #[test]
 fn marks_are_judged_on_the_whole_trace(rt: HostRuntime) -> Result<(), Fail> {
     let alloc = rt.alloc();
-    let bytes = trace_of(alloc, &CALLS)?;
-    let trace = open_trace(alloc, &bytes)?;
-    let cut = cut_at(alloc, &trace, &[1, 2, 3, 4, 5, 6, 7, 8])?;
-    let Some(stacks) = stacks_of(alloc, &cut) else {
+    let Some(stacks) = stacks_at(alloc, &CALLS, &[1, 2, 3, 4, 5, 6, 7, 8]) else {
         return Err(AllocError.into());
     };
     let frames = [
@@ -139,10 +145,7 @@ fn marks_are_judged_on_the_whole_trace(rt: HostRuntime) -> Result<(), Fail> {
 #[test]
 fn a_frame_lives_on_in_later_parts(rt: HostRuntime) -> Result<(), Fail> {
     let alloc = rt.alloc();
-    let bytes = trace_of(alloc, &FORK)?;
-    let trace = open_trace(alloc, &bytes)?;
-    let cut = cut_at(alloc, &trace, &[2, 4, 6])?;
-    let Some(stacks) = stacks_of(alloc, &cut) else {
+    let Some(stacks) = stacks_at(alloc, &FORK, &[2, 4, 6]) else {
         return Err(AllocError.into());
     };
     let waiting = State {
@@ -161,11 +164,7 @@ fn a_frame_lives_on_in_later_parts(rt: HostRuntime) -> Result<(), Fail> {
 #[test]
 fn stacks_share_their_frames(rt: HostRuntime) -> Result<(), Fail> {
     let alloc = rt.alloc();
-    let bytes = trace_of(alloc, &thousand(alloc)?)?;
-    let trace = open_trace(alloc, &bytes)?;
-    let parts = Parts::new(3000).unwrap_or_default();
-    let cut = cut_even(alloc, &trace, parts)?;
-    let Some(stacks) = stacks_of(alloc, &cut) else {
+    let Some(stacks) = stacks_in(alloc, &thousand(alloc)?, 3000) else {
         return Err(AllocError.into());
     };
     assert!(rt; stacks.nodes().len() <= 4001);
@@ -198,7 +197,7 @@ fn comes_to(
     };
     let parts = Parts::new(trace.count().clamp(1, Parts::MOST)).unwrap_or_default();
     let cut = cut_even(alloc, &trace, parts)?;
-    Ok(figures_of(alloc, &cut) == Some(end))
+    Ok(figures_of(alloc, &cut) == end)
 }
 
 #[test]
@@ -231,10 +230,6 @@ fn told_in_parts(alloc: Global, events: &[Event]) -> Option<Tabled> {
     let trace = open_trace(alloc, &bytes).ok()?;
     let parts = Parts::new(trace.count().clamp(1, Parts::MOST))?;
     let cut = cut_even(alloc, &trace, parts).ok()?;
-    let count = cut.parts().len();
-    if count == 0 || count > 65536 {
-        return None;
-    }
     table_in_parts(alloc, &cut).ok()
 }
 
@@ -363,10 +358,7 @@ fn a_child_still_waits_at_the_end(rt: HostRuntime) -> Result<(), Fail> {
     let alloc = rt.alloc();
     let events = [SPAWN, S7, RET, S2];
     assert!(rt; has_choices(alloc, &events, &[End { at: 2, spawn: 0 }], &[]));
-    let bytes = trace_of(alloc, &events)?;
-    let trace = open_trace(alloc, &bytes)?;
-    let cut = cut_at(alloc, &trace, &[1, 2, 3])?;
-    let Some(stacks) = stacks_of(alloc, &cut) else {
+    let Some(stacks) = stacks_at(alloc, &events, &[1, 2, 3]) else {
         return Err(AllocError.into());
     };
     let waiting = State {

@@ -1,7 +1,7 @@
-use crate::worked::{BAD, CALLS, FORK, GOOD};
+use crate::worked::{BAD, CALLS, FORK, GOOD, S1};
 use spp_dag::Figures;
-use spp_event::{Event, open_trace, trace_of};
-use spp_frame::ProfileFault;
+use spp_event::{Event, EventFault, open_trace, trace_of};
+use spp_frame::{Fault, ProfileFault, Why};
 use spp_maxplus::Burdens;
 use spp_serial::profile_serial;
 use spp_site::Row;
@@ -72,6 +72,22 @@ fn a_bad_run_has_no_profile(rt: HostRuntime) -> Result<(), Fail> {
             "run {i}"
         );
     }
+    Ok(())
+}
+
+#[test]
+fn a_bad_record_has_no_profile(rt: HostRuntime) -> Result<(), Fail> {
+    let mut bytes = trace_of(rt.alloc(), &[S1, S1, S1])?;
+    bytes.truncate(bytes.len().saturating_sub(9));
+    let Ok(trace) = open_trace(rt.alloc(), bytes.as_slice()) else {
+        return Err("it opens".into());
+    };
+    let told = profile_serial(rt.alloc(), &trace, Burdens::equal(3)).err();
+    let fault = Fault {
+        at: 2,
+        why: Why::Event(EventFault::Truncated),
+    };
+    assert_eq!(rt; told, Some(ProfileFault::Bad(fault)));
     Ok(())
 }
 

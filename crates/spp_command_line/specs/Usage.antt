@@ -1,5 +1,6 @@
--- How a program ends whose words are no request.
-use Rattle.std.specs.Prelude.{◌≡◌, ◌⊎◌}
+-- What a request has of the words, and how a program ends whose words are no request.
+use Rattle.std.specs.Prelude.{◌≡◌, ◌⊎◌, ℕ, List, [], ◌∷◌, Option, Some, None, cond, codes}
+use Rattle.std.specs.Str.{bytes_eq}
 use Rattle.spp_request.specs.declared.request.UsageFault.{UsageFault}
 use Rattle.spp_request.specs.declared.request.UsageFault.TheVariants.{Shown, Memory}
 
@@ -7,3 +8,8 @@ use Rattle.spp_request.specs.declared.request.UsageFault.TheVariants.{Shown, Mem
 abbrev pub EndsByUsage : UsageFault → Type 0
 EndsByUsage (Shown text status) = (status ≡ 0) ⊎ (status ≡ 2)
 EndsByUsage Memory = Unit {0}
+
+-- the files of a request: none where no file is named, or `-`
+abbrev pub paths_of : Option (List ℕ) → List (List ℕ)
+paths_of None = []
+paths_of (Some path) = cond (bytes_eq path (codes "-")) [] (path ∷ [])

@@ -6,6 +6,8 @@ use std::alloc::{AllocError, Global};
 
 const ABOUT: &str = "A call-site profiler for recorded fork-join runs";
 
+const VERSION: &str = "0.1.0";
+
 /// The burden where none is given, in instructions.
 pub(crate) const DEFAULT_BURDEN: u32 = 15000;
 
@@ -21,6 +23,9 @@ const STATUSES: &str = "Exit status:
   2  the command line is wrong
   3  a file or stream could not be read or written
   4  out of memory";
+
+/// The help for the file of a command over a trace.
+const THE_TRACE: &str = "The trace; without it, or as -, standard input is read";
 
 /// A command over one input, and the help for its file.
 fn command_over<'a>(
@@ -43,7 +48,7 @@ fn burden<'a>(alloc: Global) -> Arg<'a> {
         .value_name("N")
         .value_parser(value_parser!(u32))
         .default_value(DEFAULT_BURDEN_WORD)
-        .help("Instructions that a stolen continuation costs")
+        .help("Instructions that each edge past a spawned child and each edge of its return bears")
 }
 
 /// Into how many parts the trace is cut.
@@ -59,47 +64,64 @@ fn parts<'a>(alloc: Global) -> Arg<'a> {
         )
 }
 
-/// The whole command line. It lives as long as the words that it is to read.
-pub(crate) fn command_line<'a>(alloc: Global) -> Result<Command<'a>, AllocError> {
-    let check = command_over(
+/// Whether the values of the tables are asked for alone.
+fn csv<'a>(alloc: Global) -> Arg<'a> {
+    Arg::new(alloc, "csv")
+        .long("csv")
+        .action(ArgAction::SetTrue)
+        .help("Print the tables alone, as comma-separated values")
+}
+
+fn check<'a>(alloc: Global) -> Result<Command<'a>, AllocError> {
+    command_over(
         alloc,
         "check",
         "Check a trace, and print its work",
-        "The trace; without it standard input is read",
-    )?;
-    let figures = command_over(
+        THE_TRACE,
+    )
+}
+
+fn figures<'a>(alloc: Global) -> Result<Command<'a>, AllocError> {
+    command_over(
         alloc,
         "figures",
         "Print the work, the span and the burdened span of a run",
-        "The trace; without it standard input is read",
+        THE_TRACE,
     )?
     .arg(burden(alloc))?
-    .arg(parts(alloc))?;
-    let csv = Arg::new(alloc, "csv")
-        .long("csv")
-        .action(ArgAction::SetTrue)
-        .help("Print comma-separated values alone");
-    let profile = command_over(
+    .arg(parts(alloc))
+}
+
+fn profile<'a>(alloc: Global) -> Result<Command<'a>, AllocError> {
+    command_over(
         alloc,
         "profile",
-        "Print a table of the call sites of a run, as comma-separated values",
-        "The trace; without it standard input is read",
+        "Print the figures of a run and two tables of its call sites",
+        THE_TRACE,
     )?
     .arg(burden(alloc))?
-    .arg(csv)?;
-    let encode = command_over(
+    .arg(csv(alloc))
+}
+
+fn encode<'a>(alloc: Global) -> Result<Command<'a>, AllocError> {
+    command_over(
         alloc,
         "encode",
         "Read a trace as text, and write its bytes",
-        "The text; without it standard input is read",
-    )?;
+        "The text; without it, or as -, standard input is read",
+    )
+}
+
+/// The whole command line. It lives as long as the words that it is to read.
+pub(crate) fn command_line<'a>(alloc: Global) -> Result<Command<'a>, AllocError> {
     Command::new(alloc, "spprof")
         .about(ABOUT)
+        .version(VERSION)
         .after_help(STATUSES)
         .subcommand_required(true)
         .disable_help_subcommand(true)
-        .subcommand(check)?
-        .subcommand(figures)?
-        .subcommand(profile)?
-        .subcommand(encode)
+        .subcommand(check(alloc)?)?
+        .subcommand(figures(alloc)?)?
+        .subcommand(profile(alloc)?)?
+        .subcommand(encode(alloc)?)
 }

@@ -1,6 +1,8 @@
 //! Reading the words of a command line.
-ghost use Rattle.std.specs.Prelude.{IfErr, IfOk};
-ghost use Rattle.spp_command_line.specs.Usage.{EndsByUsage};
+ghost use Rattle.std.specs.Prelude.{◌≡◌, IfErr, IfOk, map};
+ghost use Rattle.std.specs.Option.{option_map};
+ghost use Rattle.std.specs.String.{string_bytes};
+ghost use Rattle.spp_command_line.specs.Usage.{EndsByUsage, paths_of};
 
 use crate::command_line::{DEFAULT_BURDEN, command_line};
 use clap::Error;
@@ -44,6 +46,40 @@ fn no_command(alloc: Global) -> Result<UsageFault, AllocError>
     })
 }
 
+/// The request of what `clap` found. A file named `-` is standard input, as is none.
+///
+/// # Errors
+///
+/// Where an allocation was refused.
+fn request_of(
+    alloc: Global,
+    command: Command,
+    file: Option<&str>,
+    burden: u32,
+    parts: Parts,
+    csv: bool,
+) -> Result<Request, AllocError>
+    ensures command { IfOk result (λ r. r.command ≡ command) }
+    ensures files { IfOk result (λ r. map string_bytes r.files.items ≡ paths_of (option_map (λ f. f.now) file.entry)) }
+    ensures burden { IfOk result (λ r. r.burden ≡ burden) }
+    ensures parts { IfOk result (λ r. r.parts ≡ parts) }
+    ensures csv { IfOk result (λ r. r.csv ≡ csv) }
+{
+    let mut files = Vec::new(alloc);
+    if let Some(path) = file {
+        if path != "-" {
+            files.push(path.to_string(alloc)?)?;
+        }
+    }
+    Ok(Request {
+        command,
+        files,
+        burden,
+        parts,
+        csv,
+    })
+}
+
 /// Reads a request from the words of a command line, of which the first is the program's name. The texts of help
 /// and usage are those of `clap`, and which words give which request is shown by tests alone.
 ///
@@ -63,17 +99,14 @@ pub fn read_request<S: AsStr>(alloc: Global, words: &[S]) -> Result<Request, Usa
     let Some(command) = command_of(name) else {
         return Err(no_command(alloc)?);
     };
-    let mut files = Vec::new(alloc);
-    if let Some(path) = given.get_str("FILE") {
-        files.push(path.to_string(alloc)?)?;
-    }
     let burden = given.get_one::<u32>("burden").unwrap_or(DEFAULT_BURDEN);
     let parts = given.get_one::<u32>("parts").and_then(Parts::new);
-    Ok(Request {
+    Ok(request_of(
+        alloc,
         command,
-        files,
+        given.get_str("FILE"),
         burden,
-        parts: parts.unwrap_or_default(),
-        csv: given.get_flag("csv"),
-    })
+        parts.unwrap_or_default(),
+        given.get_flag("csv"),
+    )?)
 }

@@ -1,5 +1,5 @@
 -- A part of a trace, and the parts of a cut.
-use Rattle.std.specs.Prelude.{◌≡◌, ℕ, suc, ◌+◌, List, [], ◌∷◌, length, take, drop}
+use Rattle.std.specs.Prelude.{◌≡◌, ℕ, suc, ◌+◌, ◌<◌, ◌≤◌, List, [], ◌∷◌, length, take, drop}
 use Rattle.spp_event.specs.Recordings.{Record, Recording}
 
 -- `count` events of a trace, from position `first` on; `number` parts come before this one
@@ -31,3 +31,7 @@ pub record CutOf : Type 0 where
 -- the parts hold all events of the trace, in order and each once
 abbrev pub IsCut : CutOf → Type 0
 IsCut c = Cover c.trace 0 0 c.parts (length c.trace.records)
+
+-- there is a part, and there are no more than 65,536
+abbrev pub HasFewParts : CutOf → Type 0
+HasFewParts c = (0 < length c.parts) × (length c.parts ≤ 65536)

@@ -1,7 +1,7 @@
 //! Cutting a trace into parts.
 
 ghost use Rattle.std.specs.Prelude.{◌≡◌, ◌-◌, ◌<◌, ◌≤◌, ◌∷◌, ◌++◌, [], flat_map, length, IfOk, IfErr, OnOk, Some};
-ghost use Rattle.spp_cut.specs.Parts.{IsCut, part_of, records_in};
+ghost use Rattle.spp_cut.specs.Parts.{IsCut, HasFewParts, part_of, records_in};
 ghost use Rattle.spp_cut.specs.Cuts.{AreEven, BeginAt, AreGoodTo, IsCutFault};
 ghost use Rattle.spp_cut.specs.Texts.{cut_fault_text};
 ghost use Rattle.spp_cut.specs.declared.cutting.CutFault.TheVariants.{Memory as MemoryFault};
@@ -10,14 +10,14 @@ use crate::part::Part;
 use crate::parts::Parts;
 use spp_event::Trace;
 use std::alloc::{AllocError, Global};
-use std::error::Error;
 use std::fmt;
 use std::marker::Model;
+use thiserror::Error;
 
 /// The most cuts: one less than the most parts.
 const MOST_CUTS: usize = 65535;
 
-/// A trace, and parts of it that hold its events in order, each once.
+/// A trace, and 1 to 65,536 parts of it that hold its events in order, each once.
 #[derive(Drop)]
 pub struct Cut<'t, 'a> {
     trace: &'t Trace<'a>,
@@ -25,13 +25,15 @@ pub struct Cut<'t, 'a> {
 }
 
 impl<'t, 'a> Model for Cut<'t, 'a> {
-    ghost use Rattle.spp_cut.specs.Parts.{CutOf, IsCut};
+    ghost use Rattle.spp_cut.specs.Parts.{CutOf, IsCut, HasFewParts};
 
     ghost Value = { CutOf };
 
     ghost view = { λ c. record { trace = c.trace.now; parts = c.parts.items } };
 
-    ghost invariant = { λ c. IsCut (record { trace = c.trace.now; parts = c.parts.items }) };
+    ghost invariant = { λ c.
+        IsCut (record { trace = c.trace.now; parts = c.parts.items })
+        × HasFewParts (record { trace = c.trace.now; parts = c.parts.items }) };
 }
 
 impl<'t, 'a> Cut<'t, 'a> {
@@ -42,10 +44,11 @@ impl<'t, 'a> Cut<'t, 'a> {
         self.trace
     }
 
-    /// Its parts, in order. Its clause `all` gives out that they hold all its events, each once.
+    /// Its parts, in order: 1 to 65,536. Its clause `all` gives out that they hold all its events, each once.
     #[tactic(auto, using(crate::proofs::Whole::all_records))]
     pub fn parts(&self) -> &[Part<'t, 'a>]
         ensures parts { result.now ≡ self.now.parts }
+        ensures few { HasFewParts self.now }
         ensures cut { IsCut self.now }
         ensures all { flat_map records_in self.now.parts ≡ self.now.trace.records }
     {
@@ -54,7 +57,7 @@ impl<'t, 'a> Cut<'t, 'a> {
 }
 
 /// Why a trace isn't cut.
-#[derive(Clone, Copy, Debug, PartialEq, Eq)]
+#[derive(Clone, Copy, Debug, Error, PartialEq, Eq)]
 pub enum CutFault {
     /// There are more than 65,535 cuts.
     TooMany,
@@ -84,8 +87,6 @@ impl fmt::Display for CutFault {
         }
     }
 }
-
-impl Error for CutFault {}
 
 impl From<AllocError> for CutFault {
     ghost from_gives = { λ _ e. e ≡ MemoryFault };

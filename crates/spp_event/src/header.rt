@@ -14,13 +14,13 @@ use crate::names::{is_name, is_root_name};
 use crate::traces::Trace;
 use std::alloc::{AllocError, AllocFailed, Global};
 use std::collections::BTreeSet;
-use std::error::Error;
 use std::fmt;
+use thiserror::Error;
 
 /// Why bytes open as no trace: what is wrong first, or want of memory.
 ///
 /// Names are numbered on: function names from 0, then site names from the number of functions.
-#[derive(Clone, Copy, Debug, PartialEq, Eq)]
+#[derive(Clone, Copy, Debug, Error, PartialEq, Eq)]
 pub enum HeaderFault {
     /// The bytes end within the header.
     Short,
@@ -62,8 +62,6 @@ impl fmt::Display for HeaderFault {
         }
     }
 }
-
-impl Error for HeaderFault {}
 
 impl From<AllocError> for HeaderFault {
     ghost from_gives = { λ _ e. e ≡ Memory };

@@ -4,8 +4,8 @@ ghost use Rattle.std.specs.Prelude.{◌≡◌, IfOk, Some};
 ghost use Rattle.spp_event.specs.Records.{spelling, read_record, event_in, IsEvent, IsEventOf};
 ghost use Rattle.spp_event.specs.Texts.{event_fault_text};
 
-use std::error::Error;
 use std::fmt;
+use thiserror::Error;
 
 /// One event of a recorded fork-join run, in serial order: after a spawn come the events of the child, its
 /// return, and then the continuation of its parent (Cilk's depth-first order).
@@ -37,7 +37,7 @@ pub enum Event {
 }
 
 /// What is wrong with a record: the first of these checks, in this order, that fails.
-#[derive(Clone, Copy, Debug, PartialEq, Eq)]
+#[derive(Clone, Copy, Debug, Error, PartialEq, Eq)]
 pub enum EventFault {
     /// The bytes end before the record's sixteenth byte.
     Truncated,
@@ -64,8 +64,6 @@ impl fmt::Display for EventFault {
         }
     }
 }
-
-impl Error for EventFault {}
 
 /// The one spelling of an event, as bytes of a trace of version 1.
 pub fn record_of(event: Event) -> [u8; 16]

@@ -9,11 +9,11 @@ mod profile_fault;
 
 pub use profile_fault::ProfileFault;
 use spp_event::{Event, EventFault, Trace};
-use std::error::Error;
 use std::fmt;
+use thiserror::Error;
 
 /// What is wrong at a position of a trace.
-#[derive(Clone, Copy, Debug, PartialEq, Eq)]
+#[derive(Clone, Copy, Debug, Error, PartialEq, Eq)]
 pub enum Why {
     /// The record spells no event of the trace.
     Event(EventFault),
@@ -27,7 +27,7 @@ pub enum Why {
 }
 
 /// The first bad event of a trace that isn't well-formed.
-#[derive(Clone, Copy, Debug, PartialEq, Eq)]
+#[derive(Clone, Copy, Debug, Error, PartialEq, Eq)]
 pub struct Fault {
     /// Its position, from 0. The end of the trace is the position after the last event.
     pub at: u32,
@@ -47,8 +47,6 @@ impl fmt::Display for Why {
     }
 }
 
-impl Error for Why {}
-
 impl fmt::Display for Fault {
     ghost output = { λ f. Some (fault_text f) };
 
@@ -57,8 +55,6 @@ impl fmt::Display for Fault {
         write!(f, "{at}: {why}")
     }
 }
-
-impl Error for Fault {}
 
 /// The work of a well-formed trace, in instructions: the sum of the counts of all its strands.
 ///

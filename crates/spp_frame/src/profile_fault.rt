@@ -6,11 +6,11 @@ ghost use Rattle.spp_frame.specs.declared.profile_fault.ProfileFault.TheVariants
 
 use crate::Fault;
 use std::alloc::AllocError;
-use std::error::Error;
 use std::fmt;
+use thiserror::Error;
 
 /// Why a run has no figures, or no profile.
-#[derive(Clone, Copy, Debug, PartialEq, Eq)]
+#[derive(Clone, Copy, Debug, Error, PartialEq, Eq)]
 pub enum ProfileFault {
     /// Its trace isn't well-formed; this is the first bad event.
     Bad(Fault),
@@ -28,8 +28,6 @@ impl fmt::Display for ProfileFault {
         }
     }
 }
-
-impl Error for ProfileFault {}
 
 impl From<AllocError> for ProfileFault {
     ghost from_gives = { λ _ e. e ≡ MemoryFault };

@@ -45,15 +45,13 @@ fn root_row(whole: &Figures) -> Row
 ///
 /// The first bad event, or `Memory` where a growth was refused.
 pub fn table_in_parts(alloc: Global, cut: &Cut<'_, '_>) -> Result<Tabled, ProfileFault>
-    requires some { 0 < length cut.now.parts }
-    requires few { length cut.now.parts ≤ 65536 }
     ensures dag { IfOk result (λ t. IsDagTable cut.now.trace t.dag) }
     ensures choices { IfOk result (λ t. (es : List EventValue) → AreEvents cut.now.trace.records es → AreChoicesOf es cut.now.parts t.choices.items) }
     ensures fault { IfErr result (λ f. IsFaultOf cut.now.trace.records f) }
 {
+    let parts = cut.parts();
     let found = survey(alloc, cut, Burdens::default())?;
     let stacks = entries(alloc, cut.trace().root(), &found.each)?;
-    let parts = cut.parts();
     let mut dag = Table::new(alloc);
     let mut choices = Vec::with_capacity(alloc, parts.len())?;
     for k in 0..parts.len() {

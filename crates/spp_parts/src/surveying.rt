@@ -35,16 +35,16 @@ fn summarised(
 /// The summaries of the parts of a cut trace, with the figures that all parts together come to.
 ///
 /// The events are read once, in time linear in the numbers of events and parts. The memory is linear in the numbers of
-/// parts, of the frames that they leave open and of those that they close and don't open. The work is at most 2^92.
+/// parts, of the frames that they leave open and of those that they close and don't open. The work is below 2^92.
 ///
 /// # Errors
 ///
 /// The first bad event, or `Memory` where a growth was refused.
 pub fn survey(alloc: Global, cut: &Cut<'_, '_>, burdens: Burdens) -> Result<Survey, ProfileFault>
-    requires { 0 < length cut.now.parts }
     ensures figures { IfOk result (λ s. AreFigures cut.now.trace.records burdens s.whole) }
-    ensures small { IfOk result (λ s. s.whole.work ≤ 2 ^ 92) }
+    ensures small { IfOk result (λ s. s.whole.work < 2 ^ 92) }
     ensures count { IfOk result (λ s. length s.each.items ≡ length cut.now.parts) }
+    ensures few { IfOk result (λ s. length s.each.items ≤ 65536) }
     ensures burdens { IfOk result (λ s. All (λ a. a.burdens ≡ burdens) s.each.items) }
     ensures each { IfOk result (λ s. s.each.items ≡ map (λ p. account_of burdens p.first (records_in p)) cut.now.parts) }
     ensures parts { IfOk result (λ s. (es : List EventValue) → AreEvents cut.now.trace.records es → AreOfParts es s.each.items) }

@@ -47,7 +47,7 @@ pub record Bounded (i : ℕ) (t : Told) : Type 0 where
   pub open_frames : AreOpen t.work (entries t.frames)
   pub states : state_sum t.frames ≤ t.work
   pub level : length t.frames ≤ i + 1
-  pub small : t.work ≤ 18446744073709551616 * i
+  pub small : t.work ≤ 18446744073709551615 * i
 
 abbrev pub tell : List Counted → (ℕ → Bool) → (ℕ → Bool) → ℕ → Sums → Told
 tell fs a b w t = record { frames = fs; open_sites = a; open_funcs = b; work = w; table = t }
@@ -96,7 +96,7 @@ strand_bounded i n short f fs a b w t h =
     let c = greatest_more f.entry.state.spine n f.entry.state.child in
     let l : length (f ∷ fs) ≤ i + 1 = h.level in
     let s : close f.entry.state + state_sum fs ≤ w = h.states in
-    let m : w ≤ 18446744073709551616 * i = h.small in
+    let m : w ≤ 18446744073709551615 * i = h.small in
     record {
       low = λ key. let k = same_key (key_of f.entry) key in
           subst (λ r. Low (suc i) (w + n) r) (sym (strand_owed k f.local n (key_row t key) (owed fs key))) (low_more i w n _ _ (h.low key) (low_strand k n));
@@ -114,7 +114,7 @@ pub sync_bounded : (i : ℕ) (f : Counted) (fs : List Counted) (a b : ℕ → Bo
 sync_bounded i f fs a b w t h =
     let l : length (f ∷ fs) ≤ i + 1 = h.level in
     let s : close f.entry.state + state_sum fs ≤ w = h.states in
-    let m : w ≤ 18446744073709551616 * i = h.small in
+    let m : w ≤ 18446744073709551615 * i = h.small in
     record {
       low = λ key. low_idle i w _ (h.low key);
       sites = h.sites;
@@ -134,7 +134,7 @@ pub open_bounded : (i : ℕ) (kind : FrameKind) (site func : ℕ) → site_by ki
 open_bounded i kind site func k f fs a b w t h =
     let l : length (f ∷ fs) ≤ i + 1 = h.level in
     let s : close f.entry.state + state_sum fs ≤ w = h.states in
-    let m : w ≤ 18446744073709551616 * i = h.small in
+    let m : w ≤ 18446744073709551615 * i = h.small in
     record {
       low = λ key. subst (λ r. Low (suc i) w r) (ap (λ r. plus (key_row t key) r) (sym (none_owed (same_key (site_by kind site) key) (owed (f ∷ fs) key)))) (low_idle i w _ (h.low key));
       sites = λ s. marked_more site a (has_site (entries (f ∷ fs))) h.sites s ∙ ap (λ c. c || has_site (entries (f ∷ fs)) s) (keyed (site_by kind site) site s k);
@@ -168,7 +168,7 @@ close_low : (i : ℕ) → i ≤ 268435456 → (f : Counted) (fs : List Counted) 
     → Low (suc i) w (plus (cond (same_key (key_of f.entry) key) (plus (key_row t key) (full_row f w)) (key_row t key)) (owed fs key))
 close_low i short f fs a b w t h key =
     let s : close f.entry.state + state_sum fs ≤ w = h.states in
-    let m : w ≤ 18446744073709551616 * i = h.small in
+    let m : w ≤ 18446744073709551615 * i = h.small in
     let k = same_key (key_of f.entry) key in
     subst (λ r. Low (suc i) w r) (sym (closed_owed k f.entry f.local w (key_row t key) (owed fs key)))
     (subst (λ v. Low (suc i) v (plus (plus (key_row t key) (owed (f ∷ fs) key)) (cond k (closed_row f.entry w) zero_row))) (let z : w + 0 ≡ w = omega arith in z)
@@ -190,7 +190,7 @@ return_bounded i short f g fs a b w t new h r =
     let c = child_adds unburdened f.entry.kind f.entry.at (close f.entry.state) g.entry.state in
     let l : length (f ∷ g ∷ fs) ≤ i + 1 = h.level in
     let s : close f.entry.state + (close g.entry.state + state_sum fs) ≤ w = h.states in
-    let m : w ≤ 18446744073709551616 * i = h.small in
+    let m : w ≤ 18446744073709551615 * i = h.small in
     subst (λ x. Bounded (suc i) x) (sym (left f g fs a b w t new r))
     (record {
       low = λ key. subst (λ x. Low (suc i) w (plus x (owed (g ∷ fs) key))) (sym (added f w t new.table k r.table key)) (close_low i short f (g ∷ fs) a b w t h key);
@@ -229,7 +229,7 @@ closable i short f g fs a b w t h =
     let site : Option ℕ = Some f.entry.site in
     let k : key_of f.entry ≡ site = h.open_frames.0 in
     let same : same_key (key_of f.entry) site ≡ true = ap (λ o. same_key o site) k ∙ eq-eqb f.entry.site f.entry.site refl in
-    let m : w ≤ 18446744073709551616 * i = h.small in
+    let m : w ≤ 18446744073709551615 * i = h.small in
     let low = subst (λ c. Low (suc i) w (plus (cond c (plus (row_at t f.entry.site) (full_row f w)) (row_at t f.entry.site)) (owed (g ∷ fs) site))) same
     (close_low i short f (g ∷ fs) a b w t h site) in
     record {
@@ -245,7 +245,7 @@ pub finishable : (i : ℕ) → i ≤ 268435456 → (f : Counted) (a b : ℕ → 
     → Bounded i (tell (f ∷ []) a b w t) → (f.entry.before ≤ w) × Fits (plus t.root (full_row f w))
 finishable i short f a b w t h =
     let before : f.entry.before ≡ 0 = h.open_frames.1 in
-    let m : w ≤ 18446744073709551616 * i = h.small in
+    let m : w ≤ 18446744073709551615 * i = h.small in
     let same : same_key (key_of f.entry) None ≡ true = ap (λ o. same_key o None) (root_key w f h.open_frames) in
     let low = subst (λ c. Low (suc i) w (plus (cond c (plus t.root (full_row f w)) t.root) zero_row)) same (close_low i short f [] a b w t h None) in
     (omega arith, low_fits (suc i) w _ zero_row _ refl low (omega arith) (omega arith))

@@ -293,7 +293,7 @@ module _ (trace : Recording) (sound : Sound trace) (first i : ℕ) (within : i �
   pub going_suspend : FitsOpen s
   going_suspend key =
       let short = sound.short in
-      let w : s.work ≤ 18446744073709551616 * i = g.passed.bounded.small in
+      let w : s.work ≤ 18446744073709551615 * i = g.passed.bounded.small in
       low_fits i s.work (plus (key_row s.table key) (local_rows s.frames key)) zero_row _
       (plus-zero (plus (key_row s.table key) (local_rows s.frames key)) ∙ ap (λ r. plus (key_row s.table key) r) (sym (owed_open s.frames g.frames key)))
       (g.passed.bounded.low key) (omega arith) (omega arith)

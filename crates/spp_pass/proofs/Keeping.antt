@@ -104,7 +104,7 @@ pub record Kept (rs : List Record) (burdens : Burdens) (root at w : ℕ) (ls : L
   pub reached : Reached rs burdens root at w frames
   pub plain : plain_sum ls ≤ w
   pub burdened : burdened_sum ls ≤ w + 8589934592 * at
-  pub small : w ≤ 18446744073709551616 * at
+  pub small : w ≤ 18446744073709551615 * at
 
 keeps : (rs : List Record) (burdens : Burdens) (root at w : ℕ) (ls : List LeanFrame) (fs : List OpenFrame) → ls ≡ map kept fs → Reached rs burdens root at w fs → Kept rs burdens root at w ls
 keeps rs burdens root at w ls fs e r = record {
@@ -121,7 +121,7 @@ kept_none rs burdens root = keeps rs burdens root 0 0 (new_frame Root ∷ []) (m
 
 -- one more record, at which it goes on
 pub kept_more : (rs : List Record) (burdens : Burdens) (root at w v : ℕ) (e : Event) (ls ms : List LeanFrame)
-    → burdens.continuation + burdens.join ≤ 8589934592 → weight (Ok e) ≤ 18446744073709551616
+    → burdens.continuation + burdens.join ≤ 8589934592 → weight (Ok e) ≤ 18446744073709551615
     → at < length rs → record_at rs at ≡ Ok e → advance burdens e ls ≡ Some ms → v ≡ w + weight (Ok e)
     → Kept rs burdens root at w ls → Kept rs burdens root (at + 1) v ms
 kept_more rs burdens root at w v e ls ms light short lt is adv works k =

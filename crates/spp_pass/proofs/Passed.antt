@@ -153,7 +153,7 @@ module _ (trace : Recording) (burdens : Burdens) (light : burdens.continuation +
   Next s = Passed trace burdens from (suc i) s
 
   -- the figures, where the frames go on
-  goes : (e : Event) → record_at trace.records i ≡ Ok e → nesting.weight (Ok e) ≤ 18446744073709551616 → (ls ms : List LeanFrame) (w v : ℕ)
+  goes : (e : Event) → record_at trace.records i ≡ Ok e → nesting.weight (Ok e) ≤ 18446744073709551615 → (ls ms : List LeanFrame) (w v : ℕ)
       → advance burdens e ls ≡ Some ms → v ≡ w + nesting.weight (Ok e) → figures.Kept trace.records burdens trace.root i w ls → figures.Kept trace.records burdens trace.root (suc i) v ms
   goes e is small ls ms w v adv works k =
       subst (λ n. figures.Kept trace.records burdens trace.root n v ms) (let z : i + 1 ≡ suc i = omega arith in z) (kept_more trace.records burdens trace.root i w v e ls ms light small lt is adv works k)
@@ -178,7 +178,7 @@ module _ (trace : Recording) (burdens : Burdens) (light : burdens.continuation +
           let small : n < 2 ^ 64 = r.1 in
           let p : close f.plain + _ ≤ s.work = at.reached.plain in
           let b : close f.burdened + _ ≤ s.work + 8589934592 * i = at.reached.burdened in
-          let w : s.work ≤ 18446744073709551616 * i = at.reached.small in
+          let w : s.work ≤ 18446744073709551615 * i = at.reached.small in
           let q : f.local ≤ s.work = local_le i (counted f) (map counted fs) s.open_sites s.open_funcs s.work s.table at.bounded in
           (record { plain = omega arith; burdened = omega arith; local = omega arith }, omega arith)
 
@@ -276,7 +276,7 @@ module _ (trace : Recording) (burdens : Burdens) (light : burdens.continuation +
           let c = closable i (omega arith) (counted f) (counted g) (map counted fs) s.open_sites s.open_funcs s.work s.table at.bounded in
           let p : close f.plain + (close g.plain + _) ≤ s.work = at.reached.plain in
           let b : close f.burdened + (close g.burdened + _) ≤ s.work + 8589934592 * i = at.reached.burdened in
-          let w : s.work ≤ 18446744073709551616 * i = at.reached.small in
+          let w : s.work ≤ 18446744073709551615 * i = at.reached.small in
           record {
             fits = record { plain = omega arith; burdened = omega arith };
             before = c.before;
@@ -351,14 +351,14 @@ module _ (trace : Recording) (burdens : Burdens) (short : length trace.records �
   -- what the pass tells is so
   pub record IsTold (p : FirstPass) : Type 0 where
     pub figures : AreFigures trace.records burdens p.figures
-    pub small : p.figures.work ≤ 2 ^ 92
+    pub small : p.figures.work < 2 ^ 92
     pub dag : IsDagTable trace p.dag
     pub choices : (es : List Event) → AreEvents trace.records es → AreChoices es p.choices
 
   told_from : (s : Seen) (f : CountedFrame) (p : FirstPass) → Passed trace burdens 0 i (record s { frames = f ∷ [] }) → IsFinished i s (f ∷ []) p → IsTold p
   told_from s f p at h =
       let fig = all_kept trace.records burdens trace.root i s.work (lean f) [] last refl at.reached in
-      let w : s.work ≤ 18446744073709551616 * i = at.reached.small in
+      let w : s.work ≤ 18446744073709551615 * i = at.reached.small in
       let es = fig.events in
       let are = fig.are_events in
       let wf_of = λ (es : List Event) (are : AreEvents trace.records es). let z : IsWellFormed es = subst (λ (x : List Record). nesting.IsWellFormed x) are fig.well_formed in z in
@@ -368,7 +368,7 @@ module _ (trace : Recording) (burdens : Burdens) (short : length trace.records �
       subst (λ k. Shared es trace.root span 0 k (told (record s { frames = f ∷ [] }))) (last ∙ events_len trace es are) (at.shared es are (wf_of es are) span spans) in
       record {
         figures = subst (λ x. AreFigures trace.records burdens x) (sym h.0) fig;
-        small = subst (λ (x : Figures). x.work ≤ 2 ^ 92) (sym h.0) (omega arith);
+        small = subst (λ (x : Figures). x.work < 2 ^ 92) (sym h.0) (omega arith);
         dag = subst (λ t. IsDagTable trace t) (sym (h.1 ∙ ap (λ r. let u : Sums = record s.table { root = plus s.table.root r } in u) (row_is f s.work at.neat.0)))
             (fig.well_formed, (es, are, (sp.0, sp.1, finished es wf trace.root sp.0 sp.1 (counted f) s.open_sites s.open_funcs s.work s.table at.bounded.open_frames (ended es are sp.0 sp.1))));
         choices = λ es are.

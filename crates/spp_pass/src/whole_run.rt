@@ -1,6 +1,6 @@
 //! One reading of the events of a run, which tells all that its profile needs of them.
 
-ghost use Rattle.std.specs.Prelude.{◌≡◌, ◌≤◌, ◌^◌, List, IfOk, IfErr};
+ghost use Rattle.std.specs.Prelude.{◌≡◌, ◌<◌, ◌^◌, List, IfOk, IfErr};
 ghost use Rattle.spp_event.specs.declared.records.Event.{Event as AnEvent};
 ghost use Rattle.spp_frame.specs.Nesting.{AreEvents};
 ghost use Rattle.spp_dag.specs.ChoiceLists.{AreChoices};
@@ -28,7 +28,7 @@ fn bad(at: u32, why: Why) -> ProfileFault
 ///
 /// The events are read once, each in constant time, amortized, behind a step for each site and function; the memory is
 /// linear in the numbers of frames that are open at a time, of spawned children, of sites and of functions. The work is
-/// at most 2^92.
+/// below 2^92.
 ///
 /// # Errors
 ///
@@ -39,7 +39,7 @@ pub fn first_pass(
     burdens: Burdens,
 ) -> Result<FirstPass, ProfileFault>
     ensures figures { IfOk result (λ p. AreFigures trace.now.records burdens p.figures) }
-    ensures small { IfOk result (λ p. p.figures.work ≤ 2 ^ 92) }
+    ensures small { IfOk result (λ p. p.figures.work < 2 ^ 92) }
     ensures dag { IfOk result (λ p. IsDagTable trace.now p.dag) }
     ensures choices { IfOk result (λ p. (es : List AnEvent) → AreEvents trace.now.records es → AreChoices es p.choices) }
     ensures fault { IfErr result (λ f. IsFaultOf trace.now.records f) }

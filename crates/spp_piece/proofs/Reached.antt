@@ -34,7 +34,7 @@ pub record Reached (rs : List Record) (burdens : Burdens) (root at w : ℕ) (fs 
   pub far : Far rs at depth w
   pub plain : plain_sum fs ≤ w
   pub burdened : burdened_sum fs ≤ w + 8589934592 * at
-  pub small : w ≤ 18446744073709551616 * at
+  pub small : w ≤ 18446744073709551615 * at
 
 pub reached_none : (rs : List Record) (burdens : Burdens) (root : ℕ) → Reached rs burdens root 0 0 (root_frame root ∷ [])
 reached_none rs burdens root = record {
@@ -67,7 +67,7 @@ ran_more burdens root at seen e fs gs l ran adv =
 
 -- one more record, at which the machine goes on
 pub reached_more : (rs : List Record) (burdens : Burdens) (root at w v : ℕ) (e : Event) (fs gs : List OpenFrame)
-    → burdens.continuation + burdens.join ≤ 8589934592 → weight (Ok e) ≤ 18446744073709551616
+    → burdens.continuation + burdens.join ≤ 8589934592 → weight (Ok e) ≤ 18446744073709551615
     → at < length rs → record_at rs at ≡ Ok e → advance burdens at e fs ≡ Some gs → v ≡ w + weight (Ok e)
     → Reached rs burdens root at w fs → Reached rs burdens root (at + 1) v gs
 reached_more rs burdens root at w v e fs gs light short lt is adv works r =

@@ -2,14 +2,18 @@
 ghost use Rattle.std.specs.Prelude.{◌≡◌, ℕ, ◌+◌, ◌<◌, ◌≤◌, List, [], ◌++◌, length, take, IfOk, OnOk, OnErr};
 ghost use Rattle.spp_report.specs.Devices.{Raised};
 
+use thiserror::Error;
+
 /// A sink could not take bytes. Its count of failures rose, unless it stood at its greatest value already.
-#[derive(Clone, Copy, Debug, PartialEq, Eq)]
+#[derive(Clone, Copy, Debug, Error, PartialEq, Eq)]
+#[error("the sink failed")]
 pub struct SinkFault;
 
 /// A writing stopped before its end.
-#[derive(Clone, Copy, Debug, PartialEq, Eq)]
+#[derive(Clone, Copy, Debug, Error, PartialEq, Eq)]
 pub enum WriteFault {
     /// The device failed.
+    #[error("the sink failed after {written} bytes")]
     Device {
         /// How many bytes it had taken before, the first ones of the text.
         written: usize,

@@ -4,6 +4,7 @@ ghost use Rattle.spp_request.specs.declared.request.UsageFault.TheVariants.{Memo
 
 use spp_cut::Parts;
 use std::alloc::{AllocError, AllocFailed};
+use thiserror::Error;
 
 /// What to do with the input.
 #[derive(Clone, Copy, Debug, PartialEq, Eq)]
@@ -34,9 +35,10 @@ pub struct Request {
 }
 
 /// Why words are no request.
-#[derive(Debug, Drop)]
+#[derive(Debug, Drop, Error)]
 pub enum UsageFault {
     /// The user is shown a text, and the program ends with a status.
+    #[error("{text}")]
     Shown {
         /// The text: help, or what is wrong with the words.
         text: String,
@@ -44,6 +46,7 @@ pub enum UsageFault {
         status: u8,
     },
     /// No memory was left.
+    #[error("out of memory")]
     Memory,
 }
 

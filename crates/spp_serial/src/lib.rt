@@ -1,7 +1,7 @@
 //! The profiler that runs on one thread.
 #![tactic(auto)]
 
-ghost use Rattle.std.specs.Prelude.{◌≤◌, ◌^◌, IfOk, IfErr};
+ghost use Rattle.std.specs.Prelude.{◌<◌, ◌^◌, IfOk, IfErr};
 ghost use Rattle.spp_dag.specs.Figures.{AreFigures};
 ghost use Rattle.spp_frame.specs.Answers.{IsFaultOf};
 ghost use Rattle.spp_site.specs.Profiles.{IsDagTable, IsPathTable, IsProfileOf};
@@ -20,7 +20,7 @@ use std::alloc::Global;
 /// The events are read twice: once for the figures, the table of the dag and the choices that settle the path, and once
 /// for the path's table. The time is linear in the numbers of events, sites and functions; the memory too: up to 16
 /// bytes for each spawned child, or twice that where the lists grew bit by bit, one byte for each event, and what the
-/// open frames, the sites and the functions take. The work is at most 2^92.
+/// open frames, the sites and the functions take. The work is below 2^92.
 ///
 /// # Errors
 ///
@@ -31,7 +31,7 @@ pub fn profile_serial(
     burdens: Burdens,
 ) -> Result<Profile, ProfileFault>
     ensures figures { IfOk result (λ p. AreFigures trace.now.records burdens p.figures) }
-    ensures small { IfOk result (λ p. p.figures.work ≤ 2 ^ 92) }
+    ensures small { IfOk result (λ p. p.figures.work < 2 ^ 92) }
     ensures dag { IfOk result (λ p. IsDagTable trace.now p.dag) }
     ensures path { IfOk result (λ p. IsPathTable trace.now p.path) }
     ensures profile { IfOk result (λ p. IsProfileOf trace.now burdens p) }

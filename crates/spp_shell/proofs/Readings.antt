@@ -4,7 +4,7 @@ use Rattle.std.specs.Option.{option_map}
 use Rattle.std.proofs.lemmas.List.{append-nil}
 use Rattle.std.proofs.lemmas.List.Elements.{All-nil, All-push}
 use Rattle.std.specs.Io.KnownBytes.{Keeps, Consumes}
-use Rattle.spp_shell.specs.Reading.{Reads, given, IsNoEnd, GaveAll, PassedBound, KnownAnswer}
+use Rattle.spp_shell.specs.Reading.{Reads, given, IsNoEnd, GaveAll, ReadWithin, PassedBound, KnownAnswer}
 
 module _ {S : Type 0} (answered : S → Option (List ℕ) → S → Type 0) where
   -- n reads gave these bytes, and none was at the end
@@ -43,13 +43,33 @@ module _ {S : Type 0} (answered : S → Option (List ℕ) → S → Type 0) wher
   pub so_far_end : (n turns : ℕ) (s m t : S) (xs : List ℕ) → SoFar answered n s xs m → answered m (Some []) t → n < turns → GaveAll answered turns s xs t
   so_far_end n turns s m t xs p q h = (p.0, reads_more answered s m t p.0 (Some []) p.1 q, p.2, p.3, subst (λ k. k < turns) (sym p.4) h)
 
-  pub so_far_long : (n most turns : ℕ) (s t : S) (xs : List ℕ) → SoFar answered n s xs t → most < length xs → PassedBound answered most turns s t
-  so_far_long n most turns s t xs p h = (p.0, p.1, p.2, inl (subst (λ z. most < length z) p.3 h))
+  -- so many reads, of which one more is allowed
+  pub so_far_within : (n most turns : ℕ) (s t : S) (xs : List ℕ) → SoFar answered n s xs t → length xs ≤ most → n < turns → ReadWithin answered most turns s t
+  so_far_within n most turns s t xs p h k = (p.0, p.1, (p.2, subst (λ z. length z ≤ most) p.3 h, subst (λ j. j < turns) (sym p.4) k))
 
-  pub so_far_turns : (n most turns : ℕ) (s t : S) (xs : List ℕ) → SoFar answered n s xs t → n ≤ turns → turns ≤ n → PassedBound answered most turns s t
-  so_far_turns n most turns s t xs p h k =
+  -- one read more, that brought too many bytes
+  pub so_far_long : (n most turns : ℕ) (s m t : S) (xs ys : List ℕ) → SoFar answered n s xs m → length xs ≤ most → n < turns → answered m (Some ys) t
+      → most < length (xs ++ ys) → PassedBound answered most turns s t
+  so_far_long n most turns s m t xs ys p h k q long =
+      inr (
+        p.0,
+        ys,
+        reads_more answered s m t p.0 (Some ys) p.1 q,
+        (p.2, subst (λ z. length z ≤ most) p.3 h, subst (λ j. j < turns) (sym p.4) k),
+        subst (λ z. most < length (z ++ ys)) p.3 long,
+      )
+
+  -- all the reads
+  pub so_far_turns : (n most turns : ℕ) (s t : S) (xs : List ℕ) → SoFar answered n s xs t → length xs ≤ most → n ≤ turns → turns ≤ n → PassedBound answered most turns s t
+  so_far_turns n most turns s t xs p w h k =
       let e : length p.0 ≡ turns = omega (arith, p.4, h, k) in
-      (p.0, p.1, p.2, inr e)
+      inl (p.0, p.1, p.2, subst (λ z. length z ≤ most) p.3 w, e)
+
+  -- the read that brought too many, as a call of `pull` tells it
+  pub so_far_passed : (n most turns : ℕ) (s m t : S) (xs buf : List ℕ) (o : Option ℕ) (k : ℕ) → SoFar answered n s xs m → length xs ≤ most → n < turns
+      → answered m (option_map (λ k. take k buf) o) t → o ≡ Some k → most < length (xs ++ take k buf) → PassedBound answered most turns s t
+  so_far_passed n most turns s m t xs buf o k p w l q h long =
+      so_far_long n most turns s m t xs (take k buf) p w l (subst (λ z. answered m (option_map (λ k. take k buf) z) t) h q) long
 
   -- a read that was interrupted, as a call of `pull` tells it
   pub so_far_none : (n : ℕ) (s m t : S) (xs buf : List ℕ) (o : Option ℕ) → SoFar answered n s xs m → answered m (option_map (λ k. take k buf) o) t → o ≡ None → SoFar answered (n + 1) s xs t

@@ -2,7 +2,8 @@
 use Rattle.std.specs.Prelude.{◌≡◌, ℕ, ◌≤◌, ◌^◌, ◌⊎◌, List, [], ◌∷◌, length, take, Option}
 use Rattle.spp_report.specs.Devices.{Raised}
 use Rattle.spp_shell.specs.declared.trouble.Trouble.TheVariants.{CannotRead, TooLong}
-use Rattle.spp_shell.specs.Reading.{GaveAll, PassedBound}
+use Rattle.spp_shell.specs.Reading.{GaveAll, ReadWithin, PassedBound}
+use Rattle.spp_shell.specs.Refusals.{FailedWithin}
 use Rattle.spp_shell.specs.Troubles.{trouble_line}
 
 -- what is known of a device that takes bytes
@@ -39,6 +40,8 @@ pub record Devices : Type 1 where
   pub WasRead : List (List ℕ) → Type 0
   -- an input could not be read whole, and this line says why
   pub Unread : List ℕ → Type 0
+  -- what was read of the inputs stayed within the bounds
+  pub StayedWithin : Type 0
   -- the output
   pub out : Taking
   -- the device for faults
@@ -53,10 +56,15 @@ OneRead answered old new (bytes ∷ more ∷ rest) = ⊥
 -- one input that could not be read: it failed, or is too long
 abbrev pub OneUnread : {S : Type 0} → (S → Option (List ℕ) → S → Type 0) → (S → ℕ) → S → S → List ℕ → Type 0
 OneUnread answered failures old new told =
-    ((told ≡ trouble_line CannotRead) × Raised (failures old) (failures new))
+    ((told ≡ trouble_line CannotRead) × FailedWithin answered failures (2 ^ 33) (2 ^ 33) old new)
     ⊎ ((told ≡ trouble_line TooLong) × PassedBound answered (2 ^ 33) (2 ^ 33) old new)
+
+-- one input of which at most 2^33 bytes came in as many reads, up to its end or not
+abbrev pub OneWithin : {S : Type 0} → (S → Option (List ℕ) → S → Type 0) → S → S → Type 0
+OneWithin answered old new =
+    ReadWithin answered (2 ^ 33) (2 ^ 33) old new ⊎ ((bytes : List ℕ) × (length bytes ≤ 2 ^ 33) × GaveAll answered (2 ^ 33) old bytes new)
 
 -- the devices of a run over one input, which is a source, from its state before to that after
 abbrev pub devices_of : {S : Type 0} → (S → Option (List ℕ) → S → Type 0) → (S → ℕ) → S → S → Taking → Taking → Devices
 devices_of answered failures old new out err =
-    record { WasRead = OneRead answered old new; Unread = OneUnread answered failures old new; out = out; err = err }
+    record { WasRead = OneRead answered old new; Unread = OneUnread answered failures old new; StayedWithin = OneWithin answered old new; out = out; err = err }

@@ -36,6 +36,10 @@ module _ (d : Devices) (TextFor LineFor : List (List ℕ) → List ℕ → Type 
   abbrev pub InputFails : Type 0
   InputFails = (fault : List ℕ) × d.Unread fault × d.out.Untouched × Told d.err fault
 
+  -- an allocation failed, while the input was read or after
+  abbrev pub MemoryFails : Type 0
+  MemoryFails = d.StayedWithin × d.out.Untouched × Told d.err (trouble_line NoMemory)
+
   abbrev pub RunEnds : ℕ → Type 0
   RunEnds status = ((status ≡ GOOD) × AnswersWell) ⊎ ((status ≡ BAD_INPUT) × RefusesInput)
-      ⊎ ((status ≡ DEVICE) × (OutputFails ⊎ InputFails)) ⊎ ((status ≡ MEMORY) × d.out.Untouched × Told d.err (trouble_line NoMemory))
+      ⊎ ((status ≡ DEVICE) × (OutputFails ⊎ InputFails)) ⊎ ((status ≡ MEMORY) × MemoryFails)

@@ -7,15 +7,19 @@ ghost use Rattle.spp_shell.specs.Refusals.{ReadRefused};
 
 use crate::source::{Source, SourceFault};
 use std::alloc::{AllocError, Global};
+use thiserror::Error;
 
 /// Why not all could be read.
-#[derive(Clone, Copy, Debug, PartialEq, Eq)]
+#[derive(Clone, Copy, Debug, Error, PartialEq, Eq)]
 pub enum ReadFault {
     /// The device failed.
+    #[error("the source failed")]
     Device,
     /// More bytes came than are allowed, or all reads that are allowed were made and the end was not seen.
+    #[error("too many bytes or reads")]
     TooLong,
     /// No memory was left.
+    #[error("out of memory")]
     Memory,
 }
 

@@ -3,8 +3,11 @@ ghost use Rattle.std.specs.Prelude.{◌≡◌, ℕ, ◌<◌, ◌≤◌, List, le
 ghost use Rattle.std.specs.Option.{option_map};
 ghost use Rattle.spp_report.specs.Devices.{Raised};
 
+use thiserror::Error;
+
 /// A source could not give its bytes. Its count of failures rose, unless it stood at its greatest value already.
-#[derive(Clone, Copy, Debug, PartialEq, Eq)]
+#[derive(Clone, Copy, Debug, Error, PartialEq, Eq)]
+#[error("the source failed")]
 pub struct SourceFault;
 
 /// A device that gives bytes, as a file, a pipe or memory.

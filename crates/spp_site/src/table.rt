@@ -60,10 +60,12 @@ impl Table {
         }
     }
 
-    /// The row of the root frame.
+    /// The row of the root frame. Its clause `no_zero_row` gives out what every table keeps: no row of a site is zero.
     pub fn root_row(&self) -> Row
-        ensures { result ≡ self.now.root }
+        ensures value { result ≡ self.now.root }
+        ensures no_zero_row { HasNoZeroRow self.now }
     {
+        self.no_row_is_zero();
         self.root
     }
 

@@ -5,3 +5,4 @@ pub mod InParts
 pub mod ReadEvents
 pub mod Prefix
 pub mod Steps
+pub mod Weights

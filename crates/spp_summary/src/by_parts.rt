@@ -1,19 +1,20 @@
 //! The figures of a whole trace, by way of its parts.
-ghost use Rattle.std.specs.Prelude.{◌≡◌, ◌<◌, ◌≤◌, ◌^◌, List, length, IfOk, IfErr, IfSome};
+ghost use Rattle.std.specs.Prelude.{◌≡◌, ◌+◌, ◌<◌, ◌≤◌, ◌^◌, List, length, IfOk, IfErr, IfSome};
 ghost use Rattle.spp_event.specs.Recordings.{Record};
 ghost use Rattle.spp_frame.specs.Nesting.{IsFirstBad};
-ghost use Rattle.spp_piece.specs.Account.{account_of};
+ghost use Rattle.spp_cut.specs.Parts.{records_in};
+ghost use Rattle.spp_piece.specs.Account.{account_of, together};
 ghost use Rattle.spp_dag.specs.Figures.{AreFigures};
 ghost use Rattle.spp_frame.specs.Answers.{IsFaultOf};
 
 use crate::spare::Spare;
 use crate::summary::Summary;
-use spp_cut::{Cut, Parts, cut_even};
+use spp_cut::{Cut, Part, Parts, cut_even};
 use spp_dag::Figures;
 use spp_event::Trace;
 use spp_frame::{Fault, ProfileFault, Why};
 use spp_maxplus::Burdens;
-use std::alloc::Global;
+use std::alloc::{AllocError, Global};
 
 /// The first bad event among some first events of a trace, where it isn't just that frames are open at their end: then
 /// it's the first of the trace, whatever follows.
@@ -30,6 +31,25 @@ fn bad_event(so_far: &Summary) -> Option<Fault>
     }
 }
 
+/// The summary of the parts so far and of the next one together. The next one's is made in the memory of lists that are
+/// needed no longer, and with the answer come those that the join leaves.
+fn with_next(
+    all: Summary,
+    spare: Spare,
+    part: &Part<'_, '_>,
+    burdens: Burdens,
+) -> Result<(Summary, Spare), AllocError>
+    requires burdens { all.burdens ≡ burdens }
+    requires neighbours { part.now.first ≡ all.first + all.events }
+    ensures { IfOk result (λ r. r.0 ≡ together all (account_of burdens part.now.first (records_in part.now))) }
+{
+    let next = Summary::summarise_into(spare, part, burdens)?;
+    match Summary::join_sparing(all, next) {
+        Ok(both) => Ok(both),
+        Err(_) => Err(AllocError),
+    }
+}
+
 /// The figures of a cut trace. Each part's summary is joined to those before it as soon as it is made, up to the end of
 /// the first part with a bad event. The next one is made in the memory of the lists that a join leaves.
 fn figures_of_cut(
@@ -37,9 +57,8 @@ fn figures_of_cut(
     cut: &Cut<'_, '_>,
     burdens: Burdens,
 ) -> Result<Figures, ProfileFault>
-    requires { 0 < length cut.now.parts }
     ensures figures { IfOk result (λ f. AreFigures cut.now.trace.records burdens f) }
-    ensures small { IfOk result (λ f. f.work ≤ 2 ^ 92) }
+    ensures small { IfOk result (λ f. f.work < 2 ^ 92) }
     ensures fault { IfErr result (λ f. IsFaultOf cut.now.trace.records f) }
 {
     let parts = cut.parts();
@@ -49,11 +68,7 @@ fn figures_of_cut(
         if let Some(fault) = bad_event(&all) {
             return Err(ProfileFault::Bad(fault));
         }
-        let next = Summary::summarise_into(spare, part, burdens)?;
-        (all, spare) = match Summary::join_sparing(all, next) {
-            Ok(joined) => joined,
-            Err(_) => return Err(ProfileFault::Memory),
-        };
+        (all, spare) = with_next(all, spare, part, burdens)?;
     }
     Ok(all.finish()?)
 }
@@ -64,7 +79,7 @@ fn figures_of_cut(
 /// Each part is summarised and joined to those before it, on one thread, up to the first part with a bad event. The
 /// events are read once, in time linear in the numbers of events and parts. The memory is linear in the number of
 /// parts, and in the most that the summaries take of the events so far and of one part more: their open frames, and the
-/// part's returns that close frames opened before it. The work is at most 2^92.
+/// part's returns that close frames opened before it. The work is below 2^92.
 ///
 /// # Errors
 ///
@@ -76,7 +91,7 @@ pub fn figures_in_parts(
     parts: Parts,
 ) -> Result<Figures, ProfileFault>
     ensures figures { IfOk result (λ f. AreFigures trace.now.records burdens f) }
-    ensures small { IfOk result (λ f. f.work ≤ 2 ^ 92) }
+    ensures small { IfOk result (λ f. f.work < 2 ^ 92) }
     ensures fault { IfErr result (λ f. IsFaultOf trace.now.records f) }
 {
     let cut = cut_even(alloc, trace, parts)?;

@@ -12,7 +12,8 @@ ghost use Rattle.spp_event.specs.Recordings.{Record};
 ghost use Rattle.spp_frame.specs.Nesting.{IsFirstBad};
 ghost use Rattle.spp_cut.specs.Parts.{records_in};
 ghost use Rattle.spp_dag.specs.Figures.{AreFigures};
-ghost use Rattle.spp_piece.specs.Bound.{cost, worst};
+ghost use Rattle.std.specs.List.{AllByRecursion};
+ghost use Rattle.spp_piece.specs.Bound.{cost, height, worst};
 
 use crate::frames::FrameReader;
 use crate::reading::Reading;
@@ -196,7 +197,8 @@ impl Summary {
 
     /// The returns whose frames were opened before the range, the first one first.
     pub fn returns(&self) -> ReturnReader<'_>
-        ensures { result ≡ self.now.sum.returns }
+        ensures value { result ≡ self.now.sum.returns }
+        ensures bound { AllByRecursion (λ r. cost r.segs < 2 ^ 94) self.now.sum.returns }
     {
         ReturnReader::new(&self.storage.returns)
     }
@@ -218,7 +220,8 @@ impl Summary {
 
     /// The frames that are open at the end, the innermost first.
     pub fn frames(&self) -> FrameReader<'_>
-        ensures { result ≡ self.now.sum.frames }
+        ensures value { result ≡ self.now.sum.frames }
+        ensures bound { AllByRecursion (λ f. height f.states < 2 ^ 94) self.now.sum.frames }
     {
         FrameReader::new(&self.storage)
     }
@@ -246,7 +249,7 @@ impl Summary {
         })
     }
 
-    /// The figures of a whole trace, or its first bad event. It takes no memory. The work is at most 2^92.
+    /// The figures of a whole trace, or its first bad event. It takes no memory. The work is below 2^92.
     ///
     /// # Errors
     ///
@@ -255,7 +258,7 @@ impl Summary {
         requires { self.now.first ≡ 0 }
         ensures value { result ≡ figures_of self.now.events (action self.now.burdens self.now.sum (Ok at_start)) }
         ensures figures { IfOk result (λ f. (rs : List Record) → self.now ≡ account_of self.now.burdens 0 rs → AreFigures rs self.now.burdens f) }
-        ensures small { IfOk result (λ f. f.work ≤ 2 ^ 92) }
+        ensures small { IfOk result (λ f. f.work < 2 ^ 92) }
         ensures fault { IfErr result (λ f. (rs : List Record) → self.now ≡ account_of self.now.burdens 0 rs → IsFirstBad rs f) }
     {
         self.ended()
@@ -265,7 +268,7 @@ impl Summary {
     fn ended(&self) -> Result<Figures, Fault>
         requires { self.now.first ≡ 0 }
         ensures value { result ≡ figures_of self.now.events (action self.now.burdens self.now.sum (Ok at_start)) }
-        ensures small { IfOk result (λ f. f.work ≤ 2 ^ 92) }
+        ensures small { IfOk result (λ f. f.work < 2 ^ 92) }
     {
         if let Some(unmatched) = self.storage.returns.iter().next() {
             return Err(Fault {

@@ -5,8 +5,8 @@ ghost use Rattle.spp_text.specs.declared.fault.TextWhy.TheVariants.{Memory};
 ghost use Rattle.spp_text.specs.FaultTexts.{text_why_text};
 
 use std::alloc::{AllocError, AllocFailed};
-use std::error::Error;
 use std::fmt;
+use thiserror::Error;
 
 /// What is wrong with a line of a text: the first of its checks that fails. They come in this order:
 ///
@@ -15,7 +15,7 @@ use std::fmt;
 /// - of another: `Word`; on the first line of an event, `NoFunc` and `Root`; then `Count`, `Number`, `Limits`, `Site`,
 ///   `Func`;
 /// - of the end of a text without events, as of a line behind the last: `NoFunc`, `Root`.
-#[derive(Clone, Copy, Debug, PartialEq, Eq)]
+#[derive(Clone, Copy, Debug, Error, PartialEq, Eq)]
 pub enum TextWhy {
     /// The first word is none that a line may begin with.
     Word,
@@ -81,12 +81,11 @@ impl<T: Drop> From<AllocFailed<T>> for TextWhy {
 }
 
 /// The first fault of the least line that has one.
-#[derive(Clone, Copy, Debug, PartialEq, Eq)]
+#[derive(Clone, Copy, Debug, Error, PartialEq, Eq)]
+#[error("line {line}: {why}")]
 pub struct TextFault {
     /// The number of the line, from 1; 2^32 - 1 for that line and all after it.
     pub line: u32,
     /// What is wrong with it.
     pub why: TextWhy,
 }
-
-impl Error for TextWhy {}

@@ -12,11 +12,13 @@ ghost use Rattle.spp_text.specs.declared.print.PrintFault.TheVariants.{Memory};
 use itoa::Buffer;
 use spp_event::{Event, EventFault, Trace};
 use std::alloc::{AllocError, Global};
+use thiserror::Error;
 
 /// Why a trace has no text.
-#[derive(Clone, Copy, Debug, PartialEq, Eq)]
+#[derive(Clone, Copy, Debug, Error, PartialEq, Eq)]
 pub enum PrintFault {
     /// A record is bad. The least one is told.
+    #[error("bad event {at}: {why}")]
     Bad {
         /// Its position, from 0.
         at: u32,
@@ -24,6 +26,7 @@ pub enum PrintFault {
         why: EventFault,
     },
     /// No memory was left.
+    #[error("out of memory")]
     Memory,
 }
 

@@ -113,6 +113,41 @@ impl Read for Stutter<'_> {
     }
 }
 
+/// One of std's readers and writers that fails once, by an error that is no interruption; then it is at its end, or takes
+/// all.
+#[derive(Drop)]
+struct Failing {
+    failed: bool,
+}
+
+impl Failing {
+    fn fail_once(&mut self) -> io::Result<()> {
+        if self.failed {
+            return Ok(());
+        }
+        self.failed = true;
+        Err(ErrorKind::Other.into())
+    }
+}
+
+impl Read for Failing {
+    fn read(&mut self, _buf: &mut [u8]) -> io::Result<usize> {
+        self.fail_once()?;
+        Ok(0)
+    }
+}
+
+impl Write for Failing {
+    fn write(&mut self, buf: &[u8]) -> io::Result<usize> {
+        self.fail_once()?;
+        Ok(buf.len())
+    }
+
+    fn flush(&mut self) -> io::Result<()> {
+        self.fail_once()
+    }
+}
+
 fn interrupted_sink(times: u8, takes: usize) -> OutSink<Balky> {
     OutSink::new(Balky {
         interrupted: 0,
@@ -264,6 +299,22 @@ fn a_whole_text_is_flushed_once(rt: HostRuntime) {
     assert!(rt; sink.finish().is_err());
     let mut sink = interrupted_sink(64, 1);
     assert!(rt; sink.finish().is_ok());
+}
+
+#[test]
+fn what_fails_without_an_interruption_is_not_tried_again(rt: HostRuntime) {
+    let mut source = InSource::new(Failing { failed: false });
+    assert!(rt; matches!(read_all(rt.alloc(), &mut source), Err(ReadFault::Device)));
+    assert_eq!(rt; source.failures(), 1);
+    let mut sink = OutSink::new(Failing { failed: false });
+    assert_eq!(rt;
+        write_out(&mut sink, TEXT),
+        Err(WriteFault::Device { written: 0 })
+    );
+    assert_eq!(rt; sink.failures(), 1);
+    let mut sink = OutSink::new(Failing { failed: false });
+    assert!(rt; sink.finish().is_err());
+    assert_eq!(rt; sink.failures(), 1);
 }
 
 #[test]

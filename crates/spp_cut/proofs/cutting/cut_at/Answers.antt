@@ -36,8 +36,12 @@ invariant_of-result c =
     let inv = c.loop-number.invariant in
     let all : length c.loop-number.parts.items ≡ length c.args.cuts.now = inv.count ∙ omega (arith, c.loop-number-test.false, c.loop-number.auto.number-end) in
     let le : c.loop-number.first ≤ c.count-events.result = last_within c.count-events.result c.loop-number.number c.loop-number.first c.args.cuts.now c.in_ok-check_cuts.ensures.good.0 c.loop-number.auto.number-end inv.start inv.last in
-    subst (λ e. Cover c.args.trace.now 0 0 c.push_part-2.new.parts.items e) c.count-events.ensures.count
-    (covered c.args.trace.now (length c.args.cuts.now) c.loop-number.first c.count-events.result c.loop-number.parts.items c.push_part-2.new.parts.items all inv.cover le c.in_ok-push_part-2.ensures)
+    let count : length c.push_part-2.new.parts.items ≡ length c.loop-number.parts.items + 1 = ap length c.in_ok-push_part-2.ensures ∙ length-append c.loop-number.parts.items _ in
+    let few = c.in_ok-check_cuts.ensures.good.1 in (
+      subst (λ e. Cover c.args.trace.now 0 0 c.push_part-2.new.parts.items e) c.count-events.ensures.count
+          (covered c.args.trace.now (length c.args.cuts.now) c.loop-number.first c.count-events.result c.loop-number.parts.items c.push_part-2.new.parts.items all inv.cover le c.in_ok-push_part-2.ensures),
+      (omega arith, omega arith),
+    )
 
 pub returns-clause-cut : goal.returns-clause-cut
 returns-clause-cut c =

@@ -28,9 +28,14 @@ pub invariant_of-result : goal.invariant_of-result
 invariant_of-result c =
     let inv = c.loop-number.invariant in
     let all : c.loop-number.number ≡ c.number-count.result = omega (arith, c.loop-number-test.false, c.loop-number.auto.number-end) in
-    subst (λ e. Cover c.args.trace.now 0 0 c.loop-number.cut.items e)
-    (inv.step ∙ ap (λ k. k * c.count-events.result / c.number-count.result) all ∙ step_ends c.count-events.result c.number-count.result c.number-count.ensures.range.0 ∙ c.count-events.ensures.count)
-    inv.cover
+    let count : length c.loop-number.cut.items ≡ c.number-count.result = inv.count ∙ all in
+    let least = c.number-count.ensures.range.0 in
+    let most = c.number-count.ensures.range.1 in (
+      subst (λ e. Cover c.args.trace.now 0 0 c.loop-number.cut.items e)
+          (inv.step ∙ ap (λ k. k * c.count-events.result / c.number-count.result) all ∙ step_ends c.count-events.result c.number-count.result c.number-count.ensures.range.0 ∙ c.count-events.ensures.count)
+          inv.cover,
+      (omega arith, omega arith),
+    )
 
 pub returns-clause-cut : goal.returns-clause-cut
 returns-clause-cut c =

@@ -45,7 +45,7 @@ returns-clause-figures c =
 pub returns-clause-burdens : goal.returns-clause-burdens
 returns-clause-burdens c =
     let ps = c.parts-parts.result.now in
-    let some = subst (λ l. 0 < length l) (sym c.parts-parts.ensures.parts) c.requires in
+    let some = subst (λ l. 0 < length l) (sym c.parts-parts.ensures.parts) c.parts-parts.ensures.few.0 in
     let told = subst (λ l. c.loop-part.each.items ≡ map (account_in c.args.burdens) (take (c.loop-part.part-index + 1) l)) (sym c.parts-parts.ensures.parts) c.loop-part.invariant.each in
     let is = accounts_all c.args.burdens ps c.loop-part.part-index c.loop-part.each.items some (omega (arith, c.loop-part-test.false)) told in
     subst (All (λ (a : Account). a.burdens ≡ c.args.burdens)) (sym is) (accounts_burden c.args.burdens ps)
@@ -53,15 +53,24 @@ returns-clause-burdens c =
 pub returns-clause-count : goal.returns-clause-count
 returns-clause-count c =
     let ps = c.parts-parts.result.now in
-    let some = subst (λ l. 0 < length l) (sym c.parts-parts.ensures.parts) c.requires in
+    let some = subst (λ l. 0 < length l) (sym c.parts-parts.ensures.parts) c.parts-parts.ensures.few.0 in
     let told = subst (λ l. c.loop-part.each.items ≡ map (account_in c.args.burdens) (take (c.loop-part.part-index + 1) l)) (sym c.parts-parts.ensures.parts) c.loop-part.invariant.each in
     let is = accounts_all c.args.burdens ps c.loop-part.part-index c.loop-part.each.items some (omega (arith, c.loop-part-test.false)) told in
     ap length is ∙ length-map ps (account_in c.args.burdens) ∙ ap length c.parts-parts.ensures.parts
 
+pub returns-clause-few : goal.returns-clause-few
+returns-clause-few c =
+    let ps = c.parts-parts.result.now in
+    let some = subst (λ l. 0 < length l) (sym c.parts-parts.ensures.parts) c.parts-parts.ensures.few.0 in
+    let told = subst (λ l. c.loop-part.each.items ≡ map (account_in c.args.burdens) (take (c.loop-part.part-index + 1) l)) (sym c.parts-parts.ensures.parts) c.loop-part.invariant.each in
+    let is = accounts_all c.args.burdens ps c.loop-part.part-index c.loop-part.each.items some (omega (arith, c.loop-part-test.false)) told in
+    let count : length c.loop-part.each.items ≡ length c.args.cut.now.parts = ap length is ∙ length-map ps (account_in c.args.burdens) ∙ ap length c.parts-parts.ensures.parts in
+    omega (arith, count, c.parts-parts.ensures.few.1)
+
 pub returns-clause-each : goal.returns-clause-each
 returns-clause-each c =
     let ps = c.parts-parts.result.now in
-    let some = subst (λ l. 0 < length l) (sym c.parts-parts.ensures.parts) c.requires in
+    let some = subst (λ l. 0 < length l) (sym c.parts-parts.ensures.parts) c.parts-parts.ensures.few.0 in
     let told = subst (λ l. c.loop-part.each.items ≡ map (account_in c.args.burdens) (take (c.loop-part.part-index + 1) l)) (sym c.parts-parts.ensures.parts) c.loop-part.invariant.each in
     accounts_all c.args.burdens ps c.loop-part.part-index c.loop-part.each.items some (omega (arith, c.loop-part-test.false)) told ∙ ap (map (account_in c.args.burdens)) c.parts-parts.ensures.parts
 
@@ -71,7 +80,7 @@ returns-clause-parts c es are =
     let ps = c.parts-parts.result.now in
     let summed = summed_all t c.args.burdens (rest_of ps) c.loop-part.part-index c.loop-part.all (omega (arith, c.loop-part-test.false)) c.loop-part.invariant.summed in
     let figures = told_ok c.args.burdens t.records c.loop-part.all c.in_ok-finish.field-0 summed c.in_ok-finish.ensures.value in
-    let some = subst (λ l. 0 < length l) (sym c.parts-parts.ensures.parts) c.requires in
+    let some = subst (λ l. 0 < length l) (sym c.parts-parts.ensures.parts) c.parts-parts.ensures.few.0 in
     let told = subst (λ l. c.loop-part.each.items ≡ map (account_in c.args.burdens) (take (c.loop-part.part-index + 1) l)) (sym c.parts-parts.ensures.parts) c.loop-part.invariant.each in
     let is = accounts_all c.args.burdens ps c.loop-part.part-index c.loop-part.each.items some (omega (arith, c.loop-part-test.false)) told in
     let u = c.trace.result.now in

@@ -16,4 +16,4 @@ returns g c =
     c.in_ok-write_rows.ensures.text in
     wrote_parts c.write_sites.result (written c.args.writer.now) (written c.write_columns.new.writer) (written c.write_rows.new.writer) (written c.write_sites.new.writer)
     (record_text columns) (named_record (codes "(root)") dag.root path.root) (flat_map (site_record trace dag path) (range_with_len 0 (length trace.sites)))
-    c.in_ok-write_columns.ensures.text (rw (c.root_row-dag.ensures, c.root_row-path.ensures) at root) c.write_sites.ensures
+    c.in_ok-write_columns.ensures.text (rw (c.root_row-dag.ensures.value, c.root_row-path.ensures.value) at root) c.write_sites.ensures

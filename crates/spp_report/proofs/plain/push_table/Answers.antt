@@ -20,4 +20,4 @@ returns c =
     put_more c.push_sites.result c.push_row.new.text.items _ (flat_map (site_line trace table) (range_with_len 0 (length trace.sites))) _ c.push_sites.ensures
     (table_parts c.args.text.now.items c.args.title.now (row_line dag_columns (codes "name")) (row_line (cells table.root) (codes "(root)"))
     (flat_map (site_line trace table) (range_with_len 0 (length trace.sites))) _ _ _ _ _
-    one (rw title at two) three (rw heads at four) (rw c.root_row.ensures at root))
+    one (rw title at two) three (rw heads at four) (rw c.root_row.ensures.value at root))

@@ -1,21 +1,25 @@
-use Rattle.std.proofs.Common.{◌+◌, ◌-◌, length, take, drop, sym, subst, arith}
+use Rattle.std.proofs.Common.{◌+◌, ◌-◌, length, take, drop, refl, sym, subst, arith}
+use Rattle.spp_cut.specs.Parts.{records_in}
+use Rattle.spp_piece.specs.Account.{account_of}
 use Rattle.spp_summary.proofs.InParts.{Summed, summed_next, summed_all, told_early, told_ok, told_err, told_bad}
 use Rattle.spp_summary.proofs.by_parts.figures_of_cut.Goals as goal
 
-pub join_sparing-requires-clause-neighbours : goal.join_sparing-requires-clause-neighbours
-join_sparing-requires-clause-neighbours c =
+pub with_next-requires-clause-neighbours : goal.with_next-requires-clause-neighbours
+with_next-requires-clause-neighbours c =
     let ps = c.parts-parts.result.now in
+    let p = c.part-item.result in
     let items = take (length ps - 1) (drop 1 ps) in
-    (summed_next c.args.cut.now.trace c.args.burdens items c.loop-part.part-index c.part-item.result c.loop-part.all c.in_ok-next.next
-    c.loop-part-test.true c.part-item.is c.loop-part.invariant c.in_ok-next.ensures).1
+    (summed_next c.args.cut.now.trace c.args.burdens items c.loop-part.part-index p c.loop-part.all (account_of c.args.burdens p.first (records_in p))
+    c.loop-part-test.true c.part-item.is c.loop-part.invariant refl).1
 
 pub loop-part-preserved : goal.loop-part-preserved
 loop-part-preserved c =
     let ps = c.parts-parts.result.now in
+    let p = c.part-item.result in
     let items = take (length ps - 1) (drop 1 ps) in
-    subst (Summed c.args.cut.now.trace c.args.burdens (drop (c.loop-part.part-index + 1) items)) (sym c.in-Ok.ensures.ok)
-    (summed_next c.args.cut.now.trace c.args.burdens items c.loop-part.part-index c.part-item.result c.loop-part.all c.in_ok-next.next
-    c.loop-part-test.true c.part-item.is c.loop-part.invariant c.in_ok-next.ensures).2
+    subst (Summed c.args.cut.now.trace c.args.burdens (drop (c.loop-part.part-index + 1) items)) (sym c.in_ok-all-2.ensures)
+    (summed_next c.args.cut.now.trace c.args.burdens items c.loop-part.part-index p c.loop-part.all (account_of c.args.burdens p.first (records_in p))
+    c.loop-part-test.true c.part-item.is c.loop-part.invariant refl).2
 
 pub returns-in-Some-clause-fault : goal.returns-in-Some-clause-fault
 returns-in-Some-clause-fault c =

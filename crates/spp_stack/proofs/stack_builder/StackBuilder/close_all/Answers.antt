@@ -9,7 +9,7 @@ use Rattle.spp_stack.proofs.stack_builder.StackBuilder.close_all.Goals as goal
 pub loop-unmatched-init : goal.loop-unmatched-init
 loop-unmatched-init c = record {
   reached = λ x s goes.
-      let all = c.into_iter-unmatched-iterator.ensures.into_iter_gives ∙ c.returns-unmatched-items.ensures in
+      let all = c.into_iter-unmatched-iterator.ensures.into_iter_gives ∙ c.returns-unmatched-items.ensures.value in
       record {
         at = x;
         stands = s;
