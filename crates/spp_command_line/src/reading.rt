@@ -37,13 +37,13 @@ fn command_of(name: &str) -> Option<Command> {
 }
 
 /// What the user is shown where there is none of the commands. `clap` has refused such words already.
-fn no_command(alloc: Global) -> Result<UsageFault, AllocError>
-    ensures { IfOk result EndsByUsage }
+fn no_command(alloc: Global) -> UsageFault
+    ensures { EndsByUsage result }
 {
-    Ok(UsageFault::Shown {
-        text: "error: no such command\n".to_string(alloc)?,
-        status: 2,
-    })
+    match "error: no such command\n".to_string(alloc) {
+        Ok(text) => UsageFault::Shown { text, status: 2 },
+        Err(_) => UsageFault::Memory,
+    }
 }
 
 /// The request of what `clap` found. A file named `-` is standard input, as is none.
@@ -94,10 +94,10 @@ pub fn read_request<S: AsStr>(alloc: Global, words: &[S]) -> Result<Request, Usa
         Err(error) => return Err(shown(alloc, error)),
     };
     let Some((name, given)) = matches.subcommand() else {
-        return Err(no_command(alloc)?);
+        return Err(no_command(alloc));
     };
     let Some(command) = command_of(name) else {
-        return Err(no_command(alloc)?);
+        return Err(no_command(alloc));
     };
     let burden = given.get_one::<u32>("burden").unwrap_or(DEFAULT_BURDEN);
     let parts = given.get_one::<u32>("parts").and_then(Parts::new);
