@@ -13,7 +13,7 @@ pub enum Command {
     Check,
     /// Print the work, the span and the burdened span of a run.
     Figures,
-    /// Print a table of the call sites of a run.
+    /// Print the figures of a run and two tables of its call sites.
     Profile,
     /// Read a trace as text and write its bytes.
     Encode,
