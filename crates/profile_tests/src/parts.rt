@@ -1,7 +1,7 @@
 //! Surveys, the open frames where parts begin, which come of them, and tables by parts.
 use crate::worked::{BAD, CALL, CALLS, FORK, GOOD, RET, S1, S2, S3, S4, S5, S7, SPAWN, SYNC};
 use spp_cut::{Cut, Parts, cut_at, cut_even};
-use spp_dag::{Choices, End, EntryFrame, Figures, FrameKind, Join, Row};
+use spp_dag::{Choice, Choices, End, EntryFrame, Figures, FrameKind, Row};
 use spp_event::{Event, open_trace, trace_of};
 use spp_frame::ProfileFault;
 use spp_maxplus::{Burdens, State};
@@ -313,7 +313,7 @@ fn parts_come_to_the_table_of_the_whole(rt: HostRuntime) -> Result<(), Fail> {
 }
 
 /// Whether the choices at this position are these alone.
-fn are_at(told: &Choices, at: usize, ends: &[End], joins: &[Join]) -> bool {
+fn are_at(told: &Choices, at: usize, ends: &[End], joins: &[Choice]) -> bool {
     let mut more_ends = ends.iter().filter(|end| end.at as usize == at);
     let mut more_joins = joins.iter().filter(|join| join.at as usize == at);
     let same_ends = told.ends.iter().all(|end| more_ends.next() == Some(end));
@@ -325,7 +325,7 @@ fn are_at(told: &Choices, at: usize, ends: &[End], joins: &[Join]) -> bool {
 }
 
 /// Whether the choices of a run of these events, in parts of one event, are these, each in the part of its position.
-fn has_choices(alloc: Global, events: &[Event], ends: &[End], joins: &[Join]) -> bool {
+fn has_choices(alloc: Global, events: &[Event], ends: &[End], joins: &[Choice]) -> bool {
     let Some(told) = told_in_parts(alloc, events) else {
         return false;
     };
@@ -338,9 +338,22 @@ fn of_equal_children_the_first_is_taken(rt: HostRuntime) -> Result<(), Fail> {
     let alloc = rt.alloc();
     let events = [SPAWN, S5, RET, SPAWN, S5, RET, SYNC];
     let ends = [End { at: 2, spawn: 0 }, End { at: 5, spawn: 3 }];
-    let joins = [Join { at: 6, spawn: 0 }];
+    let joins = [Choice {
+        at: 6,
+        taken: Some(0),
+    }];
     assert!(rt; has_choices(alloc, &events, &ends, &joins));
-    assert!(rt; !has_choices(alloc, &events, &ends, &[Join { at: 6, spawn: 3 }]));
+    assert!(rt;
+        !has_choices(
+            alloc,
+            &events,
+            &ends,
+            &[Choice {
+                at: 6,
+                taken: Some(3)
+            }]
+        )
+    );
     Ok(())
 }
 
@@ -349,7 +362,15 @@ fn a_child_that_weighs_less_is_not_taken(rt: HostRuntime) -> Result<(), Fail> {
     let alloc = rt.alloc();
     let events = [SPAWN, S4, RET, S1, SYNC, SPAWN, S2, RET, S5, SYNC];
     let ends = [End { at: 2, spawn: 0 }, End { at: 7, spawn: 5 }];
-    assert!(rt; has_choices(alloc, &events, &ends, &[Join { at: 4, spawn: 0 }]));
+    let joins = [
+        Choice {
+            at: 4,
+            taken: Some(0),
+        },
+        Choice { at: 9, taken: None },
+    ];
+    assert!(rt; has_choices(alloc, &events, &ends, &joins));
+    assert!(rt; !has_choices(alloc, &events, &ends, &joins[..1]));
     Ok(())
 }
 

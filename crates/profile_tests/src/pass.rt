@@ -1,5 +1,5 @@
 use crate::worked::{CALL, RET, S1, S2, S3, S5, S6, SPAWN, SYNC};
-use spp_dag::{End, Join};
+use spp_dag::{Choice, End};
 use spp_event::{Event, open_trace, trace_of};
 use spp_frame::ProfileFault;
 use spp_maxplus::Burdens;
@@ -7,33 +7,42 @@ use spp_pass::first_pass;
 use std::alloc::{AllocError, Global};
 use std::test::Fail;
 
-/// A run with what its first pass notes: of each spawned child the return, and each join at which a child is taken.
+/// A run with what its first pass notes: of each spawned child the return, and each join of a child.
 struct Noted {
     events: &'static [Event],
     ends: &'static [End],
-    joins: &'static [Join],
+    joins: &'static [Choice],
 }
 
 const NOTED: &[Noted] = &[
     Noted {
         events: &[SPAWN, S5, RET, S5, SYNC],
         ends: &[End { at: 2, spawn: 0 }],
-        joins: &[Join { at: 4, spawn: 0 }],
+        joins: &[Choice {
+            at: 4,
+            taken: Some(0),
+        }],
     },
     Noted {
         events: &[SPAWN, S5, RET, S6, SYNC],
         ends: &[End { at: 2, spawn: 0 }],
-        joins: &[],
+        joins: &[Choice { at: 4, taken: None }],
     },
     Noted {
         events: &[SPAWN, S5, RET, SPAWN, S5, RET, SYNC],
         ends: &[End { at: 2, spawn: 0 }, End { at: 5, spawn: 3 }],
-        joins: &[Join { at: 6, spawn: 0 }],
+        joins: &[Choice {
+            at: 6,
+            taken: Some(0),
+        }],
     },
     Noted {
         events: &[SPAWN, S5, RET, S2],
         ends: &[End { at: 2, spawn: 0 }],
-        joins: &[Join { at: 4, spawn: 0 }],
+        joins: &[Choice {
+            at: 4,
+            taken: Some(0),
+        }],
     },
     Noted {
         events: &[CALL, S5, RET],
@@ -43,7 +52,16 @@ const NOTED: &[Noted] = &[
     Noted {
         events: &[SPAWN, SPAWN, S3, RET, S1, RET, S2, SYNC, S1],
         ends: &[End { at: 3, spawn: 1 }, End { at: 5, spawn: 0 }],
-        joins: &[Join { at: 5, spawn: 1 }, Join { at: 7, spawn: 0 }],
+        joins: &[
+            Choice {
+                at: 5,
+                taken: Some(1),
+            },
+            Choice {
+                at: 7,
+                taken: Some(0),
+            },
+        ],
     },
 ];
 
@@ -52,7 +70,7 @@ fn has_choices(
     alloc: Global,
     events: &[Event],
     ends: &[End],
-    joins: &[Join],
+    joins: &[Choice],
 ) -> Result<Option<bool>, AllocError> {
     let bytes = trace_of(alloc, events)?;
     let Ok(trace) = open_trace(alloc, bytes.as_slice()) else {

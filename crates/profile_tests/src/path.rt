@@ -1,13 +1,13 @@
-use spp_dag::{Choices, End, Join};
+use spp_dag::{Choice, Choices, End};
 use spp_path::settle;
 use std::alloc::{AllocError, Global};
 use std::test::Fail;
 
-/// The choices of a run, each a position and that of a spawn.
+/// The choices of a run, each a position and that of a spawn; of a join none where no child is taken.
 fn choices_of(
     alloc: Global,
     ends: &[(u32, u32)],
-    joins: &[(u32, u32)],
+    joins: &[(u32, Option<u32>)],
 ) -> Result<Choices, AllocError> {
     let mut choices = Choices {
         ends: Vec::new(alloc),
@@ -19,10 +19,10 @@ fn choices_of(
             spawn: *spawn,
         })?;
     }
-    for (at, spawn) in joins {
-        choices.joins.push(Join {
+    for (at, taken) in joins {
+        choices.joins.push(Choice {
             at: *at,
-            spawn: *spawn,
+            taken: *taken,
         })?;
     }
     Ok(choices)
@@ -33,7 +33,7 @@ fn entered(
     alloc: Global,
     count: u32,
     ends: &[(u32, u32)],
-    joins: &[(u32, u32)],
+    joins: &[(u32, Option<u32>)],
 ) -> Result<Vec<usize>, AllocError> {
     let marks = settle(alloc, count, &choices_of(alloc, ends, joins)?)?;
     let mut spawns = Vec::new(alloc);
@@ -47,7 +47,7 @@ fn entered(
 
 #[test]
 fn each_event_has_a_mark(rt: HostRuntime) -> Result<(), Fail> {
-    let choices = choices_of(rt.alloc(), &[(2, 0)], &[(4, 0)])?;
+    let choices = choices_of(rt.alloc(), &[(2, 0)], &[(4, Some(0))])?;
     let marks = settle(rt.alloc(), 6, &choices)?;
     assert_eq!(rt;
         marks.as_slice(),
@@ -62,7 +62,7 @@ fn each_event_has_a_mark(rt: HostRuntime) -> Result<(), Fail> {
 struct Run {
     count: u32,
     ends: &'static [(u32, u32)],
-    joins: &'static [(u32, u32)],
+    joins: &'static [(u32, Option<u32>)],
     entered: &'static [usize],
 }
 
@@ -71,69 +71,69 @@ const RUNS: &[Run] = &[
     Run {
         count: 6,
         ends: &[(2, 0)],
-        joins: &[(4, 0)],
+        joins: &[(4, Some(0))],
         entered: &[0],
     },
     Run {
         count: 6,
         ends: &[(2, 0)],
-        joins: &[],
+        joins: &[(4, None)],
         entered: &[],
     },
     // spawn, 7, return, 2: the child joins at the end
     Run {
         count: 4,
         ends: &[(2, 0)],
-        joins: &[(4, 0)],
+        joins: &[(4, Some(0))],
         entered: &[0],
     },
     // spawn, 5, return, spawn, 5, return, sync: of two equal children the earlier one
     Run {
         count: 7,
         ends: &[(2, 0), (5, 3)],
-        joins: &[(6, 0)],
+        joins: &[(6, Some(0))],
         entered: &[0],
     },
     // spawn, spawn, 3, return, 1, return, 2, sync, 1: the outer child's return waits for the inner one
     Run {
         count: 9,
         ends: &[(3, 1), (5, 0)],
-        joins: &[(5, 1), (7, 0)],
+        joins: &[(5, Some(1)), (7, Some(0))],
         entered: &[0, 1],
     },
     // with 9 in place of the 2 the outer child isn't taken
     Run {
         count: 9,
         ends: &[(3, 1), (5, 0)],
-        joins: &[(5, 1)],
+        joins: &[(5, Some(1)), (7, None)],
         entered: &[],
     },
     // spawn, spawn, 5, return, sync, return, 10, sync
     Run {
         count: 8,
         ends: &[(3, 1), (5, 0)],
-        joins: &[(4, 1)],
+        joins: &[(4, Some(1)), (7, None)],
         entered: &[],
     },
     // spawn, 4, return, 1, sync, spawn, 2, return, 5, sync
     Run {
         count: 10,
         ends: &[(2, 0), (7, 5)],
-        joins: &[(4, 0)],
+        joins: &[(4, Some(0)), (9, None)],
         entered: &[0],
     },
     // spawn, 6, return, call, spawn, 5, return, 1, return, 2, sync
     Run {
         count: 11,
         ends: &[(2, 0), (6, 4)],
-        joins: &[(8, 4)],
+        joins: &[(8, Some(4)), (10, None)],
         entered: &[4],
     },
     // with 9 in place of the 6 the path goes through the first child, and not through the call
     Run {
         count: 11,
         ends: &[(2, 0), (6, 4)],
-        joins: &[(8, 4), (10, 0)],
+        joins: &[(8, Some(4)), (10, Some(0))],
         entered: &[0],
     },
 ];

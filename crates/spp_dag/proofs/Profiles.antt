@@ -10,7 +10,8 @@ use Rattle.spp_maxplus.specs.State.{unburdened, close}
 use Rattle.spp_dag.specs.Trace.{records, event_at, weight, weight_of, closing, is_frame, IsWellFormed}
 use Rattle.spp_dag.specs.Dag.{IsGreatest}
 use Rattle.spp_dag.specs.Rows.{is_of, is_top_site, is_top_caller, work, row, everywhere, contains, AreSpans}
-use Rattle.spp_dag.specs.Laws.{SpansAreOne, ContainsPassed, RootWorkIsAll, HasProfile, ProfileIsOne}
+use Rattle.spp_dag.specs.Ranges.{within}
+use Rattle.spp_dag.specs.Laws.{SpansAreOne, SharesAreOne, ContainsPassed, RootWorkIsAll, HasProfile, ProfileIsOne}
 use Rattle.spp_dag.proofs.Machine.{Frame, stack, shape}
 use Rattle.spp_dag.proofs.Span.{closes_with_greatest}
 use Rattle.spp_dag.proofs.Ties.{path_exists, path_unique, closing_inside}
@@ -51,6 +52,20 @@ rows_one es root on a b key g h =
     let frame = λ (mark : ℕ → Bool) (f : ℕ) (e : ((on f && is_of es key f) && mark f) ≡ true).
     row_frame es key f (and_parts (on f) (is_of es key f) (and_parts (on f && is_of es key f) (mark f) e).0).1 in
     let same = λ (mark : ℕ → Bool) (f : ℕ) (l : f < n) (e : ((on f && is_of es key f) && mark f) ≡ true).
+    greatest_one es unburdened f (closing es f) (a f) (b f) (g f (frame mark f e)) (h f (frame mark f e)) in
+    same_rows _ _ refl refl refl refl
+    (sum-same _ _ a b n (λ f l. refl) (same (is_top_site es)))
+    refl refl
+    (sum-same _ _ a b n (λ f l. refl) (same (is_top_caller es root)))
+
+pub shares_one : SharesAreOne
+shares_one es root on a b key from end g h =
+    let n : ℕ = suc (length es) in
+    let frame = λ (mark : ℕ → Bool) (f : ℕ) (e : (((on f && is_of es key f) && within from end (closing es f)) && mark f) ≡ true).
+    row_frame es key f (and_parts (on f) (is_of es key f)
+    (and_parts (on f && is_of es key f) (within from end (closing es f))
+    (and_parts ((on f && is_of es key f) && within from end (closing es f)) (mark f) e).0).0).1 in
+    let same = λ (mark : ℕ → Bool) (f : ℕ) (l : f < n) (e : (((on f && is_of es key f) && within from end (closing es f)) && mark f) ≡ true).
     greatest_one es unburdened f (closing es f) (a f) (b f) (g f (frame mark f e)) (h f (frame mark f e)) in
     same_rows _ _ refl refl refl refl
     (sum-same _ _ a b n (λ f l. refl) (same (is_top_site es)))

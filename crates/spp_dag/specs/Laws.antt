@@ -185,6 +185,11 @@ abbrev pub SpansAreOne : Type 0
 SpansAreOne = (es : List Event) → IsWellFormed es → ((span : ℕ → ℕ) × AreSpans es span)
     × ((root : ℕ) (on : ℕ → Bool) (a b : ℕ → ℕ) (key : Option ℕ) → AreSpans es a → AreSpans es b → row es root a on key ≡ row es root b on key)
 
+-- and no share does
+abbrev pub SharesAreOne : Type 0
+SharesAreOne = (es : List Event) (root : ℕ) (on : ℕ → Bool) (a b : ℕ → ℕ) (key : Option ℕ) (from end : ℕ) → AreSpans es a → AreSpans es b
+    → share es root a on key from end ≡ share es root b on key from end
+
 -- the test of a path's rows passes where the path does
 abbrev pub ContainsPassed : Type 0
 ContainsPassed = (x : ℕ) (ps : List ℕ) (i : ℕ) → (contains (x ∷ ps) i ≡ true) ↔ On x ps i

@@ -9,14 +9,14 @@ pub struct End {
     pub spawn: u32,
 }
 
-/// A place where a frame waits, at a sync, at its return or at the end, and the path through the frame to there comes
-/// from a child that joins there.
+/// A place where some spawned child joins its parent: a sync, a return, or the end.
 #[derive(Clone, Copy, Debug, PartialEq, Eq)]
-pub struct Join {
+pub struct Choice {
     /// The position of the sync or the return, or the number of events at the end.
     pub at: u32,
-    /// The position of the spawn of that child.
-    pub spawn: u32,
+    /// The position of the spawn of the child that the path through the parent to there comes from; none where it
+    /// comes along the parent itself.
+    pub taken: Option<u32>,
 }
 
 /// The choices of a run: what decides which children its path enters.
@@ -24,6 +24,6 @@ pub struct Join {
 pub struct Choices {
     /// The returns of all spawned children, in order.
     pub ends: Vec<End>,
-    /// The places where a child is taken, in order.
-    pub joins: Vec<Join>,
+    /// What the path comes from at each place where a child joins, in order.
+    pub joins: Vec<Choice>,
 }

@@ -19,6 +19,7 @@ ghost use Rattle.spp_dag.specs.Laws.{
   TakenJoins,
   PathTakesLeast,
   SharesAdd,
+  SharesAreOne,
   SharesMakeRows,
   EndIsRoots,
   SpansAreOne,
@@ -77,12 +78,13 @@ pub fn choice_laws()
     ensures waited { ChildIsWaited }
 {}
 
-/// The laws of rows: those of the ranges of a cut add up, with the root frame's own row, to those of the whole. Its
-/// contract is what it is for.
+/// The laws of rows: those of the ranges of a cut add up, with the root frame's own row, to those of the whole; and they
+/// don't depend on which spans are taken for those of frames. Its contract is what it is for.
 pub fn share_laws()
     ensures add { SharesAdd }
     ensures whole { SharesMakeRows }
     ensures end { EndIsRoots }
+    ensures spans { SharesAreOne }
 {}
 
 /// The laws of one event: what it makes of the open frames, their marks among it, and what it adds to each row. Its

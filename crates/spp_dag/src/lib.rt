@@ -8,7 +8,7 @@ mod laws;
 mod row;
 mod stack;
 
-pub use choices::{Choices, End, Join};
+pub use choices::{Choice, Choices, End};
 pub use figures::Figures;
 pub use laws::{
     choice_laws, limit_laws, path_laws, profile_laws, share_laws, stack_laws, step_laws, walk_laws,

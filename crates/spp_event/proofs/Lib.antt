@@ -15,3 +15,4 @@ pub mod GoodRecords
 pub mod KnownRecords
 pub mod WrittenBytes
 pub mod GoodNames
+pub mod SpelledBodies

@@ -1,11 +1,10 @@
 -- The strands of a trace whose records are known to be within its limits.
-use Rattle.std.proofs.Common.{◌≡◌, ℕ, zero, suc, ◌<◌, ◌≤◌, ◌^◌, List, [], ◌∷◌, length, Some, Ok, IfOk, ap, subst, arith}
+use Rattle.std.proofs.Common.{◌≡◌, ℕ, zero, suc, ◌<◌, ◌≤◌, ◌^◌, List, [], ◌∷◌, length, Ok, IfOk, ap, subst, arith}
 use Rattle.std.proofs.lemmas.List.{length-map}
 use Rattle.spp_event.specs.declared.records.Event.{Event}
-use Rattle.spp_event.specs.declared.records.Event.TheVariants.{Strand, Call, Spawn, Ret, Sync}
 use Rattle.spp_event.specs.Records.{IsEventOf}
 use Rattle.spp_event.specs.Recordings.{Record, AreEventsOf, record_at}
-use Rattle.spp_dag.specs.Trace.{records, weight, weight_of}
+use Rattle.spp_dag.specs.Trace.{records, weight}
 use Rattle.spp_dag.specs.Limits.{IsSmall}
 use Rattle.spp_dag.proofs.EventsOfRecords.{weight_small}
 

@@ -1,7 +1,6 @@
 -- The shares of the parts of a cut make the rows of the dag.
-use Rattle.std.proofs.Common.{◌≡◌, ℕ, zero, suc, ◌+◌, ◌<◌, ◌≤◌, Bool, true, ◌&&◌, List, [], ◌∷◌, length, map, get_or, take, drop, Option, Some, None, Ok, refl, sym, ap, ap₂, subst, ◌∙◌, arith}
+use Rattle.std.proofs.Common.{◌≡◌, ℕ, zero, suc, ◌+◌, ◌<◌, ◌≤◌, true, List, [], ◌∷◌, length, map, get_or, take, drop, Option, Some, None, Ok, refl, sym, ap, ap₂, subst, ◌∙◌, arith}
 use Rattle.std.proofs.lemmas.List.Sums.{sum_by-cons}
-use Rattle.std.proofs.lemmas.Bool.{and_parts}
 use Rattle.std.proofs.lemmas.List.{length-take-le, length-drop, length-map}
 use Rattle.spp_event.specs.declared.records.Event.{Event}
 use Rattle.spp_event.specs.Recordings.{Record, Recording}
@@ -13,17 +12,15 @@ use Rattle.spp_maxplus.specs.declared.state.Burdens.{Burdens}
 use Rattle.spp_maxplus.specs.State.{unburdened}
 use Rattle.spp_dag.specs.declared.row.Row.{Row}
 use Rattle.spp_dag.specs.declared.stack.EntryFrame.{EntryFrame}
-use Rattle.spp_dag.specs.Ranges.{within}
-use Rattle.spp_dag.specs.Trace.{closing, IsWellFormed}
-use Rattle.spp_dag.specs.Rows.{AreSpans, everywhere, work, is_of, is_top_site, is_top_caller, row}
+use Rattle.spp_dag.specs.Trace.{IsWellFormed}
+use Rattle.spp_dag.specs.Rows.{everywhere, work, row}
 use Rattle.spp_dag.specs.Shares.{share, plus}
 use Rattle.spp_dag.specs.Laws.{own_row}
 use Rattle.spp_dag.specs.Choices.{IsEntry}
 use Rattle.spp_dag.specs.Limits.{IsSmall, IsSmallRow}
 use Rattle.spp_dag.proofs.Bounds.{rows_fit}
-use Rattle.spp_dag.proofs.Profiles.{row_frame, greatest_one, spans_of, are_spans, root_work}
+use Rattle.spp_dag.proofs.Profiles.{shares_one, greatest_one, spans_of, are_spans, root_work}
 use Rattle.spp_dag.proofs.Shares.{same_rows, shares_law, cut_law, end_law}
-use Rattle.spp_dag.proofs.Sums.{sum-same}
 use Rattle.spp_site.specs.Rows.{Fits, frame_row}
 use Rattle.spp_site.specs.Table.{Sums, empty, IsSum}
 use Rattle.spp_site.proofs.Rows.{plus-zero}
@@ -40,23 +37,6 @@ use Rattle.spp_site.specs.Profiles.{IsDagTable}
 use Rattle.spp_pass.proofs.Bounded.{empty_rows}
 use Rattle.spp_pass.proofs.Shared.{share_none}
 use Rattle.spp_parts.proofs.Accounts.{account_in}
-
--- ---- no share depends on the choice of spans
-
-pub shares_one : (es : List Event) (root : ℕ) (a b : ℕ → ℕ) (key : Option ℕ) (from end : ℕ) → AreSpans es a → AreSpans es b
-    → share es root a everywhere key from end ≡ share es root b everywhere key from end
-shares_one es root a b key from end g h =
-    let n : ℕ = suc (length es) in
-    let frame = λ (mark : ℕ → Bool) (f : ℕ) (e : (((everywhere f && is_of es key f) && within from end (closing es f)) && mark f) ≡ true).
-    row_frame es key f (and_parts (everywhere f) (is_of es key f)
-    (and_parts (everywhere f && is_of es key f) (within from end (closing es f))
-    (and_parts ((everywhere f && is_of es key f) && within from end (closing es f)) (mark f) e).0).0).1 in
-    let same = λ (mark : ℕ → Bool) (f : ℕ) (l : f < n) (e : (((everywhere f && is_of es key f) && within from end (closing es f)) && mark f) ≡ true).
-    greatest_one es unburdened f (closing es f) (a f) (b f) (g f (frame mark f e)) (h f (frame mark f e)) in
-    same_rows _ _ refl refl refl refl
-    (sum-same _ _ a b n (λ f l. refl) (same (is_top_site es)))
-    refl refl
-    (sum-same _ _ a b n (λ f l. refl) (same (is_top_caller es root)))
 
 -- ---- where parts begin
 
@@ -156,7 +136,7 @@ module _ (t : Recording) (from to : ℕ) (rises : from ≤ to) (dag part : Sums)
       → plus (key_row dag key) (key_row part key) ≡ share es t.root (spans_of es) everywhere key 0 to
   both_rows es are wf key =
       let p = (is es are).table in
-      ap₂ plus (rows es are wf key) (p.2 key ∙ shares_one es t.root p.0 (spans_of es) key from to p.1 (are_spans es wf))
+      ap₂ plus (rows es are wf key) (p.2 key ∙ shares_one es t.root everywhere p.0 (spans_of es) key from to p.1 (are_spans es wf))
       ∙ sym (shares_law es t.root (spans_of es) everywhere key 0 from to (omega arith) rises)
 
   pub merge_fits : (es : List Event) → AreEvents t.records es → IsWellFormed es → IsSmall es → (key : Option ℕ) → Fits (plus (key_row dag key) (key_row part key))

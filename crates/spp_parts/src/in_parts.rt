@@ -39,7 +39,7 @@ fn root_row(whole: &Figures) -> Row
 /// The events are read twice, once for the frames that are open where parts begin, and once for the shares. The time is
 /// linear in the number of events, and for each part in the numbers of sites and functions that are open before it or
 /// come in it, and in the greatest of these numbers. The memory is what `survey` and `entries` take, one part's table
-/// at a time, and for the choices up to 16 bytes for each spawned child, or twice that where the lists grew bit by bit.
+/// at a time, and for the choices up to 20 bytes for each spawned child, or twice that where the lists grew bit by bit.
 ///
 /// # Errors
 ///
@@ -56,7 +56,7 @@ pub fn table_in_parts(alloc: Global, cut: &Cut<'_, '_>) -> Result<Tabled, Profil
     let mut choices = Vec::with_capacity(alloc, parts.len())?;
     for k in 0..parts.len() {
         let told = run_part(alloc, &parts[k], stacks.entry(k))?;
-        dag.absorb(&told.table)?;
+        dag.absorb(&told.share)?;
         choices.push_reserved(told.choices);
     }
     dag.add_root(&root_row(&found.whole));

@@ -14,7 +14,7 @@ use Rattle.spp_frame.specs.Nesting.{AreEvents}
 use Rattle.spp_frame.proofs.Laws.{well_formed_has_none}
 use Rattle.spp_maxplus.specs.declared.state.State.{State}
 use Rattle.spp_maxplus.specs.State as state
-use Rattle.spp_maxplus.specs.State.{unburdened, taken, close, after_strand, after_sync}
+use Rattle.spp_maxplus.specs.State.{unburdened, close, after_strand, after_sync}
 use Rattle.spp_dag.specs.declared.row.Row.{Row}
 use Rattle.spp_dag.specs.declared.stack.OpenFrame.{OpenFrame}
 use Rattle.spp_dag.specs.declared.stack.FrameKind.TheVariants.{Called, Spawned}
@@ -28,7 +28,7 @@ use Rattle.spp_site.specs.Marks.{without}
 use Rattle.spp_site.proofs.Rows.{zero-plus}
 use Rattle.spp_site.specs.Profiles.{key_row}
 use Rattle.spp_dag.specs.declared.choices.End.{End}
-use Rattle.spp_dag.specs.declared.choices.Join.{Join}
+use Rattle.spp_dag.specs.declared.choices.Choice.{Choice}
 use Rattle.spp_dag.specs.ChoiceLists.{IsEnd, IsJoin}
 use Rattle.spp_site.proofs.RowSums.{none_owed, Low, low_zero}
 use Rattle.spp_dag.proofs.EventsOfRecords.{no_fault_in}
@@ -114,7 +114,7 @@ next_passed trace sound i lt Ret r s at = by s.frames at
           work = s.work;
           table = u.0;
           ends = s.ends ++ ends_at i f.kind f.at;
-          joins = s.joins ++ joins_at i (taken (state_of f));
+          joins = s.joins ++ joins_at i (state_of f);
         } in (
           new,
           return_passed trace unburdened light sound.short 0 i (omega arith) lt r (record s { frames = f ∷ g ∷ fs }) new
@@ -240,7 +240,7 @@ begun_passed trace i s at =
         entry = subst (λ l. IsEntry es trace.root i l s.work) (sym same) (at.shared es are wf span spans).entry;
         rows = λ key. no_rows s.frames key ∙ sym (share_none es wf trace.root span spans i key);
       };
-      noted = λ es are wf. (none_from (λ (e : End). e.at) (IsEnd es) i, none_from (λ (j : Join). j.at) (IsJoin es) i);
+      noted = λ es are wf. (none_from (λ (e : End). e.at) (IsEnd es) i, none_from (λ (j : Choice). j.at) (IsJoin es) i);
     }
 
 -- ---- its frames are those of the entry

@@ -4,12 +4,10 @@ use Rattle.std.proofs.Common.{◌≡◌, ℕ, suc, ◌+◌, ◌*◌, ◌<◌, �
 use Rattle.std.specs.FinMap as map
 use Rattle.std.specs.Ordering.{nat_cmp}
 use Rattle.std.proofs.lemmas.Bool.{eq-eqb, ne_eqb, cases_eq}
-use Rattle.spp_maxplus.specs.declared.state.State.{State}
 use Rattle.spp_maxplus.specs.State.{unburdened, close, after_strand, after_sync}
 use Rattle.spp_dag.specs.declared.row.Row.{Row}
 use Rattle.spp_dag.specs.declared.stack.EntryFrame.{EntryFrame}
 use Rattle.spp_dag.specs.declared.stack.FrameKind.{FrameKind}
-use Rattle.spp_dag.specs.declared.stack.FrameKind.TheVariants.{Root}
 use Rattle.spp_dag.specs.Stack.{after_child}
 use Rattle.spp_dag.specs.Shares.{plus, zero_row}
 use Rattle.spp_dag.specs.Steps.{site_by, key_of, same_key, has_site, has_func, strand_row, closed_row}

@@ -1,5 +1,5 @@
--- In a well-formed trace what a pass notes is all choices so far: each return of a spawned child, and each child that
--- is taken where a frame waits.
+-- In a well-formed trace what a pass notes is all choices so far: each return of a spawned child, and at each place where
+-- children join the one that is taken, if any.
 use Rattle.std.proofs.Common.{◌≡◌, ℕ, zero, suc, ◌<◌, ◌≤◌, ◌↔◌, ◌⊎◌, true, false, List, [], ◌∷◌, ◌++◌, length, map, take, Option, Some, None, refl, sym, ap, subst, ◌∙◌, arith, inl, inr}
 use Rattle.std.specs.Prelude.{Contains, slice_index_or}
 use Rattle.std.proofs.lemmas.Bool.{cases_eq, cases_lt, both_ways}
@@ -14,10 +14,10 @@ use Rattle.spp_dag.specs.declared.stack.FrameKind.TheVariants.{Root, Called, Spa
 use Rattle.spp_dag.specs.Trace.{event_at, returns, spawns, syncs, partner, owner, join, IsWellFormed}
 use Rattle.spp_dag.specs.Stack.{run, root_frame}
 use Rattle.spp_dag.specs.Laws.{Waits, JoinsAt}
-use Rattle.spp_dag.specs.Choices.{IsChoice, first_of}
+use Rattle.spp_dag.specs.Choices.{IsChoice, HasChoice, IsWaited, first_of}
 use Rattle.spp_dag.proofs.Crossing.{owner_closing}
 use Rattle.spp_dag.proofs.Depth.{closed}
-use Rattle.spp_dag.proofs.Entries.{taken_is_choice}
+use Rattle.spp_dag.proofs.Entries.{taken_is_choice, child_is_waited}
 use Rattle.spp_dag.proofs.Machine.{Opened, Shape, shape}
 use Rattle.spp_dag.proofs.Owner.{owner_is, return_closes}
 use Rattle.spp_dag.proofs.Stacks.{plain_top, path_takes_child}
@@ -25,10 +25,10 @@ use Rattle.spp_dag.proofs.StepsFrames.{TracedBy, all_traced}
 use Rattle.spp_dag.proofs.Ties.{path_exists_to}
 use Rattle.spp_dag.proofs.Upper.{spawns_opens}
 use Rattle.spp_dag.specs.declared.choices.End.{End}
-use Rattle.spp_dag.specs.declared.choices.Join.{Join}
+use Rattle.spp_dag.specs.declared.choices.Choice.{Choice}
 use Rattle.spp_dag.specs.ChoiceLists.{AreRising, IsEnd, IsJoin}
 use Rattle.spp_dag.proofs.JoinPlaces.{join_waits}
-use Rattle.spp_pass.specs.Passes.{joins_at, ends_at}
+use Rattle.spp_pass.specs.Passes.{choice_of, listed, joins_at, ends_at}
 
 -- ---- lists in order of position
 
@@ -133,11 +133,11 @@ module _ (es : List Event) (wf : IsWellFormed es) (i : ℕ) where
   no_end n = none_at (λ (e : End). e.at) (IsEnd es) i (λ x p e. both_ways (returns (event_at es i)) n (end_returns x p e))
 
   -- a child joins where its frame waits
-  pub no_join : i < length es → syncs (event_at es i) ≡ false → AreAt (λ (j : Join). j.at) (IsJoin es) i []
-  no_join l n = none_at (λ (j : Join). j.at) (IsJoin es) i (λ x p e.
-      let j : JoinsAt es x.at x.spawn = p.1.0 in
-      let k : join es x.spawn ≡ i = j.1 ∙ e in
-      both_ways (syncs (event_at es i)) n (subst (λ m. syncs (event_at es m) ≡ true) k ((join_waits es wf x.spawn j.0).1 (omega arith))))
+  pub no_join : i < length es → syncs (event_at es i) ≡ false → AreAt (λ (j : Choice). j.at) (IsJoin es) i []
+  no_join l n = none_at (λ (j : Choice). j.at) (IsJoin es) i (λ x p e.
+      let j : JoinsAt es x.at p.1.0 = p.1.1 in
+      let k : join es p.1.0 ≡ i = j.1 ∙ e in
+      both_ways (syncs (event_at es i)) n (subst (λ m. syncs (event_at es m) ≡ true) k ((join_waits es wf p.1.0 j.0).1 (omega arith))))
 
   module _ (root : ℕ) (f : OpenFrame) (fs : List OpenFrame) (stands : run unburdened 0 (take i es) (root_frame root ∷ []) ≡ Some (f ∷ fs)) (l : i ≤ length es) where
     at_top : Shape es 1 (λ _. 0) (λ _. 0) i
@@ -175,21 +175,26 @@ module _ (es : List Event) (wf : IsWellFormed es) (i : ℕ) where
             one_at (λ (e : End). e.at) (IsEnd es) i (record { at = i; spawn = f.at }) (ap spawns t, ap (partner es) (sym s) ∙ r.2) refl
             (λ x p e. same_end x f.at e (let z : suc f.at ≡ suc x.spawn = h x p e in omega arith))
 
-    same_join : (x : Join) (s : ℕ) → x.at ≡ i → s ≡ x.spawn → record { at = i; spawn = s } ≡ x
-    same_join x s a b = λ j. record { at = sym a j; spawn = b j }
+    same_join : (x : Choice) (t : Option ℕ) → x.at ≡ i → t ≡ x.taken → record { at = i; taken = t } ≡ x
+    same_join x t a b = λ j. record { at = sym a j; taken = b j }
 
-    -- where a frame waits, the machine takes the child that is chosen
-    pub wait_joins : Waits es i → AreAt (λ (j : Join). j.at) (IsJoin es) i (joins_at i (taken f.plain))
-    wait_joins waits = by (taken f.plain) refl (taken_is_choice es wf unburdened i waits f (fs, (root, stands))).0
+    -- where a frame waits, the machine holds a child where one joins, and takes what is chosen
+    pub wait_joins : Waits es i → AreAt (λ (j : Choice). j.at) (IsJoin es) i (joins_at i f.plain)
+    wait_joins waits = by f.plain.child refl (child_is_waited es wf unburdened i waits f (fs, (root, stands))).0
       where
-        is_taken : (x : Join) → IsJoin es x → x.at ≡ i → taken f.plain ≡ Some x.spawn
-        is_taken x p e =
-            let c : IsChoice es unburdened i (Some x.spawn) = subst (λ k. IsChoice es unburdened k (Some x.spawn)) e p.1 in
-            let ps = path_exists_to es wf unburdened i waits.0 waits.1 in
-            ((path_takes_child es wf unburdened i waits f (fs, (root, stands)) x.spawn c.0.0 c.0.1).0 ps.0 ps.1).0 (c.1 ps.0 ps.1)
+        chosen : IsChoice es unburdened i (taken f.plain)
+        chosen = (taken_is_choice es wf unburdened i waits f (fs, (root, stands))).0
 
-        by : (o : Option ℕ) → taken f.plain ≡ o → IsChoice es unburdened i o → AreAt (λ (j : Join). j.at) (IsJoin es) i (joins_at i o)
-        by None q c = none_at (λ (j : Join). j.at) (IsJoin es) i (λ x p e. let z = sym q ∙ is_taken x p e in absurd cc)
-        by (Some s) q c =
-            one_at (λ (j : Join). j.at) (IsJoin es) i (record { at = i; spawn = s }) (l, c) refl
-            (λ x p e. same_join x s e (let z : Some s ≡ Some x.spawn = sym q ∙ is_taken x p e in cc))
+        -- what is chosen is one
+        same_choice : (o t : Option ℕ) → taken f.plain ≡ t → IsChoice es unburdened i t → IsChoice es unburdened i o → t ≡ o
+        same_choice (Some s) t q d c =
+            let ps = path_exists_to es wf unburdened i waits.0 waits.1 in
+            sym q ∙ ((path_takes_child es wf unburdened i waits f (fs, (root, stands)) s c.0.0 c.0.1).0 ps.0 ps.1).0 (c.1 ps.0 ps.1)
+        same_choice None None q d c = refl
+        same_choice None (Some s) q d c = let ps = path_exists_to es wf unburdened i waits.0 waits.1 in absurd (c s d.0 ps.0 ps.1 (d.1 ps.0 ps.1))
+
+        by : (o : Option (ℕ × ℕ)) → f.plain.child ≡ o → IsWaited es i o → AreAt (λ (j : Choice). j.at) (IsJoin es) i (listed (choice_of i o (taken f.plain)))
+        by None q w = none_at (λ (j : Choice). j.at) (IsJoin es) i (λ x p e. w (subst (λ k. HasChoice es k) e p.1))
+        by (Some c) q w =
+            one_at (λ (j : Choice). j.at) (IsJoin es) i (record { at = i; taken = taken f.plain }) (l, (c.1, w), chosen) refl
+            (λ x p e. same_join x (taken f.plain) e (same_choice x.taken (taken f.plain) refl chosen (subst (λ k. IsChoice es unburdened k x.taken) e p.2)))

@@ -23,7 +23,7 @@ use Rattle.spp_site.proofs.Rows.{plus-zero}
 use Rattle.spp_stack.specs.Chain.{StackOf, HasFrames}
 use Rattle.spp_site.specs.Profiles.{key_row}
 use Rattle.spp_dag.specs.declared.choices.End.{End}
-use Rattle.spp_dag.specs.declared.choices.Join.{Join}
+use Rattle.spp_dag.specs.declared.choices.Choice.{Choice}
 use Rattle.spp_site.proofs.RowSums.{none_owed, low_fits}
 use Rattle.spp_pass.specs.declared.part.PartResult.{PartResult}
 use Rattle.spp_pass.specs.declared.summing.CountedFrame.{CountedFrame}
@@ -299,7 +299,7 @@ module _ (trace : Recording) (sound : Sound trace) (first i : ℕ) (within : i �
       (g.passed.bounded.low key) (omega arith) (omega arith)
 
   -- what the part tells is so
-  pub going_end : (p : PartResult) → IsSuspended s p → (es : List Event) → AreEvents trace.records es → IsPartOf es trace.root first i p.table p.choices
+  pub going_end : (p : PartResult) → IsSuspended s p → (es : List Event) → AreEvents trace.records es → IsPartOf es trace.root first i p.share p.choices
   going_end p h es are =
       let wf : IsWellFormed es = subst (λ (rs : List Record). nesting.IsWellFormed rs) are sound.formed in
       let sp = (spans_law es wf).0 in
@@ -310,7 +310,7 @@ module _ (trace : Recording) (sound : Sound trace) (first i : ℕ) (within : i �
         table = (
           sp.0,
           sp.1,
-          λ key. h.table key ∙ ap (λ r. plus (key_row s.table key) r) (sym (owed_open s.frames g.frames key)) ∙ (g.passed.shared es are wf sp.0 sp.1).rows key,
+          λ key. h.share key ∙ ap (λ r. plus (key_row s.table key) r) (sym (owed_open s.frames g.frames key)) ∙ (g.passed.shared es are wf sp.0 sp.1).rows key,
         );
         choices = record {
           ends_rise = subst (λ (l : List End). AreRising (map (λ (e : End). e.at) l)) (sym h.ends) ends.rise;
@@ -318,8 +318,8 @@ module _ (trace : Recording) (sound : Sound trace) (first i : ℕ) (within : i �
             λ m. let q = (ends.are e).0 m in (q.0.0, (q.0.1, q.1)),
             λ q. (ends.are e).1 ((q.0, q.1.0), q.1.1),
           );
-          joins_rise = subst (λ (l : List Join). AreRising (map (λ (j : Join). j.at) l)) (sym h.joins) joins.rise;
-          joins = λ j. subst (λ (l : List Join). Contains l j ↔ (IsJoin es j × IsWithin first i j.at)) (sym h.joins) (
+          joins_rise = subst (λ (l : List Choice). AreRising (map (λ (j : Choice). j.at) l)) (sym h.joins) joins.rise;
+          joins = λ j. subst (λ (l : List Choice). Contains l j ↔ (IsJoin es j × IsWithin first i j.at)) (sym h.joins) (
             λ m. let q = (joins.are j).0 m in (q.0.0, (q.0.1, q.1)),
             λ q. (joins.are j).1 ((q.0, q.1.0), q.1.1),
           );

@@ -1,19 +1,15 @@
 -- What a pass over the events of a run keeps: its frames are those of the figures, its counts and sums are within
 -- bounds, and if the trace is well-formed its table and its choices are those so far.
-use Rattle.std.proofs.Common.{◌≡◌, ℕ, suc, ◌+◌, ◌*◌, ◌<◌, ◌≤◌, ◌^◌, true, false, List, [], ◌∷◌, ◌++◌, length, map, take, Option, Some, None, Ok, Err, IfOk, refl, sym, ap, subst, ◌∙◌, arith}
-use Rattle.std.specs.Option.{option_map}
-use Rattle.std.specs.List.{slice_get}
+use Rattle.std.proofs.Common.{◌≡◌, ℕ, suc, ◌+◌, ◌*◌, ◌<◌, ◌≤◌, ◌^◌, true, false, List, [], ◌∷◌, ◌++◌, length, map, take, Some, None, Ok, IfOk, refl, sym, ap, subst, ◌∙◌, arith}
 use Rattle.std.proofs.lemmas.List.{length-map, append-nil}
-use Rattle.std.proofs.lemmas.Option.{slice_get-map, slice_get-get_or}
 use Rattle.spp_event.specs.declared.records.Event.{Event}
 use Rattle.spp_event.specs.declared.records.Event.TheVariants.{Strand, Call, Spawn, Ret, Sync}
-use Rattle.spp_event.specs.declared.records.EventFault.TheVariants.{Truncated}
 use Rattle.spp_event.specs.Records.{IsEventOf}
 use Rattle.spp_event.specs.Recordings.{Record, Recording, record_at}
 use Rattle.spp_frame.specs.Nesting as nesting
 use Rattle.spp_frame.specs.Nesting.{AreEvents}
 use Rattle.spp_maxplus.specs.declared.state.Burdens.{Burdens}
-use Rattle.spp_maxplus.specs.State.{unburdened, taken}
+use Rattle.spp_maxplus.specs.State.{unburdened}
 use Rattle.spp_dag.specs.declared.stack.EntryFrame.{EntryFrame}
 use Rattle.spp_dag.specs.declared.stack.OpenFrame.{OpenFrame}
 use Rattle.spp_dag.specs.declared.stack.FrameKind.TheVariants.{Called, Spawned}
@@ -32,7 +28,7 @@ use Rattle.spp_dag.specs.declared.figures.Figures.{Figures}
 use Rattle.spp_dag.specs.Figures.{AreFigures}
 use Rattle.spp_dag.specs.declared.choices.Choices.{Choices}
 use Rattle.spp_dag.specs.declared.choices.End.{End}
-use Rattle.spp_dag.specs.declared.choices.Join.{Join}
+use Rattle.spp_dag.specs.declared.choices.Choice.{Choice}
 use Rattle.spp_dag.specs.ChoiceLists.{IsEnd, IsJoin, AreChoices}
 use Rattle.spp_dag.proofs.EventsOfRecords.{event_is}
 use Rattle.spp_pass.specs.declared.summing.CountedFrame.{CountedFrame}
@@ -55,12 +51,12 @@ leans fs = map lean fs
 abbrev pub EndFrom : List Event → ℕ → End → Type 0
 EndFrom es from e = IsEnd es e × (from ≤ e.at)
 
-abbrev pub JoinFrom : List Event → ℕ → Join → Type 0
+abbrev pub JoinFrom : List Event → ℕ → Choice → Type 0
 JoinFrom es from j = IsJoin es j × (from ≤ j.at)
 
 -- the ends and the joins from position `from` on and before i
-abbrev pub AreNoted : List Event → ℕ → ℕ → List End → List Join → Type 0
-AreNoted es from i ends joins = AreTo (λ (e : End). e.at) (EndFrom es from) i ends × AreTo (λ (j : Join). j.at) (JoinFrom es from) i joins
+abbrev pub AreNoted : List Event → ℕ → ℕ → List End → List Choice → Type 0
+AreNoted es from i ends joins = AreTo (λ (e : End). e.at) (EndFrom es from) i ends × AreTo (λ (j : Choice). j.at) (JoinFrom es from) i joins
 
 -- before the event at i the pass, which began at `from`, has s
 pub record Passed (trace : Recording) (burdens : Burdens) (from i : ℕ) (s : Seen) : Type 0 where
@@ -78,7 +74,7 @@ start_passed trace burdens s e = subst (λ x. Passed trace burdens 0 0 x) (sym e
   neat = ((λ c. refl), tt);
   bounded = start_bounded trace.root;
   shared = λ es are wf span spans. start_shared es wf trace.root span spans;
-  noted = λ es are wf. (none_from (λ (e : End). e.at) (IsEnd es) 0, none_from (λ (j : Join). j.at) (IsJoin es) 0);
+  noted = λ es are wf. (none_from (λ (e : End). e.at) (IsEnd es) 0, none_from (λ (j : Choice). j.at) (IsJoin es) 0);
 })
 
 -- ---- the events of a trace
@@ -126,10 +122,10 @@ top_of es root i w f fs at = by at.0 at.1 at.2
 
 -- what is noted where it waits
 joins_of : (es : List Event) → IsWellFormed es → (root i w : ℕ) (f : CountedFrame) (fs : List CountedFrame) → IsEntry es root i (entries (map counted (f ∷ fs))) w → Waits es i
-    → AreAt (λ (j : Join). j.at) (IsJoin es) i (joins_at i (taken (state_of f)))
+    → AreAt (λ (j : Choice). j.at) (IsJoin es) i (joins_at i (state_of f))
 joins_of es wf root i w f fs at waits =
     let t = top_of es root i w f fs at in
-    subst (λ s. AreAt (λ (j : Join). j.at) (IsJoin es) i (joins_at i (taken s))) (sym t.state) (wait_joins es wf i root t.frame t.below t.stands waits.0 waits)
+    subst (λ s. AreAt (λ (j : Choice). j.at) (IsJoin es) i (joins_at i s)) (sym t.state) (wait_joins es wf i root t.frame t.below t.stands waits.0 waits)
 
 -- and where it returns
 ends_of : (es : List Event) → IsWellFormed es → (root i w : ℕ) (f : CountedFrame) (fs : List CountedFrame) → IsEntry es root i (entries (map counted (f ∷ fs))) w → i < length es → event_at es i ≡ Some Ret
@@ -159,12 +155,12 @@ module _ (trace : Recording) (burdens : Burdens) (light : burdens.continuation +
       subst (λ n. figures.Kept trace.records burdens trace.root n v ms) (let z : i + 1 ≡ suc i = omega arith in z) (kept_more trace.records burdens trace.root i w v e ls ms light small lt is adv works k)
 
   -- the choices, where none is made
-  nothing_noted : (es : List Event) → AreEvents trace.records es → IsWellFormed es → (ends : List End) (joins : List Join)
+  nothing_noted : (es : List Event) → AreEvents trace.records es → IsWellFormed es → (ends : List End) (joins : List Choice)
       → returns (event_at es i) ≡ false → syncs (event_at es i) ≡ false → AreNoted es from i ends joins → AreNoted es from (suc i) ends joins
   nothing_noted es are wf ends joins r s n =
       let len = events_len trace es are in (
         subst (λ l. AreTo (λ (e : End). e.at) (EndFrom es from) (suc i) l) (append-nil ends) (more_from (λ (e : End). e.at) (IsEnd es) from i ends [] begun n.0 (no_end es wf i r)),
-        subst (λ l. AreTo (λ (j : Join). j.at) (JoinFrom es from) (suc i) l) (append-nil joins) (more_from (λ (j : Join). j.at) (IsJoin es) from i joins [] begun n.1 (no_join es wf i (omega arith) s)),
+        subst (λ l. AreTo (λ (j : Choice). j.at) (JoinFrom es from) (suc i) l) (append-nil joins) (more_from (λ (j : Choice). j.at) (IsJoin es) from i joins [] begun n.1 (no_join es wf i (omega arith) s)),
       )
 
   -- ---- a strand
@@ -225,7 +221,7 @@ module _ (trace : Recording) (burdens : Burdens) (light : burdens.continuation +
                 let sp = (spans_law es wf).0 in
                 let n = at.noted es are wf in (
                   subst (λ l. AreTo (λ (e : End). e.at) (EndFrom es from) (suc i) l) (append-nil s.ends) (more_from (λ (e : End). e.at) (IsEnd es) from i s.ends [] begun n.0 (no_end es wf i (ap returns is))),
-                  more_from (λ (j : Join). j.at) (IsJoin es) from i s.joins _ begun n.1
+                  more_from (λ (j : Choice). j.at) (IsJoin es) from i s.joins _ begun n.1
                       (joins_of es wf trace.root i s.work f fs (at.shared es are wf sp.0 sp.1).entry ((let z : i ≤ length es = omega arith in z), λ l. ap syncs is)),
                 );
           }
@@ -309,8 +305,8 @@ module _ (trace : Recording) (burdens : Burdens) (light : burdens.continuation +
             let n = at.noted es are wf in
             let entry = (at.shared es are wf sp.0 sp.1).entry in (
               subst (λ l. AreTo (λ (e : End). e.at) (EndFrom es from) (suc i) l) (sym h.ends) (more_from (λ (e : End). e.at) (IsEnd es) from i s.ends _ begun n.0 (ends_of es wf trace.root i s.work f (g ∷ fs) entry (omega arith) is)),
-              subst (λ l. AreTo (λ (j : Join). j.at) (JoinFrom es from) (suc i) l) (sym h.joins)
-                  (more_from (λ (j : Join). j.at) (IsJoin es) from i s.joins _ begun n.1 (joins_of es wf trace.root i s.work f (g ∷ fs) entry ((let z : i ≤ length es = omega arith in z), λ l. ap syncs is))),
+              subst (λ l. AreTo (λ (j : Choice). j.at) (JoinFrom es from) (suc i) l) (sym h.joins)
+                  (more_from (λ (j : Choice). j.at) (IsJoin es) from i s.joins _ begun n.1 (joins_of es wf trace.root i s.work f (g ∷ fs) entry ((let z : i ≤ length es = omega arith in z), λ l. ap syncs is))),
             );
       }
 
@@ -377,15 +373,15 @@ module _ (trace : Recording) (burdens : Burdens) (short : length trace.records �
             let n = events_len trace es are in
             let here : i ≡ length es = last ∙ n in
             let noted = at.noted es are wf in
-            let joins = more_from (λ (j : Join). j.at) (IsJoin es) 0 i s.joins _ (omega arith) noted.1
+            let joins = more_from (λ (j : Choice). j.at) (IsJoin es) 0 i s.joins _ (omega arith) noted.1
             (joins_of es wf trace.root i s.work f [] (at.shared es are wf sp.0 sp.1).entry ((let z : i ≤ length es = omega arith in z), λ l. absurd (omega arith))) in
             all_noted es wf p.choices (subst (λ l. AreTo (λ (e : End). e.at) (EndFrom es 0) (length es) l) (sym h.2) (subst (λ k. AreTo (λ (e : End). e.at) (EndFrom es 0) k s.ends) here noted.0))
-            (subst (λ l. AreTo (λ (j : Join). j.at) (JoinFrom es 0) (suc (length es)) l) (sym h.3) (subst (λ k. AreTo (λ (j : Join). j.at) (JoinFrom es 0) (suc k) (s.joins ++ joins_at i (taken (state_of f)))) here joins));
+            (subst (λ l. AreTo (λ (j : Choice). j.at) (JoinFrom es 0) (suc (length es)) l) (sym h.3) (subst (λ k. AreTo (λ (j : Choice). j.at) (JoinFrom es 0) (suc k) (s.joins ++ joins_at i (state_of f))) here joins));
       }
     where
       -- no end is past the events, and no join past the end
       all_noted : (es : List Event) → IsWellFormed es → (c : Choices) → AreTo (λ (e : End). e.at) (EndFrom es 0) (length es) c.ends.items
-          → AreTo (λ (j : Join). j.at) (JoinFrom es 0) (suc (length es)) c.joins.items → AreChoices es c
+          → AreTo (λ (j : Choice). j.at) (JoinFrom es 0) (suc (length es)) c.joins.items → AreChoices es c
       all_noted es wf c a b = record {
         ends_rise = a.rise;
         ends = λ e. (

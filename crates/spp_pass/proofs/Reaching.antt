@@ -1,11 +1,10 @@
 -- How a pass over a part begins, and how it comes to frames outside.
-use Rattle.std.proofs.Common.{◌≡◌, ℕ, zero, suc, ◌<◌, Bool, true, false, not, ◌||◌, List, [], ◌∷◌, ◌++◌, length, reverse, Option, Some, None, refl, ap, ap₂, subst, ◌∙◌, arith}
+use Rattle.std.proofs.Common.{◌≡◌, suc, ◌<◌, not, List, [], ◌∷◌, ◌++◌, length, reverse, Option, Some, None, refl, ap, ap₂, subst, ◌∙◌, arith}
 use Rattle.std.specs.Prelude.{IfSome}
 use Rattle.std.proofs.lemmas.Grind.{reverse_onto}
 use Rattle.std.proofs.lemmas.List.{append_assoc, length-reverse}
 use Rattle.spp_dag.specs.declared.stack.EntryFrame.{EntryFrame}
 use Rattle.spp_dag.specs.Steps.{has_func}
-use Rattle.spp_site.specs.Marks.{is_marked}
 use Rattle.spp_stack.specs.declared.node.Node.{Node}
 use Rattle.spp_stack.specs.Chain.{StackOf, HasFrames, IsNodeOf}
 use Rattle.spp_pass.specs.declared.summing.CountedFrame.{CountedFrame}
@@ -16,18 +15,6 @@ use Rattle.spp_pass.proofs.Marking.{outside_below}
 -- a node's frame, as the pass has it
 pub node_enters : (node : Node) (f : EntryFrame) (fs : List EntryFrame) → IsNodeOf node f fs → entered_frame node.frame node.top_func ≡ entered_frame f (not (has_func fs f.func))
 node_enters node f fs h = ap₂ entered_frame h.frame h.top_func
-
--- no mark is set at first
-none_marked : (x : ℕ) → is_marked [] x ≡ false
-none_marked zero = refl
-none_marked (suc x) = refl
-
-or_none : (b : Bool) → (b || false) ≡ b
-or_none true = refl
-or_none false = refl
-
-pub first_marks : (bits : List Bool) (b c : Bool) (x : ℕ) → bits ≡ [] → c ≡ (is_marked bits x || b) → c ≡ b
-first_marks bits b c x none e = e ∙ ap (λ l. is_marked l x || b) none ∙ ap (λ y. y || b) (none_marked x)
 
 -- one frame is come to
 pub reached_one : (s : Seen) (items new : List CountedFrame) (x : CountedFrame) (o : Option StackOf) (e : StackOf) (node : Node) (below : Option StackOf)

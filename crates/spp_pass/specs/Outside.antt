@@ -100,6 +100,6 @@ FitsOpen s = (key : Option ℕ) → Fits (plus (key_row s.table key) (local_rows
 
 -- what the part comes to
 pub record IsSuspended (s : Seen) (p : PartResult) : Type 0 where
-  pub table : (key : Option ℕ) → key_row p.table key ≡ plus (key_row s.table key) (local_rows s.frames key)
+  pub share : (key : Option ℕ) → key_row p.share key ≡ plus (key_row s.table key) (local_rows s.frames key)
   pub ends : p.choices.ends.items ≡ s.ends
   pub joins : p.choices.joins.items ≡ s.joins

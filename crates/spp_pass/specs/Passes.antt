@@ -11,7 +11,7 @@ use Rattle.spp_site.specs.Rows.{Fits, frame_row}
 use Rattle.spp_site.specs.Table.{Sums, row_at, empty, IsAdded}
 use Rattle.spp_site.specs.Marks.{is_marked, with_mark, without}
 use Rattle.spp_dag.specs.declared.choices.End.{End}
-use Rattle.spp_dag.specs.declared.choices.Join.{Join}
+use Rattle.spp_dag.specs.declared.choices.Choice.{Choice}
 use Rattle.spp_site.specs.declared.closed_frame.ClosedFrame.{ClosedFrame}
 use Rattle.spp_pass.specs.declared.summing.CountedFrame.{CountedFrame}
 use Rattle.spp_pass.specs.declared.summing.Returned.{Returned}
@@ -122,7 +122,7 @@ pub record Seen : Type 0 where
   pub work : ℕ
   pub table : Sums
   pub ends : List End
-  pub joins : List Join
+  pub joins : List Choice
 
 abbrev pub seen : Summing → Seen
 seen s = record {
@@ -171,15 +171,26 @@ strand_seen count s = record s { frames = on_top (strand_frame count) s.frames; 
 
 -- ---- a sync
 
--- what is noted where a frame waits at `at` and takes that child
-abbrev pub joins_at : ℕ → Option ℕ → List Join
-joins_at at None = []
-joins_at at (Some spawn) = record { at = at; spawn = spawn } ∷ []
+-- what the path comes from where a frame waits at `at`, if a child waits in it, as it takes that one or none
+abbrev pub choice_of : ℕ → Option (ℕ × ℕ) → Option ℕ → Option Choice
+choice_of at None taken = None
+choice_of at (Some child) taken = Some (record { at = at; taken = taken })
+
+abbrev pub choice_at : ℕ → State → Option Choice
+choice_at at s = choice_of at s.child (taken s)
+
+abbrev pub listed : Option Choice → List Choice
+listed None = []
+listed (Some c) = c ∷ []
+
+-- what is noted where a frame of that state waits at `at`
+abbrev pub joins_at : ℕ → State → List Choice
+joins_at at s = listed (choice_at at s)
 
 -- what is noted where the innermost frame waits at `at`
-abbrev pub top_joins : ℕ → List CountedFrame → List Join
+abbrev pub top_joins : ℕ → List CountedFrame → List Choice
 top_joins at [] = []
-top_joins at (f ∷ fs) = joins_at at (taken (state_of f))
+top_joins at (f ∷ fs) = joins_at at (state_of f)
 
 abbrev pub sync_seen : ℕ → Seen → Seen
 sync_seen at s = record s { frames = on_top sync_frame s.frames; joins = s.joins ++ top_joins at s.frames }
@@ -228,7 +239,7 @@ pub record IsReturned (burdens : Burdens) (at : ℕ) (f g : CountedFrame) (fs : 
   pub work : new.work ≡ old.work
   pub table : IsAdded old.table new.table f.site (row_of f old.work)
   pub ends : new.ends ≡ old.ends ++ ends_at at f.kind f.at
-  pub joins : new.joins ≡ old.joins ++ joins_at at (taken (state_of f))
+  pub joins : new.joins ≡ old.joins ++ joins_at at (state_of f)
 
 -- whether the innermost of the frames has returned: the root alone doesn't
 abbrev pub Returns : Burdens → ℕ → Seen → List CountedFrame → Bool → Seen → Type 0
@@ -248,4 +259,4 @@ IsFinished at s [] p = ⊥
 IsFinished at s (f ∷ fs) p = (p.figures ≡ record { work = s.work; span = close f.plain; burdened = close f.burdened })
     × (p.dag ≡ record s.table { root = plus s.table.root (row_of f s.work) })
     × (p.choices.ends.items ≡ s.ends)
-    × (p.choices.joins.items ≡ s.joins ++ joins_at at (taken (state_of f)))
+    × (p.choices.joins.items ≡ s.joins ++ joins_at at (state_of f))

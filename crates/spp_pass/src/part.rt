@@ -11,7 +11,7 @@ use spp_cut::Part;
 use spp_dag::{Choices, FrameKind};
 use spp_event::Event;
 use spp_maxplus::Burdens;
-use spp_site::Table;
+use spp_site::Share;
 use spp_stack::Entry;
 use std::alloc::{AllocError, Global};
 
@@ -20,7 +20,7 @@ use std::alloc::{AllocError, Global};
 pub struct PartResult {
     /// Its share in the rows by call site on the run's whole dag: the strands in the part, and the frames that close in
     /// it.
-    pub table: Table,
+    pub share: Share,
     /// Of the choices that settle the run's path those in the part, by their positions in the trace.
     pub choices: Choices,
 }
@@ -31,7 +31,8 @@ pub struct PartResult {
 /// The events of the part are read once, each in constant time, amortized, besides one step in all for each site and
 /// function that is open before the part, and for each number of a site or of a function up to the greatest. A frame of
 /// the entry is taken in once all frames above it have returned. The memory is linear in the numbers of frames that are
-/// opened in the part or returned to, of spawned children that return in it, of sites and of functions.
+/// opened in the part or returned to, of spawned children that return in it, of sites and of functions; what it gives
+/// takes memory for the rows of its own sites, and for its choices.
 ///
 /// # Errors
 ///
@@ -42,7 +43,7 @@ pub fn run_part(
     entry: Entry<'_>,
 ) -> Result<PartResult, AllocError>
     requires { StandsAt part.now.trace part.now.first entry }
-    ensures { IfOk result (λ p. (es : List AnEvent) → AreEvents part.now.trace.records es → IsPartOf es part.now.trace.root part.now.first (part.now.first + part.now.count) p.table p.choices) }
+    ensures { IfOk result (λ p. (es : List AnEvent) → AreEvents part.now.trace.records es → IsPartOf es part.now.trace.root part.now.first (part.now.first + part.now.count) p.share p.choices) }
 {
     part.keeps_limits();
     let first = part.first();

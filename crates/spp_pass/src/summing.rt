@@ -18,7 +18,8 @@ ghost use Rattle.spp_pass.specs.Passes.{
   received,
   FitsStrand,
   FitsReturn,
-  joins_at,
+  choice_at,
+  listed,
   ends_at,
   seen,
   start_seen,
@@ -46,7 +47,7 @@ ghost use Rattle.spp_pass.specs.Outside.{
 
 use crate::part::PartResult;
 use crate::weights::Weights;
-use spp_dag::{Choices, End, Figures, FrameKind, Join, Row};
+use spp_dag::{Choice, Choices, End, Figures, FrameKind, Row};
 use spp_maxplus::{Burdens, ChildKind};
 use spp_site::{ClosedFrame, Marks, Table};
 use spp_stack::{Entry, Node};
@@ -199,6 +200,20 @@ impl CountedFrame {
         }
     }
 
+    /// What the path comes from where the frame waits at `at`, if a child waits in it.
+    #[inline(always)]
+    fn choice(&self, at: u32) -> Option<Choice>
+        ensures { result ≡ choice_at at (state_of self.now) }
+    {
+        match self.child {
+            Some(_) => Some(Choice {
+                at,
+                taken: self.taken(),
+            }),
+            None => None,
+        }
+    }
+
     /// The frame as the table counts it, its strands included, where it closes when `work` is the work so far.
     #[inline(always)]
     fn closed(&self, work: u128) -> ClosedFrame
@@ -245,13 +260,13 @@ fn spawn_in(child: Option<(u128, u32)>) -> Option<u32>
     }
 }
 
-/// Notes that a frame waits at `at` and takes that child, where it takes one.
+/// Notes this choice, if there is one.
 #[inline(always)]
-fn note_join(joins: &mut Vec<Join>, at: u32, taken: Option<u32>) -> Result<(), AllocError>
-    ensures { OnOk result (joins.new.items ≡ joins.old.items ++ joins_at at taken) }
+fn note_join(joins: &mut Vec<Choice>, choice: Option<Choice>) -> Result<(), AllocError>
+    ensures { OnOk result (joins.new.items ≡ joins.old.items ++ listed choice) }
 {
-    if let Some(spawn) = taken {
-        joins.push(Join { at, spawn })?;
+    if let Some(choice) = choice {
+        joins.push(choice)?;
     }
     Ok(())
 }
@@ -281,7 +296,7 @@ pub(crate) struct Summing {
     work: u128,
     /// The rows of the frames that have closed.
     table: Table,
-    /// The returns and the taken children so far.
+    /// The choices so far.
     choices: Choices,
 }
 
@@ -325,9 +340,7 @@ impl Summing {
     pub(crate) fn within(alloc: Global, entry: &Entry<'_>) -> Result<Self, AllocError>
         ensures { IfOk result (λ s. (f : FrameValue) (fs : List FrameValue) → HasFrames entry.now (f ∷ fs) → IsBegun f fs entry.now.work (seen s)) }
     {
-        let mut open_sites = Marks::new(alloc);
-        let mut open_funcs = Marks::new(alloc);
-        entry.mark(&mut open_sites, &mut open_funcs)?;
+        let (open_sites, open_funcs) = entry.marks(alloc)?;
         let mut frames = Vec::new(alloc);
         frames.push(CountedFrame::entered(entry.innermost()))?;
         Ok(Summing {
@@ -424,7 +437,7 @@ impl Summing {
         ensures { OnOk result (seen self.new ≡ sync_seen at (seen self.old)) }
     {
         let last = self.frames.len() - 1;
-        note_join(&mut self.choices.joins, at, self.frames[last].taken())?;
+        note_join(&mut self.choices.joins, self.frames[last].choice(at))?;
         self.frames[last].sync();
         Ok(())
     }
@@ -440,7 +453,7 @@ impl Summing {
             return Ok(false);
         }
         let child = &self.frames[last];
-        note_join(&mut self.choices.joins, at, child.taken())?;
+        note_join(&mut self.choices.joins, child.choice(at))?;
         note_end(&mut self.choices.ends, at, child.kind, child.at)?;
         self.table.close(child.site, &child.closed(self.work))?;
         self.open_sites.remove_if(child.top_site, child.site);
@@ -463,7 +476,7 @@ impl Summing {
             mut choices,
             ..
         } = self;
-        note_join(&mut choices.joins, at, root.taken())?;
+        note_join(&mut choices.joins, root.choice(at))?;
         table.add_root(&root.closed(work).row());
         Ok(FirstPass {
             figures: Figures {
@@ -490,6 +503,9 @@ impl Summing {
         for frame in &frames {
             frame.add_local(&mut table)?;
         }
-        Ok(PartResult { table, choices })
+        Ok(PartResult {
+            share: table.into_share(),
+            choices,
+        })
     }
 }

@@ -1,6 +1,6 @@
 -- What the settling knows of the path as it goes backwards over the notes. A time stands between two notes: at
 -- position k the join has the time 2k and the end 2k + 1, and the notes at and after a time have been taken.
-use Rattle.std.proofs.Common.{◌≡◌, ℕ, suc, ◌+◌, ◌*◌, ◌≤◌, ◌<◌, Bool, true, false, refl, arith, sym, ◌∙◌, ap, subst, inl, inr, List, length, nat_le, nat_eq, cond}
+use Rattle.std.proofs.Common.{◌≡◌, ℕ, suc, ◌+◌, ◌*◌, ◌≤◌, ◌<◌, Bool, true, false, refl, arith, sym, ◌∙◌, ap, subst, inl, inr, List, length, Some, None, nat_le, nat_eq, cond}
 use Rattle.std.proofs.lemmas.Bool.{cases_lt, both_ways, leb-true, leb-false, eqb-true, eq-eqb}
 use Rattle.spp_event.specs.declared.records.Event.{Event}
 use Rattle.spp_maxplus.specs.State.{unburdened}
@@ -10,12 +10,14 @@ use Rattle.spp_dag.proofs.Depth.{closed, opens_not_returns}
 use Rattle.spp_dag.proofs.Upper.{spawns_opens}
 use Rattle.spp_dag.proofs.Crossing.{nested, join_spec, owner_closing}
 use Rattle.spp_dag.specs.declared.choices.End.{End}
-use Rattle.spp_dag.specs.declared.choices.Join.{Join}
 use Rattle.spp_path.specs.declared.settling.Onward.{Onward}
 use Rattle.spp_path.specs.declared.settling.Onward.TheVariants.{Live, Skip, Seek}
-use Rattle.spp_dag.specs.ChoiceLists.{IsEnd, IsJoin}
+use Rattle.spp_dag.specs.ChoiceLists.{IsEnd}
+use Rattle.spp_dag.specs.Choices.{IsChoice}
 use Rattle.spp_path.specs.Settling.{runs_to, ended}
-use Rattle.spp_path.proofs.Passing.{join_outside, Passes, passes_within, passes_return, passes_after, Clear, clear, passes_clear, enters_chosen}
+use Rattle.spp_dag.proofs.JoinPlaces.{join_waits}
+use Rattle.spp_dag.proofs.Ties.{path_exists_to}
+use Rattle.spp_path.proofs.Passing.{join_outside, Passes, passes_within, passes_return, passes_after, Clear, clear, passes_clear, enters_chosen, chosen_entered}
 
 module _ (es : List Event) (wf : IsWellFormed es) (ps : List ℕ) (p : IsPath es unburdened 0 (length es) ps) where
   -- the path enters the child spawned at s
@@ -172,15 +174,16 @@ module _ (es : List Event) (wf : IsWellFormed es) (ps : List ℕ) (p : IsPath es
             upper = (let y = s.upper in let x = q.below in omega arith);
           }
 
-  -- where the walk comes to a join the path does
-  pub runs_passes : (k t : ℕ) → k ≤ length es → Quiet (2 * k) t → (w : Onward) → Says t w → runs_to k w ≡ true → Passes es wf ps p k
-  runs_passes k t l q w s r = passes_clear es wf ps p k l (clear_of (running w s r))
-    where
-      running : (w : Onward) → Says t w → runs_to k w ≡ true → Running (suc (2 * k))
-      running Live s r = running_down (2 * k) t q s
-      running (Skip u) s r = let z = leb-true k u r in before_skipped (2 * k) t u q s (omega arith)
-      running (Seek u) s r = cc
+  -- where the walk comes to a join it runs
+  running : (k t : ℕ) → Quiet (2 * k) t → (w : Onward) → Says t w → runs_to k w ≡ true → Running (suc (2 * k))
+  running k t q Live s r = running_down (2 * k) t q s
+  running k t q (Skip u) s r = let z = leb-true k u r in before_skipped (2 * k) t u q s (omega arith)
+  running k t q (Seek u) s r = cc
 
+  -- and the path passes it
+  pub runs_passes : (k t : ℕ) → k ≤ length es → Quiet (2 * k) t → (w : Onward) → Says t w → runs_to k w ≡ true → Passes es wf ps p k
+  runs_passes k t l q w s r = passes_clear es wf ps p k l (clear_of (running k t q w s r))
+    where
       clear_of : Running (suc (2 * k)) → Clear es wf ps p k
       clear_of r = record {
         held = λ u v a b. r.held u v (omega arith) (omega arith);
@@ -219,14 +222,35 @@ module _ (es : List Event) (wf : IsWellFormed es) (ps : List ℕ) (p : IsPath es
         upper = (let y = s.upper in let x = q.below in omega arith);
       }
 
-  -- and over one that it does come to
-  pub says_taken : (j : Join) → IsJoin es j → Passes es wf ps p j.at → Says (2 * j.at) (Seek j.spawn) × E j.spawn
-  says_taken j is on =
-      let t = is.1.0.0 in
-      let at : join es j.spawn ≡ j.at = is.1.0.1 in
-      let e = enters_chosen es wf ps p j.at j.spawn is.1 on in
-      let y : suc (partner es j.spawn) ≤ join es j.spawn = (join_spec es wf j.spawn (spawns_opens (event_at es j.spawn) t)).lower in
+  -- over one that it does come to, from a child
+  pub says_taken : (k s : ℕ) → IsChoice es unburdened k (Some s) → Passes es wf ps p k → Says (2 * k) (Seek s) × E s
+  says_taken k s is on =
+      let t = is.0.0 in
+      let at : join es s ≡ k = is.0.1 in
+      let e = enters_chosen es wf ps p k s is on in
+      let y : suc (partner es s) ≤ join es s = (join_spec es wf s (spawns_opens (event_at es s) t)).lower in
       (record { spawned = t; entered = e; lower = omega arith; upper = omega arith }, e)
+
+  -- where none is taken no child is entered that joins there
+  pub none_entered : (k s : ℕ) → IsChoice es unburdened k None → spawns (event_at es s) ≡ true → E s → join es s ≡ k → ⊥
+  none_entered k s is t on at =
+      let waits = join_waits es wf s t in
+      let c = chosen_entered es wf ps p s t on in
+      let qs = path_exists_to es wf unburdened (join es s) waits.0 waits.1 in
+      let none : IsChoice es unburdened (join es s) None = subst (λ j. IsChoice es unburdened j None) (sym at) is in
+      none s c.0 qs.0 qs.1 (c.1 qs.0 qs.1)
+
+  -- and over one that it comes to along the parent
+  pub says_none : (k t : ℕ) → Quiet (2 * k) t → (w : Onward) → Says t w → runs_to k w ≡ true → IsChoice es unburdened k None → Says (2 * k) Live
+  says_none k t q w s r is =
+      let here = running k t q w s r in
+      record {
+        held = λ u v a b. here.held u v (omega arith) (omega arith);
+        free = λ u v e a.
+            let z = here.free u v e (omega arith) in
+            let other : join es u ≡ k → ⊥ = λ at. none_entered k u is v e at in
+            omega arith;
+      }
 
   -- at the end of the run the path runs
   pub says_first : Says (2 * length es + 1) Live

@@ -13,16 +13,17 @@ use Rattle.spp_dag.proofs.Upper.{spawns_opens}
 use Rattle.spp_dag.proofs.Crossing.{join_spec}
 use Rattle.spp_dag.proofs.Ties.{path_exists, path_unique}
 use Rattle.spp_dag.specs.declared.choices.End.{End}
-use Rattle.spp_dag.specs.declared.choices.Join.{Join}
+use Rattle.spp_dag.specs.declared.choices.Choice.{Choice}
 use Rattle.spp_dag.specs.declared.choices.Choices.{Choices}
 use Rattle.spp_path.specs.declared.settling.Note.TheVariants as note
 use Rattle.spp_path.specs.declared.settling.Onward.{Onward}
 use Rattle.spp_path.specs.declared.settling.Onward.TheVariants.{Live, Seek}
 use Rattle.spp_dag.specs.ChoiceLists.{AreRising, IsJoin, AreChoices}
+use Rattle.spp_dag.specs.Choices.{IsChoice}
 use Rattle.spp_path.specs.Entered.{IsEntered, AreEntered}
 use Rattle.spp_path.specs.Settling.{last, later, runs_to, ended}
 use Rattle.spp_path.proofs.Passing.{passes_join, chosen_entered, one_entered}
-use Rattle.spp_path.proofs.Modes.{Says, Quiet, says_ended, runs_passes, passes_runs, says_passed, says_taken, says_first}
+use Rattle.spp_path.proofs.Modes.{Says, Quiet, says_ended, runs_passes, passes_runs, says_passed, says_taken, none_entered, says_none, says_first}
 
 -- ---- lists that rise
 
@@ -99,7 +100,7 @@ abbrev end_ats : Choices → List ℕ
 end_ats c = map (λ (e : End). e.at) c.ends.items
 
 abbrev join_ats : Choices → List ℕ
-join_ats c = map (λ (j : Join). j.at) c.joins.items
+join_ats c = map (λ (j : Choice). j.at) c.joins.items
 
 -- the position of the i-th
 end_at : (c : Choices) (i : ℕ) (e : End) → slice_get c.ends.items i ≡ Some e → get_or (end_ats c) i 0 ≡ e.at
@@ -107,10 +108,10 @@ end_at c i e s =
     let l = slice_get_within c.ends.items i e s in
     get_or-map (λ (e : End). e.at) c.ends.items i e 0 l ∙ ap (λ (e : End). e.at) (get_or_from_slice_get c.ends.items i e e s)
 
-join_at : (c : Choices) (i : ℕ) (j : Join) → slice_get c.joins.items i ≡ Some j → get_or (join_ats c) i 0 ≡ j.at
+join_at : (c : Choices) (i : ℕ) (j : Choice) → slice_get c.joins.items i ≡ Some j → get_or (join_ats c) i 0 ≡ j.at
 join_at c i j s =
     let l = slice_get_within c.joins.items i j s in
-    get_or-map (λ (j : Join). j.at) c.joins.items i j 0 l ∙ ap (λ (j : Join). j.at) (get_or_from_slice_get c.joins.items i j j s)
+    get_or-map (λ (j : Choice). j.at) c.joins.items i j 0 l ∙ ap (λ (j : Choice). j.at) (get_or_from_slice_get c.joins.items i j j s)
 
 -- ---- what stands
 
@@ -146,10 +147,11 @@ module _ (es : List Event) (ps : List ℕ) (wf : IsWellFormed es) (p : IsPath es
 
   join_place : (s : ℕ) → spawns (event_at es s) ≡ true → Enters ps s → (i : ℕ) × (i < length (join_ats c)) × (get_or (join_ats c) i 0 ≡ join es s)
   join_place s t on =
-      let j : Join = record { at = join es s; spawn = s } in
-      let k = (h.joins j).1 ((join_spec es wf s (spawns_opens (event_at es s) t)).upper, chosen_entered es wf ps p s t on) in
-      let n = length-map c.joins.items (λ (j : Join). j.at) in
-      (k.0, (let l = k.1 in omega arith), get_or-map (λ (j : Join). j.at) c.joins.items k.0 j 0 k.1 ∙ ap (λ (j : Join). j.at) k.2)
+      let j : Choice = record { at = join es s; taken = Some s } in
+      let is = chosen_entered es wf ps p s t on in
+      let k = (h.joins j).1 ((join_spec es wf s (spawns_opens (event_at es s) t)).upper, (s, is.0), is) in
+      let n = length-map c.joins.items (λ (j : Choice). j.at) in
+      (k.0, (let l = k.1 in omega arith), get_or-map (λ (j : Choice). j.at) c.joins.items k.0 j 0 k.1 ∙ ap (λ (j : Choice). j.at) k.2)
 
   -- all that are left lie at the last note or before it
   quiet : (m n k t : ℕ) → k < t → Left 1 (end_ats c) m t → Left 0 (join_ats c) n t → ((i : ℕ) → i < m → 2 * get_or (end_ats c) i 0 + 1 ≤ k)
@@ -177,7 +179,7 @@ module _ (es : List Event) (ps : List ℕ) (wf : IsWellFormed es) (p : IsPath es
       let k : ℕ = 2 * e.at + 1 in
       let at = end_at c (m - 1) e s in
       let ne = length-map c.ends.items (λ (e : End). e.at) in
-      let nj = length-map c.joins.items (λ (j : Join). j.at) in
+      let nj = length-map c.joins.items (λ (j : Choice). j.at) in
       let below : k < g.time = (let z = g.ends.before (m - 1) (omega arith) in omega arith) in
       let a = left_popped 1 (end_ats c) m k g.time h.ends_rise pos (omega arith) (let z : 2 * get_or (end_ats c) (m - 1) 0 + 1 ≡ k = omega arith in z) g.ends in
       let b = left_kept 0 (join_ats c) n k g.time h.joins_rise (omega arith) below (λ z. let y = le z in omega arith) g.joins in
@@ -204,7 +206,7 @@ module _ (es : List Event) (ps : List ℕ) (wf : IsWellFormed es) (p : IsPath es
       }
 
   -- the last note is a join
-  module _ (m n : ℕ) (w : Onward) (marks : List Bool) (j : Join) (lm : m ≤ length c.ends.items) (ln : n ≤ length c.joins.items) (pos : 0 < n) (s : slice_get c.joins.items (n - 1) ≡ Some j)
+  module _ (m n : ℕ) (w : Onward) (marks : List Bool) (j : Choice) (lm : m ≤ length c.ends.items) (ln : n ≤ length c.joins.items) (pos : 0 < n) (s : slice_get c.joins.items (n - 1) ≡ Some j)
       (lt : 0 < m → get_or (end_ats c) (m - 1) 0 < j.at) (g : Stage es ps wf p c m n w marks) where
     abbrev K : ℕ
     K = 2 * j.at
@@ -226,7 +228,7 @@ module _ (es : List Event) (ps : List ℕ) (wf : IsWellFormed es) (p : IsPath es
     joins_left : Left 0 (join_ats c) (n - 1) K
     joins_left =
         let at = join_at c (n - 1) j s in
-        let nj = length-map c.joins.items (λ (j : Join). j.at) in
+        let nj = length-map c.joins.items (λ (j : Choice). j.at) in
         left_popped 0 (join_ats c) n K g.time h.joins_rise pos (omega arith) (let z : 2 * get_or (join_ats c) (n - 1) 0 + 0 ≡ K = omega arith in z) g.joins
 
     -- and nothing stands between
@@ -264,29 +266,48 @@ module _ (es : List Event) (ps : List ℕ) (wf : IsWellFormed es) (p : IsPath es
       );
     }
 
+    -- the path comes to it along the parent
+    pub stage_beside : runs_to j.at w ≡ true → j.taken ≡ None → Stage es ps wf p c m (n - 1) Live marks
+    stage_beside r none =
+        let chosen : IsChoice es unburdened j.at None = subst (λ o. IsChoice es unburdened j.at o) none is.2 in
+        record {
+          time = K;
+          ends = ends_left;
+          joins = joins_left;
+          says = says_none es wf ps p j.at g.time still w g.says r chosen;
+          marked = λ u l. (
+            (λ x. earlier u ((g.marked u l).0 x)),
+            (λ x. elim (here u x) [
+              | inl z ↦ (g.marked u l).1 z
+              | inr z ↦ absurd (none_entered es wf ps p j.at u chosen x.0 x.1 z)
+            ]),
+          );
+        }
+
     -- the path comes to it, from its child
-    pub stage_taken : runs_to j.at w ≡ true → length marks ≡ length es → Stage es ps wf p c m (n - 1) (Seek j.spawn) (set marks j.spawn true)
-    stage_taken r e =
-        let t = says_taken es wf ps p j is (runs_passes es wf ps p j.at g.time is.0 still w g.says r) in
-        let spawned = is.1.0.0 in
-        let inside : j.spawn < length marks = (let z = inside_opens es j.spawn (spawns_opens (event_at es j.spawn) spawned) in omega arith) in
-        let at : join es j.spawn ≡ j.at = is.1.0.1 in
+    pub stage_taken : runs_to j.at w ≡ true → (spawn : ℕ) → j.taken ≡ Some spawn → length marks ≡ length es → Stage es ps wf p c m (n - 1) (Seek spawn) (set marks spawn true)
+    stage_taken r spawn takes e =
+        let chosen : IsChoice es unburdened j.at (Some spawn) = subst (λ o. IsChoice es unburdened j.at o) takes is.2 in
+        let t = says_taken es wf ps p j.at spawn chosen (runs_passes es wf ps p j.at g.time is.0 still w g.says r) in
+        let spawned = chosen.0.0 in
+        let inside : spawn < length marks = (let z = inside_opens es spawn (spawns_opens (event_at es spawn) spawned) in omega arith) in
+        let at : join es spawn ≡ j.at = chosen.0.1 in
         record {
           time = K;
           ends = ends_left;
           joins = joins_left;
           says = t.0;
-          marked = λ u l. elim (cases_eq u j.spawn) [
+          marked = λ u l. elim (cases_eq u spawn) [
             | inl q ↦ (
               (λ x. subst (λ k. IsFound es ps K k) (sym q) (spawned, t.1, omega arith)),
-              (λ x. subst (λ k. get_or (set marks j.spawn true) k false ≡ true) (sym q) (get_or-set_same marks j.spawn true false inside)),
+              (λ x. subst (λ k. get_or (set marks spawn true) k false ≡ true) (sym q) (get_or-set_same marks spawn true false inside)),
             )
             | inr q ↦
-                let other = get_or-set_other marks j.spawn u true false q in (
+                let other = get_or-set_other marks spawn u true false q in (
                   (λ x. earlier u ((g.marked u l).0 (sym other ∙ x))),
                   (λ x. other ∙ elim (here u x) [
                     | inl z ↦ (g.marked u l).1 z
-                    | inr z ↦ absurd (q (one_entered es wf ps p u j.spawn x.0 spawned x.1 t.1 (z ∙ sym at)))
+                    | inr z ↦ absurd (q (one_entered es wf ps p u spawn x.0 spawned x.1 t.1 (z ∙ sym at)))
                   ]),
                 )
           ];
@@ -296,7 +317,7 @@ module _ (es : List Event) (ps : List ℕ) (wf : IsWellFormed es) (p : IsPath es
   pub stage_first : (marks : List Bool) → ((s : ℕ) → get_or marks s false ≡ false) → Stage es ps wf p c (length c.ends.items) (length c.joins.items) Live marks
   stage_first marks none =
       let ne = length-map c.ends.items (λ (e : End). e.at) in
-      let nj = length-map c.joins.items (λ (j : Join). j.at) in
+      let nj = length-map c.joins.items (λ (j : Choice). j.at) in
       record {
         time = 2 * length es + 1;
         ends = record {
@@ -311,8 +332,8 @@ module _ (es : List Event) (ps : List ℕ) (wf : IsWellFormed es) (p : IsPath es
         };
         joins = record {
           before = λ i l.
-              let some = slice_get-get_or c.joins.items i (record { at = 0; spawn = 0 }) l in
-              let j : Join = get_or c.joins.items i (record { at = 0; spawn = 0 }) in
+              let some = slice_get-get_or c.joins.items i (record { at = 0; taken = None }) l in
+              let j : Choice = get_or c.joins.items i (record { at = 0; taken = None }) in
               let is = (h.joins j).0 (contains_at c.joins.items i j some) in
               let at = join_at c i j some in
               omega (arith, is.0);
@@ -338,22 +359,22 @@ module _ (es : List Event) (ps : List ℕ) (wf : IsWellFormed es) (p : IsPath es
 -- ---- the steps, for every run that has these choices
 
 -- the later of two notes, where it is an end: the other isn't after it
-later_end : (a : Option End) (b : Option Join) (e : End) → later a b ≡ Some (note.End e) → (a ≡ Some e) × ((j : Join) → b ≡ Some j → j.at ≤ e.at)
+later_end : (a : Option End) (b : Option Choice) (e : End) → later a b ≡ Some (note.End e) → (a ≡ Some e) × ((j : Choice) → b ≡ Some j → j.at ≤ e.at)
 later_end None None e q = cc
 later_end None (Some j) e q = cc
 later_end (Some d) None e q = (cc, λ j z. cc)
 later_end (Some d) (Some j) e q = pick (nat_lt d.at j.at) refl q
   where
-    pick : (b : Bool) → nat_lt d.at j.at ≡ b → cond b (Some (note.Join j)) (Some (note.End d)) ≡ Some (note.End e) → (Some d ≡ Some e) × ((k : Join) → Some j ≡ Some k → k.at ≤ e.at)
+    pick : (b : Bool) → nat_lt d.at j.at ≡ b → cond b (Some (note.Join j)) (Some (note.End d)) ≡ Some (note.End e) → (Some d ≡ Some e) × ((k : Choice) → Some j ≡ Some k → k.at ≤ e.at)
     pick true x z = cc
     pick false x z =
         let y : d ≡ e = cc in
         let l = ltb-false d.at j.at x in
         let f : d.at ≡ e.at = ap (λ (v : End). v.at) y in
-        (ap Some y, λ k r. let v : j ≡ k = cc in let u : j.at ≡ k.at = ap (λ (v : Join). v.at) v in omega arith)
+        (ap Some y, λ k r. let v : j ≡ k = cc in let u : j.at ≡ k.at = ap (λ (v : Choice). v.at) v in omega arith)
 
 -- the same, where it is a join
-later_join : (a : Option End) (b : Option Join) (j : Join) → later a b ≡ Some (note.Join j) → (b ≡ Some j) × ((e : End) → a ≡ Some e → e.at < j.at)
+later_join : (a : Option End) (b : Option Choice) (j : Choice) → later a b ≡ Some (note.Join j) → (b ≡ Some j) × ((e : End) → a ≡ Some e → e.at < j.at)
 later_join None None j q = cc
 later_join None (Some k) j q = (let z : k ≡ j = cc in ap Some z, λ e z. cc)
 later_join (Some d) None j q = cc
@@ -364,11 +385,11 @@ later_join (Some d) (Some k) j q = pick (nat_lt d.at k.at) refl q
     pick true x z =
         let y : k ≡ j = cc in
         let l = ltb-true d.at k.at x in
-        let f : k.at ≡ j.at = ap (λ (v : Join). v.at) y in
+        let f : k.at ≡ j.at = ap (λ (v : Choice). v.at) y in
         (ap Some y, λ e r. let v : d ≡ e = cc in let u : d.at ≡ e.at = ap (λ (v : End). v.at) v in omega arith)
 
 -- where there is none, both lists are empty
-later_none : (a : Option End) (b : Option Join) → later a b ≡ None → (a ≡ None) × (b ≡ None)
+later_none : (a : Option End) (b : Option Choice) → later a b ≡ None → (a ≡ None) × (b ≡ None)
 later_none None None q = (refl, refl)
 later_none None (Some j) q = cc
 later_none (Some d) None q = cc
@@ -395,11 +416,11 @@ settles_ended count c m n w marks e lm ln q g es ps wf p len h =
     let l = later_end (last (take m c.ends.items)) (last (take n c.joins.items)) e q in
     let t = last_taken c.ends.items m e lm l.0 in
     stage_ended es ps wf p c h m n w marks e lm ln t.0 t.1
-    (λ z. let j = last_there c.joins.items n (λ (j : Join). j.at) ln z in let y = l.1 j.0 j.1 in omega (arith, j.2))
+    (λ z. let j = last_there c.joins.items n (λ (j : Choice). j.at) ln z in let y = l.1 j.0 j.1 in omega (arith, j.2))
     (g es ps wf p len h)
 
 -- a join is passed over
-pub settles_passed : (count : ℕ) (c : Choices) (m n : ℕ) (w : Onward) (marks : List Bool) (j : Join) → m ≤ length c.ends.items → n ≤ length c.joins.items
+pub settles_passed : (count : ℕ) (c : Choices) (m n : ℕ) (w : Onward) (marks : List Bool) (j : Choice) → m ≤ length c.ends.items → n ≤ length c.joins.items
     → later (last (take m c.ends.items)) (last (take n c.joins.items)) ≡ Some (note.Join j) → runs_to j.at w ≡ false → Settles count c m n w marks → Settles count c m (n - 1) w marks
 settles_passed count c m n w marks j lm ln q r g es ps wf p len h =
     let l = later_join (last (take m c.ends.items)) (last (take n c.joins.items)) j q in
@@ -408,16 +429,27 @@ settles_passed count c m n w marks j lm ln q r g es ps wf p len h =
     (λ z. let e = last_there c.ends.items m (λ (e : End). e.at) lm z in let y = l.1 e.0 e.1 in omega (arith, e.2))
     (g es ps wf p len h) r
 
+-- no child that joins there is entered
+pub settles_beside : (count : ℕ) (c : Choices) (m n : ℕ) (w : Onward) (marks : List Bool) (j : Choice) → m ≤ length c.ends.items → n ≤ length c.joins.items
+    → later (last (take m c.ends.items)) (last (take n c.joins.items)) ≡ Some (note.Join j) → runs_to j.at w ≡ true → j.taken ≡ None → Settles count c m n w marks
+    → Settles count c m (n - 1) Live marks
+settles_beside count c m n w marks j lm ln q r none g es ps wf p len h =
+    let l = later_join (last (take m c.ends.items)) (last (take n c.joins.items)) j q in
+    let t = last_taken c.joins.items n j ln l.0 in
+    stage_beside es ps wf p c h m n w marks j lm ln t.0 t.1
+    (λ z. let e = last_there c.ends.items m (λ (e : End). e.at) lm z in let y = l.1 e.0 e.1 in omega (arith, e.2))
+    (g es ps wf p len h) r none
+
 -- a join's child is entered
-pub settles_taken : (count : ℕ) (c : Choices) (m n : ℕ) (w : Onward) (marks : List Bool) (j : Join) → m ≤ length c.ends.items → n ≤ length c.joins.items
-    → later (last (take m c.ends.items)) (last (take n c.joins.items)) ≡ Some (note.Join j) → runs_to j.at w ≡ true → length marks ≡ count → Settles count c m n w marks
-    → Settles count c m (n - 1) (Seek j.spawn) (set marks j.spawn true)
-settles_taken count c m n w marks j lm ln q r lc g es ps wf p len h =
+pub settles_taken : (count : ℕ) (c : Choices) (m n : ℕ) (w : Onward) (marks : List Bool) (j : Choice) (spawn : ℕ) → m ≤ length c.ends.items → n ≤ length c.joins.items
+    → later (last (take m c.ends.items)) (last (take n c.joins.items)) ≡ Some (note.Join j) → runs_to j.at w ≡ true → j.taken ≡ Some spawn → length marks ≡ count
+    → Settles count c m n w marks → Settles count c m (n - 1) (Seek spawn) (set marks spawn true)
+settles_taken count c m n w marks j spawn lm ln q r takes lc g es ps wf p len h =
     let l = later_join (last (take m c.ends.items)) (last (take n c.joins.items)) j q in
     let t = last_taken c.joins.items n j ln l.0 in
     stage_taken es ps wf p c h m n w marks j lm ln t.0 t.1
     (λ z. let e = last_there c.ends.items m (λ (e : End). e.at) lm z in let y = l.1 e.0 e.1 in omega (arith, e.2))
-    (g es ps wf p len h) r (omega arith)
+    (g es ps wf p len h) r spawn takes (omega arith)
 
 -- before the first note
 pub settles_first : (count : ℕ) (c : Choices) (marks : List Bool) → marks ≡ replicate count false → Settles count c (length c.ends.items) (length c.joins.items) Live marks

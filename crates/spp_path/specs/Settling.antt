@@ -1,7 +1,7 @@
 -- The steps that settle a path from its end.
 use Rattle.std.specs.Prelude.{ℕ, ◌-◌, List, length, slice_get, Bool, true, false, Option, Some, None, nat_eq, nat_le, nat_lt, cond}
 use Rattle.spp_dag.specs.declared.choices.End.{End}
-use Rattle.spp_dag.specs.declared.choices.Join.{Join}
+use Rattle.spp_dag.specs.declared.choices.Choice.{Choice}
 use Rattle.spp_path.specs.declared.settling.Note.{Note}
 use Rattle.spp_path.specs.declared.settling.Note.TheVariants as note
 use Rattle.spp_path.specs.declared.settling.Onward.{Onward}
@@ -12,7 +12,7 @@ abbrev pub last : {X : Type 0} → List X → Option X
 last xs = slice_get xs (length xs - 1)
 
 -- the note at the higher position, and at one position the end
-abbrev pub later : Option End → Option Join → Option Note
+abbrev pub later : Option End → Option Choice → Option Note
 later None None = None
 later None (Some j) = Some (note.Join j)
 later (Some e) None = Some (note.End e)

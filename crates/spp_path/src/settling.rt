@@ -1,13 +1,13 @@
 //! The path of a run is settled from its end: which spawned children it enters.
 
-ghost use Rattle.std.specs.Prelude.{◌≡◌, ℕ, List, length, IfOk};
+ghost use Rattle.std.specs.Prelude.{◌≡◌, ℕ, List, length, set, true, IfOk};
 ghost use Rattle.spp_event.specs.declared.records.Event.{Event};
 ghost use Rattle.spp_dag.specs.Trace.{IsWellFormed};
 ghost use Rattle.spp_dag.specs.ChoiceLists.{AreChoices};
 ghost use Rattle.spp_path.specs.Entered.{AreEntered};
 ghost use Rattle.spp_path.specs.Settling.{last, later, ended, runs_to};
 
-use spp_dag::{Choices, End, Join};
+use spp_dag::{Choice, Choices, End};
 use std::alloc::{AllocError, Global};
 
 /// How the path of a run goes, told from the end backwards.
@@ -25,11 +25,11 @@ enum Onward {
 #[derive(Clone, Copy, Debug)]
 enum Note {
     End(End),
-    Join(Join),
+    Join(Choice),
 }
 
 /// The last of these choices, and at one position the end: a return acts as a sync first.
-fn last_note(ends: &[End], joins: &[Join]) -> Option<Note>
+fn last_note(ends: &[End], joins: &[Choice]) -> Option<Note>
     ensures { result ≡ later (last ends.now) (last joins.now) }
 {
     match (ends.last(), joins.last()) {
@@ -64,6 +64,17 @@ fn pass(end: End, onward: Onward) -> Onward
     }
 }
 
+/// Marks the child spawned at that position.
+fn mark(marks: &mut Vec<bool>, spawn: u32)
+    ensures { marks.new.items ≡ set marks.old.items spawn true }
+{
+    let at = spawn as usize;
+    // The spawns of a run lie within its events.
+    if at < marks.len() {
+        marks[at] = true;
+    }
+}
+
 /// Which spawned children the path of a run enters, told by its choices: one mark for each event, true at the spawns of
 /// those children. `count` is the number of events. It goes over the choices once, from the last to the first, with no
 /// stack: it takes time linear in the numbers of events and choices, and memory for the marks alone.
@@ -87,11 +98,13 @@ pub fn settle(alloc: Global, count: u32, choices: &Choices) -> Result<Vec<bool>,
             Note::Join(join) => {
                 joins -= 1;
                 if comes_to(join.at, onward) {
-                    // The spawns of a run lie within its events.
-                    if let Some(mark) = marks.get_mut(join.spawn as usize) {
-                        *mark = true;
-                    }
-                    onward = Onward::Seek { spawn: join.spawn };
+                    onward = match join.taken {
+                        Some(spawn) => {
+                            mark(&mut marks, spawn);
+                            Onward::Seek { spawn }
+                        }
+                        None => Onward::Live,
+                    };
                 }
             }
         }

@@ -18,7 +18,7 @@ use std::alloc::Global;
 /// (the critical path), which have no burdens.
 ///
 /// The events are read twice: once for the figures, the table of the dag and the choices that settle the path, and once
-/// for the path's table. The time is linear in the numbers of events, sites and functions; the memory too: up to 16
+/// for the path's table. The time is linear in the numbers of events, sites and functions; the memory too: up to 20
 /// bytes for each spawned child, or twice that where the lists grew bit by bit, one byte for each event, and what the
 /// open frames, the sites and the functions take. The work is below 2^92.
 ///

@@ -3,7 +3,7 @@ use Rattle.std.proofs.Common.{◌≡◌, ℕ, ◌+◌, ◌<◌, sym, ◌∙◌, 
 use Rattle.std.proofs.lemmas.List.{get_or_default}
 use Rattle.spp_dag.specs.declared.row.Row.{Row}
 use Rattle.spp_dag.specs.Shares.{zero_row, plus}
-use Rattle.spp_site.specs.declared.table.SiteRow.{SiteRow}
+use Rattle.spp_site.specs.declared.slots.SiteRow.{SiteRow}
 use Rattle.spp_site.specs.Table.{row_at, IsAdded}
 use Rattle.spp_site.specs.Slots.{blank, row_in, stored, HasNoRow, IsPlaceOf, IsIndexed}
 use Rattle.spp_site.proofs.Rows.{plus-cond}

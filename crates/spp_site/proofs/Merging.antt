@@ -4,7 +4,7 @@ use Rattle.std.proofs.lemmas.Bool.{cond-true, eq-eqb}
 use Rattle.std.proofs.lemmas.List.{take-append-drop}
 use Rattle.std.proofs.Math.Seq.{take-suc, take-length}
 use Rattle.spp_dag.specs.Shares.{zero_row, plus}
-use Rattle.spp_site.specs.declared.table.SiteRow.{SiteRow}
+use Rattle.spp_site.specs.declared.slots.SiteRow.{SiteRow}
 use Rattle.spp_site.specs.Rows.{Fits}
 use Rattle.spp_site.specs.Table.{Sums, row_at, HasNoZeroRow, IsAdded, IsSum}
 use Rattle.spp_site.specs.Slots.{blank, row_in}

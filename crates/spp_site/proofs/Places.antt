@@ -4,7 +4,7 @@ use Rattle.std.proofs.lemmas.Bool.{cases_lt, cases_eq}
 use Rattle.std.proofs.lemmas.List.{get_or-set_same, get_or-set_other, get_or_append_left, get_or_past, length-set}
 use Rattle.std.proofs.Math.Seq.{get_or-append_seam, get_or-append_right}
 use Rattle.spp_dag.specs.declared.row.Row.{Row}
-use Rattle.spp_site.specs.declared.table.SiteRow.{SiteRow}
+use Rattle.spp_site.specs.declared.slots.SiteRow.{SiteRow}
 use Rattle.spp_site.specs.Slots.{blank, HasNoRow, IsPlaceOf, IsIndexed}
 
 -- a site has one place at most

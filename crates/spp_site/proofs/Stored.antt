@@ -7,7 +7,7 @@ use Rattle.std.specs.FinMap.{get-insert, get-empty, same_map, nat_cmp-IsAntisymm
 use Rattle.std.specs.FinMap as map
 use Rattle.spp_dag.specs.declared.row.Row.{Row}
 use Rattle.spp_dag.specs.Shares.{zero_row, plus}
-use Rattle.spp_site.specs.declared.table.SiteRow.{SiteRow}
+use Rattle.spp_site.specs.declared.slots.SiteRow.{SiteRow}
 use Rattle.spp_site.specs.Rows.{is_zero}
 use Rattle.spp_site.specs.Table.{row_at, HasNoZeroRow, IsAdded}
 use Rattle.spp_site.specs.Slots.{blank, row_in, sites_of, stored, HasNoRow, IsPlaceOf}

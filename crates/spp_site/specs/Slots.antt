@@ -4,7 +4,7 @@ use Rattle.std.specs.Ordering.{nat_cmp}
 use Rattle.std.specs.FinMap as map
 use Rattle.spp_dag.specs.declared.row.Row.{Row}
 use Rattle.spp_dag.specs.Shares.{zero_row, plus}
-use Rattle.spp_site.specs.declared.table.SiteRow.{SiteRow}
+use Rattle.spp_site.specs.declared.slots.SiteRow.{SiteRow}
 use Rattle.spp_site.specs.Rows.{is_zero}
 use Rattle.spp_site.specs.Table.{Sums}
 
@@ -25,6 +25,14 @@ sites_of (e ∷ es) = cond (is_zero (row_in (e ∷ es) e.site)) (sites_of es) (m
 -- what contracts see of what is stored
 abbrev pub stored : Row → List SiteRow → Sums
 stored root rows = record { root = root; sites = sites_of rows }
+
+-- rows without the root's
+abbrev pub rows_alone : List SiteRow → Sums
+rows_alone rows = stored zero_row rows
+
+-- the index reaches the sites of these rows
+abbrev pub AreReached : List ℕ → List SiteRow → Type 0
+AreReached index rows = (k : ℕ) → k < length rows → (get_or rows k blank).site < length index
 
 -- no row is the site's
 abbrev pub HasNoRow : List SiteRow → ℕ → Type 0

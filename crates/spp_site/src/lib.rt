@@ -6,11 +6,14 @@ mod laws;
 mod marks;
 mod profile;
 mod row_sums;
+mod share;
+mod slots;
 mod table;
 
 pub use closed_frame::ClosedFrame;
 pub use laws::table_laws;
 pub use marks::Marks;
 pub use profile::Profile;
+pub use share::Share;
 pub use spp_dag::Row;
 pub use table::Table;

@@ -1,24 +1,18 @@
-//! A table, stored as the rows in the order in which their sites came, with an index from sites to places.
+//! A table of rows by call site.
 
-ghost use Rattle.std.specs.Prelude.{◌≡◌, ℕ, ◌≤◌, ◌<◌, ◌^◌, ◌++◌, List, length, replicate, MatchOption, OnOk, OnErr, IfOk};
-ghost use Rattle.spp_site.specs.declared.table.SiteRow.{SiteRow as RowOfSite};
+ghost use Rattle.std.specs.Prelude.{◌≡◌, ℕ, OnOk, OnErr, IfOk};
 ghost use Rattle.spp_dag.specs.Shares.{plus};
 ghost use Rattle.spp_site.specs.Rows.{Fits, frame_row};
-ghost use Rattle.spp_site.specs.Slots.{HasNoRow, IsPlaceOf, IsIndexed};
+ghost use Rattle.spp_site.specs.Slots.{row_in, stored};
 ghost use Rattle.spp_site.specs.Table.{row_at, empty, HasNoZeroRow, IsAdded, IsSum};
 
 use crate::closed_frame::ClosedFrame;
 use crate::row_sums::add_to;
+use crate::share::Share;
+use crate::slots::{SiteRow, make_room, place_of, put_all, reach};
 use spp_dag::Row;
 use std::alloc::{AllocError, Global};
 use std::marker::Model;
-
-/// The row of a site.
-#[derive(Clone, Copy, Debug, PartialEq, Eq)]
-struct SiteRow {
-    row: Row,
-    site: u32,
-}
 
 /// What the frames of a run, or of a part of it, add up to: a row for the root frame, and one for each call site.
 /// Works, spans and local counts are in instructions. A site that was never added to has the zero row.
@@ -143,24 +137,42 @@ impl Table {
         let _rows = self.rows.len();
     }
 
-    /// Adds the rows of another table, whose sums with these must fit their types. It takes time linear in the size of
-    /// the other one, besides a step, amortized, for each site number up to its greatest.
+    /// Adds a share, whose sums with these rows must fit their types. It takes time linear in the size of the share,
+    /// besides a step, amortized, for each site number up to its greatest.
     ///
     /// # Errors
     ///
-    /// Where a growth was refused; some of the rows are added then.
-    pub fn absorb(&mut self, other: &Table) -> Result<(), AllocError>
-        requires root_fits { Fits (plus self.old.root other.now.root) }
-        requires sites_fit { (s : ℕ) → Fits (plus (row_at self.old s) (row_at other.now s)) }
-        ensures sums { OnOk result (IsSum self.old other.now self.new) }
-        ensures no_zero_row { OnOk result (HasNoZeroRow self.new) }
+    /// Where room for its rows was refused; the table then is as it was.
+    pub fn absorb(&mut self, share: &Share) -> Result<(), AllocError>
+        requires root_fits { Fits (plus self.old.root share.now.root) }
+        requires sites_fit { (s : ℕ) → Fits (plus (row_at self.old s) (row_at share.now s)) }
+        ensures sums { OnOk result (IsSum self.old share.now self.new) }
+        ensures stays { OnErr result (self.new ≡ self.old) }
+        ensures no_zero_row { HasNoZeroRow self.new }
     {
-        self.add_root(&other.root);
-        self.no_row_is_zero();
-        for entry in &other.rows {
-            self.add(entry.site, &entry.row)?;
-        }
+        self.add_all(share.root(), share.rows())
+    }
+
+    /// Adds to the root's row, and these rows to those of their sites.
+    fn add_all(&mut self, root: &Row, rows: &[SiteRow]) -> Result<(), AllocError>
+        requires root_fits { Fits (plus self.old.root root.now) }
+        requires sites_fit { (s : ℕ) → Fits (plus (row_at self.old s) (row_in rows.now s)) }
+        ensures sums { OnOk result (IsSum self.old (stored root.now rows.now) self.new) }
+        ensures stays { OnErr result (self.new ≡ self.old) }
+        ensures no_zero_row { HasNoZeroRow self.new }
+    {
+        make_room(&mut self.index, &mut self.rows, rows)?;
+        put_all(&mut self.index, &mut self.rows, rows);
+        add_to(&mut self.root, root);
         Ok(())
+    }
+
+    /// What is left of the table where no more is added to it: the same rows, in memory for these alone. It takes
+    /// constant time.
+    pub fn into_share(self) -> Share
+        ensures { result ≡ self }
+    {
+        Share::of(self.root, self.rows)
     }
 
     /// A table with the same rows. It takes time linear in the size of the table.
@@ -194,33 +206,7 @@ impl Table {
         ensures no_zero_row { IfOk result HasNoZeroRow }
     {
         let mut merged = Table::copy(alloc, left)?;
-        merged.absorb(right)?;
+        merged.add_all(&right.root, &right.rows)?;
         Ok(merged)
     }
-}
-
-/// The place of a site's row, or none where the site has no row.
-#[inline(always)]
-fn place_of(index: &[u32], site: u32) -> Option<usize>
-    ensures { (rows : List RowOfSite) → IsIndexed index.now rows → MatchOption result (HasNoRow rows site) (IsPlaceOf rows site) }
-{
-    match index.get(site as usize) {
-        None | Some(0) => None,
-        Some(place) => Some(*place as usize - 1),
-    }
-}
-
-/// Lengthens the index, where it doesn't reach a site.
-fn reach(index: &mut Vec<u32>, site: u32) -> Result<(), AllocError>
-    requires { length index.old.items ≤ 2 ^ 32 }
-    ensures reached { OnOk result (site < length index.new.items) }
-    ensures grown { (n : ℕ) × (index.new.items ≡ index.old.items ++ replicate n 0) }
-    ensures small { length index.new.items ≤ 2 ^ 32 }
-    ensures stays { OnErr result (index.new.items ≡ index.old.items) }
-{
-    let at = site as usize;
-    if at >= index.len() {
-        index.resize(at + 1, 0)?;
-    }
-    Ok(())
 }

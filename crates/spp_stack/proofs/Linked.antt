@@ -1,5 +1,5 @@
 -- What is marked by following links from node to node.
-use Rattle.std.proofs.Common.{◌≡◌, ℕ, ◌+◌, ◌<◌, Bool, true, false, not, cond, ◌||◌, nat_eq, List, [], ◌∷◌, Option, Some, None, refl, sym, ap, ap₂, subst, ◌∙◌, inl, inr, arith}
+use Rattle.std.proofs.Common.{◌≡◌, ℕ, zero, suc, ◌+◌, ◌<◌, Bool, true, false, not, cond, ◌||◌, nat_eq, List, [], ◌∷◌, Option, Some, None, refl, sym, ap, ap₂, subst, ◌∙◌, inl, inr, arith}
 use Rattle.std.specs.Prelude.{slice_get}
 use Rattle.std.proofs.lemmas.Bool.{cases_eq}
 use Rattle.spp_dag.specs.declared.stack.EntryFrame.{EntryFrame}
@@ -147,3 +147,11 @@ count_less n None None e h = absurd (cc)
 count_less n (Some k) None e h = absurd (cc)
 count_less n None (Some m) e h = omega arith
 count_less n (Some k) (Some m) e h = let same : m ≡ n = cc in let lt : k < n = h in omega arith
+
+-- no mark is set at first
+none_marked : (x : ℕ) → is_marked [] x ≡ false
+none_marked zero = refl
+none_marked (suc x) = refl
+
+pub first_marks : (bits : List Bool) (b c : Bool) (x : ℕ) → bits ≡ [] → c ≡ (is_marked bits x || b) → c ≡ b
+first_marks bits b c x none e = e ∙ ap (λ l. is_marked l x || b) none ∙ ap (λ y. y || b) (none_marked x)

@@ -1,6 +1,6 @@
 //! The stacks where the parts of a trace begin.
 
-ghost use Rattle.std.specs.Prelude.{◌≡◌, ℕ, ◌+◌, ◌<◌, ◌||◌, [], ◌∷◌, List, length, slice_get, IfSome, OnOk, Some, None};
+ghost use Rattle.std.specs.Prelude.{◌≡◌, ℕ, ◌+◌, ◌<◌, ◌||◌, [], ◌∷◌, List, length, slice_get, IfSome, IfOk, OnOk, Some, None};
 ghost use Rattle.spp_dag.specs.Steps.{has_site, has_func};
 ghost use Rattle.spp_site.specs.Marks.{is_marked};
 ghost use Rattle.spp_dag.specs.declared.stack.EntryFrame.{EntryFrame as FrameValue};
@@ -8,7 +8,7 @@ ghost use Rattle.spp_stack.specs.Chain.{IsStart, IsNodeOf, HasFrames};
 
 use crate::node::Node;
 use spp_site::Marks;
-use std::alloc::AllocError;
+use std::alloc::{AllocError, Global};
 use std::marker::Model;
 
 /// Where a part begins, or where the trace ends.
@@ -98,19 +98,22 @@ impl<'e> Entry<'e> {
 }
 
 impl<'e> Entry<'e> {
-    /// Puts into the sets the sites by which the frames were entered, but not the root's, and the functions that they
-    /// run. It visits each site and each function once, however many frames there are; the sets may also grow to the
-    /// greatest number.
+    /// The set of the sites by which the frames were entered, but not the root's, and that of the functions that they
+    /// run. It visits each site and each function once, however many frames there are; the sets also take a byte for
+    /// each number up to the greatest.
     ///
     /// # Errors
     ///
-    /// Where a growth was refused; some may be in then.
-    pub fn mark(&self, sites: &mut Marks, funcs: &mut Marks) -> Result<(), AllocError>
-        ensures sites { OnOk result ((fs : List FrameValue) → HasFrames self.now fs → (x : ℕ) → is_marked sites.new x ≡ (is_marked sites.old x || has_site fs x)) }
-        ensures funcs { OnOk result ((fs : List FrameValue) → HasFrames self.now fs → (x : ℕ) → is_marked funcs.new x ≡ (is_marked funcs.old x || has_func fs x)) }
+    /// Where a growth was refused.
+    pub fn marks(&self, alloc: Global) -> Result<(Marks, Marks), AllocError>
+        ensures sites { IfOk result (λ m. (fs : List FrameValue) → HasFrames self.now fs → (x : ℕ) → is_marked m.0 x ≡ has_site fs x) }
+        ensures funcs { IfOk result (λ m. (fs : List FrameValue) → HasFrames self.now fs → (x : ℕ) → is_marked m.1 x ≡ has_func fs x) }
     {
-        self.mark_sites(sites)?;
-        self.mark_funcs(funcs)
+        let mut sites = Marks::new(alloc);
+        self.mark_sites(&mut sites)?;
+        let mut funcs = Marks::new(alloc);
+        self.mark_funcs(&mut funcs)?;
+        Ok((sites, funcs))
     }
 
     /// The node of that number.
@@ -121,7 +124,7 @@ impl<'e> Entry<'e> {
         &self.nodes[number as usize]
     }
 
-    /// The sites among them.
+    /// Puts in their sites.
     fn mark_sites(&self, sites: &mut Marks) -> Result<(), AllocError>
         ensures { OnOk result ((fs : List FrameValue) → HasFrames self.now fs → (x : ℕ) → is_marked sites.new x ≡ (is_marked sites.old x || has_site fs x)) }
     {
@@ -134,7 +137,7 @@ impl<'e> Entry<'e> {
         Ok(())
     }
 
-    /// The functions among them.
+    /// Puts in their functions.
     fn mark_funcs(&self, funcs: &mut Marks) -> Result<(), AllocError>
         ensures { OnOk result ((fs : List FrameValue) → HasFrames self.now fs → (x : ℕ) → is_marked funcs.new x ≡ (is_marked funcs.old x || has_func fs x)) }
     {

@@ -1,4 +1,5 @@
 use Rattle.spp_event.proofs.HeaderLaws.{header_fault_is_one, trace_has_no_fault, trace_is_one, trace_or_fault}
+use Rattle.spp_event.proofs.SpelledBodies.{trace_is_spelled, bytes_are_one}
 use Rattle.spp_event.proofs.laws.header_laws.Goals as goal
 
 pub returns-clause-one_fault : goal.returns-clause-one_fault
@@ -12,3 +13,9 @@ returns-clause-one_trace c = trace_is_one
 
 pub returns-clause-either : goal.returns-clause-either
 returns-clause-either c = trace_or_fault
+
+pub returns-clause-spelled : goal.returns-clause-spelled
+returns-clause-spelled c = trace_is_spelled
+
+pub returns-clause-one_spelling : goal.returns-clause-one_spelling
+returns-clause-one_spelling c = bytes_are_one

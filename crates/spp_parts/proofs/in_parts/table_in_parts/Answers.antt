@@ -58,7 +58,7 @@ absorb-requires-clause-root_fits c =
     let es : List Event = fig.events in
     let wf : IsWellFormed es = subst (λ (rs : List Record). nesting.IsWellFormed rs) fig.are_events fig.well_formed in
     let at = part_read t ps c.parts-parts.result.now k c.index-parts-k.result c.parts-parts.ensures.cut c.parts-parts.ensures.parts c.index-parts-k.is c.loop-k-test.true in
-    let table : Sums = c.in_ok-told.told.table in
+    let table : Sums = c.in_ok-told.told.share in
     merge_fits t (begin_in ps k) (begin_in ps (k + 1)) (next_begin t ps k c.index-parts-k.result at) c.loop-k.dag table c.in_ok-told.told.choices c.loop-k.invariant.rows
     (told_part t ps k c.index-parts-k.result at table c.in_ok-told.told.choices c.in_ok-told.ensures) es fig.are_events wf (c.in_ok-found.ensures.parts es fig.are_events).small None
 
@@ -71,7 +71,7 @@ absorb-requires-clause-sites_fit c = λ s.
     let es : List Event = fig.events in
     let wf : IsWellFormed es = subst (λ (rs : List Record). nesting.IsWellFormed rs) fig.are_events fig.well_formed in
     let at = part_read t ps c.parts-parts.result.now k c.index-parts-k.result c.parts-parts.ensures.cut c.parts-parts.ensures.parts c.index-parts-k.is c.loop-k-test.true in
-    let table : Sums = c.in_ok-told.told.table in
+    let table : Sums = c.in_ok-told.told.share in
     merge_fits t (begin_in ps k) (begin_in ps (k + 1)) (next_begin t ps k c.index-parts-k.result at) c.loop-k.dag table c.in_ok-told.told.choices c.loop-k.invariant.rows
     (told_part t ps k c.index-parts-k.result at table c.in_ok-told.told.choices c.in_ok-told.ensures) es fig.are_events wf (c.in_ok-found.ensures.parts es fig.are_events).small (Some s)
 
@@ -81,7 +81,7 @@ loop-k-preserved c =
     let ps : List PartOf = c.args.cut.now.parts in
     let k : ℕ = c.loop-k.k in
     let at = part_read t ps c.parts-parts.result.now k c.index-parts-k.result c.parts-parts.ensures.cut c.parts-parts.ensures.parts c.index-parts-k.is c.loop-k-test.true in
-    let table : Sums = c.in_ok-told.told.table in
+    let table : Sums = c.in_ok-told.told.share in
     record {
       rows =
           rows_more t (begin_in ps k) (begin_in ps (k + 1)) (next_begin t ps k c.index-parts-k.result at) c.loop-k.dag table c.in_ok-told.told.choices c.loop-k.invariant.rows

@@ -116,6 +116,6 @@ returns c =
     let end : c.first-first.result + c.loop-k.k ≡ first + c.args.part.now.count = omega (arith, c.first-first.ensures, c.count-k-end.ensures, c.loop-k.auto.k-end, c.loop-k-test.false) in
     ok_more _ _ c.suspend.result
     (λ (p : PartResult) h es are.
-    subst (λ (k : ℕ). IsPartOf es trace.root first k p.table p.choices) end
+    subst (λ (k : ℕ). IsPartOf es trace.root first k p.share p.choices) end
     (going_end trace sound first (c.first-first.result + c.loop-k.k) (omega (arith, c.keeps_limits.ensures.within)) c.loop-k.outside (seen c.loop-k.summing) c.loop-k.invariant.going p h es are))
     c.suspend.ensures

@@ -1,11 +1,11 @@
 -- The loop keeps what stands of the settling, note by note.
-use Rattle.std.proofs.Common.{rules, replicate, ◌≡◌, length, ◌-◌, ◌≤◌, true, false, take, Some, None, sym, ap, subst, arith, ◌∙◌}
-use Rattle.std.proofs.lemmas.List.{length-replicate, length-set, set_past}
+use Rattle.std.proofs.Common.{rules, replicate, ◌≡◌, Bool, List, length, ◌-◌, true, false, take, Some, None, sym, ap, subst, arith, ◌∙◌}
+use Rattle.std.proofs.lemmas.List.{length-replicate, length-set}
 use Rattle.spp_dag.specs.declared.choices.Choices.{Choices}
 use Rattle.spp_path.specs.declared.settling.Note.TheVariants as note
 use Rattle.spp_path.specs.declared.settling.Onward.TheVariants.{Live, Seek}
 use Rattle.spp_path.specs.Settling.{last, later, runs_to}
-use Rattle.spp_path.proofs.Settled.{Settles, settles_first, settles_ended, settles_passed, settles_taken, settled}
+use Rattle.spp_path.proofs.Settled.{Settles, settles_first, settles_ended, settles_passed, settles_beside, settles_taken, settled}
 use Rattle.spp_path.proofs.settling.settle.Goals as goal
 
 pub loop-note-init : goal.loop-note-init
@@ -36,8 +36,8 @@ loop-note-preserved-in-End c =
           (settles_ended c.args.count given c.loop-note.ends c.loop-note.joins c.loop-note.onward c.loop-note.marks.items c.in-End.end i.ends i.joins next i.settles);
     }
 
-pub loop-note-preserved-in-Some-get_mut : goal.loop-note-preserved-in-Some-get_mut
-loop-note-preserved-in-Some-get_mut c =
+pub loop-note-preserved-in-Some-taken : goal.loop-note-preserved-in-Some-taken
+loop-note-preserved-in-Some-taken c =
     let i = c.loop-note.invariant in
     let given : Choices = c.args.choices.now in
     let was = c.in-Some.ensures in
@@ -46,24 +46,23 @@ loop-note-preserved-in-Some-get_mut c =
     record {
       ends = i.ends;
       joins = omega arith;
-      size = length-set c.loop-note.marks.items c.in-Join.join.spawn true ∙ i.size;
-      settles = settles_taken c.args.count given c.loop-note.ends c.loop-note.joins c.loop-note.onward c.loop-note.marks.items c.in-Join.join i.ends i.joins next comes i.size i.settles;
+      size = ap (λ (l : List Bool). length l) c.mark.ensures ∙ length-set c.loop-note.marks.items c.in-Some-taken.spawn true ∙ i.size;
+      settles = subst (λ v. Settles c.args.count given c.loop-note.ends (c.loop-note.joins - 1) (Seek c.in-Some-taken.spawn) v) (sym c.mark.ensures)
+          (settles_taken c.args.count given c.loop-note.ends c.loop-note.joins c.loop-note.onward c.loop-note.marks.items c.in-Join.join c.in-Some-taken.spawn i.ends i.joins next comes c.in-Some-taken.is i.size i.settles);
     }
 
-pub loop-note-preserved-in_default-get_mut : goal.loop-note-preserved-in_default-get_mut
-loop-note-preserved-in_default-get_mut c =
+pub loop-note-preserved-in-None : goal.loop-note-preserved-in-None
+loop-note-preserved-in-None c =
     let i = c.loop-note.invariant in
     let given : Choices = c.args.choices.now in
     let was = c.in-Some.ensures in
     let next : later (last (take c.loop-note.ends given.ends.items)) (last (take c.loop-note.joins given.joins.items)) ≡ Some (note.Join c.in-Join.join) = cc in
     let comes : runs_to c.in-Join.join.at c.loop-note.onward ≡ true = sym c.comes_to.ensures ∙ c.if-comes_to.true in
-    let past : length c.loop-note.marks.items ≤ c.in-Join.join.spawn = omega (arith, c.in_default-get_mut.ensures.item) in
     record {
       ends = i.ends;
       joins = omega arith;
       size = i.size;
-      settles = subst (λ v. Settles c.args.count given c.loop-note.ends (c.loop-note.joins - 1) (Seek c.in-Join.join.spawn) v) (set_past c.loop-note.marks.items c.in-Join.join.spawn true past)
-          (settles_taken c.args.count given c.loop-note.ends c.loop-note.joins c.loop-note.onward c.loop-note.marks.items c.in-Join.join i.ends i.joins next comes i.size i.settles);
+      settles = settles_beside c.args.count given c.loop-note.ends c.loop-note.joins c.loop-note.onward c.loop-note.marks.items c.in-Join.join i.ends i.joins next comes c.in-None.is i.settles;
     }
 
 pub loop-note-preserved : goal.loop-note-preserved

@@ -1,5 +1,4 @@
 use Rattle.std.proofs.Common.{◌≡◌, ◌-◌, ◌≤◌, ℕ, List, ◌++◌, length, get_or, refl, sym, ap, ap₂, subst, ◌∙◌, arith}
-use Rattle.spp_maxplus.specs.State.{taken}
 use Rattle.spp_dag.specs.declared.row.Row.{Row}
 use Rattle.spp_dag.specs.Shares.{plus}
 use Rattle.spp_site.specs.Rows.{Fits, frame_row}
@@ -8,7 +7,7 @@ use Rattle.spp_dag.specs.declared.figures.Figures.{Figures}
 use Rattle.spp_pass.specs.declared.summing.CountedFrame.{CountedFrame}
 use Rattle.spp_pass.specs.declared.summing.FirstPass.{FirstPass}
 use Rattle.spp_pass.specs.Weights.{close}
-use Rattle.spp_pass.specs.Passes.{Seen, seen, state_of, row_of, joins_at, CanFinish, IsFinished}
+use Rattle.spp_pass.specs.Passes.{Seen, seen, state_of, row_of, listed, choice_at, CanFinish, IsFinished}
 use Rattle.spp_site.proofs.LastFirst.{topped}
 use Rattle.spp_pass.proofs.Tops.{some_open}
 use Rattle.spp_pass.proofs.summing.Summing.finish.Goals as goal
@@ -52,5 +51,5 @@ returns c =
       ap₂ (λ (v w : ℕ). let f : Figures = record { work = s.work; span = v; burdened = w } in f) (c.close.ensures ∙ ap (λ f. close f.plain) same) (c.close-2.ensures ∙ ap (λ f. close f.burdened) same),
       c.add_root.ensures ∙ ap (λ r. let u : Sums = record s.table { root = plus s.table.root r } in u) (c.row.ensures ∙ ap frame_row c.closed.ensures ∙ ap (λ f. row_of f s.work) same),
       refl,
-      c.in_ok-note_join.ensures ∙ ap (λ o. s.joins ++ joins_at c.args.at o) (c.taken.ensures ∙ ap (λ f. taken (state_of f)) same),
+      c.in_ok-note_join.ensures ∙ ap (λ o. s.joins ++ listed o) (c.choice.ensures ∙ ap (λ f. choice_at c.args.at (state_of f)) same),
     )

@@ -6,7 +6,7 @@ use Rattle.spp_site.specs.Marks.{is_marked}
 use Rattle.spp_site.specs.declared.closed_frame.ClosedFrame.{ClosedFrame}
 use Rattle.spp_pass.specs.declared.summing.CountedFrame.{CountedFrame}
 use Rattle.spp_pass.specs.declared.summing.Returned.{Returned}
-use Rattle.spp_pass.specs.Passes.{Seen, seen, returned_of, received, joins_at, CanReturn, CanClose, Returns}
+use Rattle.spp_pass.specs.Passes.{Seen, seen, returned_of, received, listed, CanReturn, CanClose, Returns}
 use Rattle.spp_site.proofs.LastFirst.{topped, doubled}
 use Rattle.spp_pass.proofs.summing.Summing.ret.Goals as goal
 
@@ -59,6 +59,6 @@ returns c =
         work = refl;
         table = subst (λ (f : ClosedFrame). IsAdded s.table c.close.new.self child.site (frame_row f)) c.closed.ensures c.in_ok-close.ensures.added;
         ends = c.in_ok-note_end.ensures;
-        joins = c.in_ok-note_join.ensures ∙ ap (λ o. s.joins ++ joins_at c.args.at o) c.taken.ensures;
+        joins = c.in_ok-note_join.ensures ∙ ap (λ o. s.joins ++ listed o) c.choice.ensures;
       },
     )

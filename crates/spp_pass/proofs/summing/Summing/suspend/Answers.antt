@@ -1,4 +1,4 @@
-use Rattle.std.proofs.Common.{ap, sym, refl, arith, reverse}
+use Rattle.std.proofs.Common.{ap, sym, ◌∙◌, refl, arith, reverse}
 use Rattle.spp_dag.specs.Shares.{plus}
 use Rattle.spp_site.specs.Profiles.{key_row}
 use Rattle.spp_pass.specs.Outside.{local_rows}
@@ -28,10 +28,10 @@ loop-frame-preserved c = record {
 
 pub returns : goal.returns
 returns c = record {
-  table =
-      all_whole c.loop-frame.table c.args.self.frames.items c.deref-frame-items.result.now c.loop-frame.frame-index
+  share = λ key.
+      ap (λ t. key_row t key) c.into_share.ensures ∙ all_whole c.loop-frame.table c.args.self.frames.items c.deref-frame-items.result.now c.loop-frame.frame-index
       (λ key. plus (key_row c.args.self.table key) (local_rows (reverse c.args.self.frames.items) key))
-      c.deref-frame-items.ensures.value (omega (arith, c.loop-frame-test.false)) c.loop-frame.invariant.whole;
+      c.deref-frame-items.ensures.value (omega (arith, c.loop-frame-test.false)) c.loop-frame.invariant.whole key;
   ends = refl;
   joins = refl;
 }

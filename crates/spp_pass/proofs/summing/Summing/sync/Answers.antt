@@ -1,8 +1,7 @@
 use Rattle.std.proofs.Common.{◌≡◌, ◌-◌, List, ◌∷◌, ◌++◌, length, reverse, get_or, set, sym, ap, ap₂, ◌∙◌, arith}
-use Rattle.spp_maxplus.specs.State.{taken}
 use Rattle.spp_pass.specs.declared.summing.CountedFrame.{CountedFrame}
-use Rattle.spp_dag.specs.declared.choices.Join.{Join}
-use Rattle.spp_pass.specs.Passes.{Seen, seen, state_of, sync_frame, on_top, joins_at, top_joins}
+use Rattle.spp_dag.specs.declared.choices.Choice.{Choice}
+use Rattle.spp_pass.specs.Passes.{Seen, seen, state_of, sync_frame, on_top, listed, choice_at, top_joins}
 use Rattle.spp_site.proofs.LastFirst.{topped}
 use Rattle.spp_pass.proofs.Tops.{some_open}
 use Rattle.spp_pass.proofs.summing.Summing.sync.Goals as goal
@@ -22,6 +21,6 @@ returns c =
     let frames : reverse (set fs (c.len-last.result - 1) new) ≡ on_top sync_frame (reverse fs) =
     ap (λ k. reverse (set fs k new)) at ∙ t.put new ∙ ap (λ f. f ∷ t.below) moved ∙ ap (on_top sync_frame) (sym t.is) in
     let noted : c.note_join.new.joins.items ≡ s.joins ++ top_joins c.args.at (reverse fs) =
-    c.in_ok-note_join.ensures ∙ ap (λ o. s.joins ++ joins_at c.args.at o) (c.taken.ensures ∙ ap (λ f. taken (state_of f)) same)
+    c.in_ok-note_join.ensures ∙ ap (λ o. s.joins ++ listed o) (c.choice.ensures ∙ ap (λ f. choice_at c.args.at (state_of f)) same)
     ∙ ap (λ l. s.joins ++ top_joins c.args.at l) (sym t.is) in
-    ap₂ (λ (l : List CountedFrame) (m : List Join). let x : Seen = record s { frames = l; joins = m } in x) frames noted
+    ap₂ (λ (l : List CountedFrame) (m : List Choice). let x : Seen = record s { frames = l; joins = m } in x) frames noted

@@ -1,14 +1,14 @@
 use Rattle.std.proofs.Common.{◌++◌, [], ◌∷◌, reverse, List, ap, ◌∙◌}
 use Rattle.spp_pass.specs.declared.summing.CountedFrame.{CountedFrame}
-use Rattle.spp_pass.proofs.Reaching.{node_enters, first_marks}
+use Rattle.spp_pass.proofs.Reaching.{node_enters}
 use Rattle.spp_pass.proofs.summing.Summing.within.Goals as goal
 
 pub returns : goal.returns
 returns c = λ f fs h. record {
   frames = ap reverse (c.in_ok-push.ensures.items ∙ ap (λ (l : List CountedFrame). l ++ c.entered.result ∷ []) c.new-frames.ensures.items)
       ∙ ap (λ (x : CountedFrame). x ∷ []) (c.entered.ensures ∙ node_enters c.innermost.result.now f fs (c.innermost.ensures.frame f fs h));
-  open_sites = λ x. first_marks c.new-open_sites.result _ _ x c.new-open_sites.ensures (c.in_ok-mark.ensures.sites (f ∷ fs) h x);
-  open_funcs = λ x. first_marks c.new-open_funcs.result _ _ x c.new-open_funcs.ensures (c.in_ok-mark.ensures.funcs (f ∷ fs) h x);
+  open_sites = λ x. c.in_ok-open_sites.ensures.sites (f ∷ fs) h x;
+  open_funcs = λ x. c.in_ok-open_sites.ensures.funcs (f ∷ fs) h x;
   work = c.work.ensures;
   table = c.new.ensures;
   ends = c.new-2.ensures.items;
