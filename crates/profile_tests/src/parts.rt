@@ -52,23 +52,17 @@ fn stacks_in(alloc: Global, events: &[Event], parts: u32) -> Option<Entries> {
     stacks_of(alloc, &cut)
 }
 
-/// Up to ten frames where part `k` begins, the innermost first, with their number but the root and the work before.
+/// The frames where part `k` begins, the innermost first, with their number but the root and the work before.
 fn told_at(alloc: Global, stacks: &Entries, k: usize) -> Option<(Vec<EntryFrame>, u32, u128)> {
     if k > stacks.parts() {
         return None;
     }
     let entry = stacks.entry(k);
-    let (depth, work) = (entry.depth(), entry.work());
     let mut frames = Vec::new(alloc);
-    let mut left = Some(entry);
-    for _ in 0..10 {
-        let Some(entry) = left else {
-            break;
-        };
-        frames.push(entry.innermost().frame).ok()?;
-        left = entry.below();
+    for frame in entry.frames() {
+        frames.push(frame).ok()?;
     }
-    Some((frames, depth, work))
+    Some((frames, entry.depth(), entry.work()))
 }
 
 /// A state with this spine and no child.

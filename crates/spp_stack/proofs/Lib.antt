@@ -5,3 +5,4 @@ pub mod Actions
 pub mod Following
 pub mod PartsPassed
 mod Linked
+pub mod Framed

@@ -1,5 +1,5 @@
 -- Stacks of open frames that share their frames as nodes.
-use Rattle.std.specs.Prelude.{◌≡◌, ℕ, ◌<◌, Bool, false, not, cond, List, [], ◌∷◌, length, slice_get, Option, Some, None}
+use Rattle.std.specs.Prelude.{◌≡◌, ℕ, zero, suc, ◌<◌, Bool, false, not, cond, List, [], ◌∷◌, length, slice_get, Option, Some, None}
 use Rattle.spp_dag.specs.declared.stack.EntryFrame.{EntryFrame}
 use Rattle.spp_dag.specs.declared.stack.FrameKind.{FrameKind}
 use Rattle.spp_dag.specs.declared.stack.FrameKind.TheVariants.{Root, Called, Spawned}
@@ -35,6 +35,22 @@ IsChain nodes (Some n) [] = ⊥
 IsChain nodes (Some n) (f ∷ fs) =
     (node : Node) × (slice_get nodes n ≡ Some node) × IsNodeOf node f fs × IsUnder n node.below × IsChain nodes node.below fs
 
+-- a node's frame, and the frames from the node below it on
+abbrev pub over : Option Node → (Option ℕ → List EntryFrame) → List EntryFrame
+over None rest = []
+over (Some node) rest = node.frame ∷ rest node.below
+
+-- the same frames as a list, of so many nodes at most
+abbrev pub frames_at : List Node → Option ℕ → ℕ → List EntryFrame
+frames_at nodes None most = []
+frames_at nodes (Some n) zero = []
+frames_at nodes (Some n) (suc most) = over (slice_get nodes n) (λ o. frames_at nodes o most)
+
+-- nodes below have lesser numbers, so there are no more than the number says
+abbrev pub frames_from : List Node → Option ℕ → List EntryFrame
+frames_from nodes None = []
+frames_from nodes (Some n) = frames_at nodes (Some n) (suc n)
+
 -- The nodes of all stacks; and for the beginning of each part, and the end, the number of its innermost frame's node
 -- and the work of the trace before.
 pub record Stacks : Type 0 where
@@ -67,6 +83,10 @@ pub record AreLinks (nodes : List Node) (n : ℕ) (node : Node) : Type 0 where
 -- nodes below come before those above
 abbrev pub IsTree : List Node → Type 0
 IsTree nodes = (n : ℕ) (node : Node) → slice_get nodes n ≡ Some node → IsUnder n node.below
+
+-- that node is there, if one is meant, and nodes below come before those above
+abbrev pub IsWithin : List Node → Option ℕ → Type 0
+IsWithin nodes next = IsUnder (length nodes) next × IsTree nodes
 
 -- each node has its links
 abbrev pub AreLinked : List Node → Type 0

@@ -5,11 +5,13 @@
 //! Two links of each node lead past the frames whose site, or whose function, is open further down too.
 #![tactic(auto)]
 
+mod frames;
 mod node;
 mod part_by_part;
 mod stack_builder;
 mod stacks;
 
+pub use frames::Frames;
 pub use node::Node;
 pub use part_by_part::entries;
 pub use stacks::{Entries, Entry};

@@ -19,10 +19,10 @@ pub struct Node {
     pub top_func: bool,
     /// The number of the nearest node below this one whose frame is the lowest that was entered by its site; the root
     /// doesn't count. None if there's no such one.
-    pub site_link: Option<u32>,
+    pub(crate) site_link: Option<u32>,
     /// The number of the nearest node below this one whose frame is the lowest that runs its function. None at the
     /// root.
-    pub func_link: Option<u32>,
+    pub(crate) func_link: Option<u32>,
 }
 
 impl Node {

@@ -4,8 +4,9 @@ ghost use Rattle.std.specs.Prelude.{◌≡◌, ℕ, ◌+◌, ◌<◌, ◌||◌, 
 ghost use Rattle.spp_dag.specs.Steps.{has_site, has_func};
 ghost use Rattle.spp_site.specs.Marks.{is_marked};
 ghost use Rattle.spp_dag.specs.declared.stack.EntryFrame.{EntryFrame as FrameValue};
-ghost use Rattle.spp_stack.specs.Chain.{IsStart, IsNodeOf, HasFrames};
+ghost use Rattle.spp_stack.specs.Chain.{IsStart, IsNodeOf, IsTree, HasFrames};
 
+use crate::frames::Frames;
 use crate::node::Node;
 use spp_site::Marks;
 use std::alloc::{AllocError, Global};
@@ -81,6 +82,13 @@ impl<'e> Entry<'e> {
         ensures frame { (f : FrameValue) (fs : List FrameValue) → HasFrames self.now (f ∷ fs) → IsNodeOf result.now f fs }
     {
         &self.nodes[self.top as usize]
+    }
+
+    /// The frames, from the innermost one outwards to the root, each in constant time and with no memory.
+    pub fn frames(&self) -> Frames<'e>
+        ensures { (fs : List FrameValue) → HasFrames self.now fs → result ≡ fs }
+    {
+        Frames::new(self.nodes, self.top)
     }
 
     /// The frames without the innermost one; none where that is the root. It takes a constant time and no memory.
@@ -159,9 +167,10 @@ impl Entries {
         self.starts.len() - 1
     }
 
-    /// The nodes of all open frames. A node names one with a lesser number as below it.
+    /// The nodes of all open frames. A node names one with a lesser number than its own as below it, or none.
     pub fn nodes(&self) -> &[Node]
-        ensures { result.now ≡ self.now.nodes }
+        ensures nodes { result.now ≡ self.now.nodes }
+        ensures tree { IsTree result.now }
     {
         self.nodes.as_slice()
     }

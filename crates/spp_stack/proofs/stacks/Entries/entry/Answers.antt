@@ -11,7 +11,7 @@ start_is c =
     slice_get_read s.items _ c.args.k c.index-start.result.now refl (omega (arith, c.requires, ap (λ (z : Stacks). length z.starts) c.self.view_is)) c.index-start.ensures
 
 nodes_are : (c : goal.After-nodes) → c.nodes.result.now ≡ c.self.inside.nodes.items
-nodes_are c = c.nodes.ensures ∙ ap (λ (z : Stacks). z.nodes) (sym c.self.view_is)
+nodes_are c = c.nodes.ensures.nodes ∙ ap (λ (z : Stacks). z.nodes) (sym c.self.view_is)
 
 pub invariant_of-result : goal.invariant_of-result
 invariant_of-result c =
