@@ -1,10 +1,11 @@
 -- Reading line by line.
-use Rattle.std.proofs.Common.{◌≡◌, ◌≢◌, ℕ, suc, ◌+◌, ◌≤◌, ◌<◌, Result, Err, List, length, get_or, drop, refl, sym, ap, ◌∙◌}
+use Rattle.std.proofs.Common.{◌≡◌, ◌≢◌, ℕ, suc, ◌+◌, ◌≤◌, ◌<◌, min, Result, Err, List, length, get_or, drop, refl, sym, ap, ◌∙◌, arith}
+use Rattle.std.specs.Str.Lines.{lines}
 use Rattle.std.proofs.lemmas.List.{at_drop_more, at_drop_all}
 use Rattle.spp_text.specs.declared.fault.TextWhy.{TextWhy}
 use Rattle.spp_text.specs.declared.fault.TextWhy.TheVariants.{Word, Count, Number, Name, SameName, Limits, Late, Root, NoFunc, Site, Func, Memory}
 use Rattle.spp_text.specs.Reading.{Said, read_line, read_lines, go_on, at_end, opening_fault}
-use Rattle.spp_text.specs.Parsed.{IsWhy}
+use Rattle.spp_text.specs.Parsed.{IsWhy, IsLineNumber}
 
 -- what was told where it isn't want of memory
 pub why_is : {T : Type 0} (why : TextWhy) (read : Result T TextWhy) → IsWhy why read → why ≢ Memory → read ≡ Err why
@@ -26,3 +27,7 @@ one_line ls i s number line lt is = at_drop_more (read_lines s number) ls i line
 
 pub last_line : (ls : List (List ℕ)) (i : ℕ) (s : Said) (number : ℕ) → length ls ≤ i → read_lines s number (drop i ls) ≡ at_end s number (opening_fault s)
 last_line ls i s number le = at_drop_all (read_lines s number) ls i le
+
+-- the number that is counted after i lines
+pub line_number : (text : List ℕ) (i number : ℕ) → i ≤ length (lines text) → number ≡ min (suc i) 4294967295 → IsLineNumber text number
+line_number text i number le is = (omega arith, omega arith)

@@ -1,6 +1,7 @@
 -- What a step of reading, and the whole of it, answers.
-use Rattle.std.specs.Prelude.{◌≡◌, ◌≢◌, ℕ, List, map, unwrap_or, Result, Ok, Err}
+use Rattle.std.specs.Prelude.{◌≡◌, ◌≢◌, ℕ, suc, ◌≤◌, List, length, map, min, unwrap_or, Result, Ok, Err}
 use Rattle.std.specs.List.{flat_map}
+use Rattle.std.specs.Str.Lines.{lines}
 use Rattle.spp_event.specs.Records.{spelling}
 use Rattle.spp_event.specs.Recordings.{Recording}
 use Rattle.spp_event.specs.Header.{IsTraceOf}
@@ -35,3 +36,7 @@ IsEncoded text bytes = (s : Said) × (read_text text ≡ Ok s) × IsTraceOf byte
 -- the first fault of the text's least line that has one, or want of memory
 abbrev pub IsTextFault : List ℕ → TextFault → Type 0
 IsTextFault text fault = fault.why ≢ Memory → read_text text ≡ Err fault
+
+-- the number of a line of the text, from 1, or of the end behind the last; numbers past 32 bits are told as the greatest
+abbrev pub IsLineNumber : List ℕ → ℕ → Type 0
+IsLineNumber text number = (1 ≤ number) × (number ≤ min (suc (length (lines text))) 4294967295)

@@ -84,7 +84,8 @@ impl<T: Drop> From<AllocFailed<T>> for TextWhy {
 #[derive(Clone, Copy, Debug, Error, PartialEq, Eq)]
 #[error("line {line}: {why}")]
 pub struct TextFault {
-    /// The number of the line, from 1; 2^32 - 1 for that line and all after it.
+    /// The number of the line, from 1, or of the end, as of a line behind the last; 2^32 - 1 for that line and all after
+    /// it. It is so at want of memory too.
     pub line: u32,
     /// What is wrong with it.
     pub why: TextWhy,

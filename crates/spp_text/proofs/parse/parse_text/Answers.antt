@@ -4,7 +4,7 @@ use Rattle.std.proofs.lemmas.List.{length_push}
 use Rattle.std.proofs.lemmas.Iterator.Consumers.{YieldsList-turn, YieldsList-end}
 use Rattle.std.proofs.lemmas.Iterator.Splits.{YieldsList-from_lines}
 use Rattle.spp_text.specs.Reading.{read_line, read_lines, go_on, at_end}
-use Rattle.spp_text.proofs.LineByLine.{why_is, one_line, last_line}
+use Rattle.spp_text.proofs.LineByLine.{why_is, one_line, last_line, line_number}
 use Rattle.spp_text.proofs.parse.parse_text.Goals as goal
 
 pub returns-in-Err-clause-refused : goal.returns-in-Err-clause-refused
@@ -19,6 +19,11 @@ returns-in-Err-clause-refused c =
     ∙ one_line (lines text) i said (suc i) c.in-Some.line.now t.0 t.1
     ∙ ap (λ (r : _). go_on (suc i) r (λ u. read_lines u (suc (suc i)) (drop (i + 1) (lines text)))) told
     ∙ ap (λ (n : ℕ). Err (record { line = n; why = c.in-Err.why })) (sym c.loop-line.invariant.number)
+
+pub returns-in-Err-clause-line : goal.returns-in-Err-clause-line
+returns-in-Err-clause-line c =
+    let t = YieldsList-turn (YieldsList-from_lines c.args.text.now cc) c.loop-line.yielded _ c.loop-line.yielded_by _ _ c.in-Some.line c.in-Some.is c.next.ensures.steps in
+    line_number c.args.text.now (length c.loop-line.yielded) c.loop-line.number (omega (arith, t.0)) c.loop-line.invariant.number
 
 pub loop-line-preserved : goal.loop-line-preserved
 loop-line-preserved c =
@@ -49,6 +54,16 @@ returns-in-Some-opening_fault-clause-refused c =
     ∙ last_line (lines text) i said (suc i) (omega (arith, t.1))
     ∙ ap (at_end said (suc i)) (sym c.opening_fault.ensures ∙ c.in-Some-opening_fault.is)
     ∙ ap (λ (n : ℕ). Err (record { line = n; why = c.in-Some-opening_fault.why })) (sym c.loop-line.invariant.number)
+
+pub returns-in-Some-opening_fault-clause-line : goal.returns-in-Some-opening_fault-clause-line
+returns-in-Some-opening_fault-clause-line c =
+    let t = YieldsList-end (YieldsList-from_lines c.args.text.now cc) c.loop-line.yielded _ c.loop-line.yielded_by _ _ c.in-None.is c.next.ensures.steps in
+    line_number c.args.text.now (length c.loop-line.yielded) c.loop-line.number (omega (arith, t.1)) c.loop-line.invariant.number
+
+pub returns-clause-line : goal.returns-clause-line
+returns-clause-line c =
+    let t = YieldsList-end (YieldsList-from_lines c.args.text.now cc) c.loop-line.yielded _ c.loop-line.yielded_by _ _ c.in-None.is c.next.ensures.steps in
+    line_number c.args.text.now (length c.loop-line.yielded) c.loop-line.number (omega (arith, t.1)) c.loop-line.invariant.number
 
 pub returns-in-Ok-clause-found : goal.returns-in-Ok-clause-found
 returns-in-Ok-clause-found c =
