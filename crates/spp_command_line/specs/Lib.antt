@@ -1,1 +1,2 @@
+pub mod Spprof
 pub mod Usage

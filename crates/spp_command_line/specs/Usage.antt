@@ -1,15 +1,67 @@
 -- What a request has of the words, and how a program ends whose words are no request.
-use Rattle.std.specs.Prelude.{◌≡◌, ◌⊎◌, ℕ, List, [], ◌∷◌, Option, Some, None, cond, codes}
+use Rattle.std.specs.Prelude.{◌≡◌, ℕ, Bool, true, false, List, [], ◌∷◌, Option, Some, None, cond, codes, map, ◌≤◌}
 use Rattle.std.specs.Str.{bytes_eq}
+use Rattle.std.specs.Str.Parse.{IsNumeral, digits_value, without_leading_plus}
+use Rattle.std.specs.String.{string_bytes}
+use Rattle.clap.specs.Walk.{Row, Text, first_of, one_of}
+use Rattle.clap.specs.Kinds.{IsAmong, Kinds}
+use Rattle.clap.specs.declared.error.kind.ErrorKind.{ErrorKind}
+use Rattle.clap.specs.declared.error.kind.ErrorKind.TheVariants.{DisplayHelp, DisplayVersion}
+use Rattle.spp_request.specs.declared.request.Command.{Command}
+use Rattle.spp_request.specs.declared.request.Command.TheVariants.{Check, Figures, Profile, Encode}
+use Rattle.spp_request.specs.declared.request.Request.{Request}
 use Rattle.spp_request.specs.declared.request.UsageFault.{UsageFault}
 use Rattle.spp_request.specs.declared.request.UsageFault.TheVariants.{Shown, Memory}
 
--- a text that is shown goes with status 0 or 2
-abbrev pub EndsByUsage : UsageFault → Type 0
-EndsByUsage (Shown text status) = (status ≡ 0) ⊎ (status ≡ 2)
-EndsByUsage Memory = Unit {0}
+-- the status that a text goes with: 0 where help or the version was asked for, and else 2
+abbrev pub status_of : ErrorKind → ℕ
+status_of DisplayHelp = 0
+status_of DisplayVersion = 0
+status_of _ = 2
+
+-- a text that is shown goes with the status of one of these kinds of error
+abbrev pub EndsBy : Kinds → UsageFault → Type 0
+EndsBy kinds (Shown text status) = (k : ErrorKind) × IsAmong k kinds × (status ≡ status_of k)
+EndsBy kinds Memory = Unit {0}
+
+-- the command of a name
+abbrev pub IsNamed : Text → Command → Type 0
+IsNamed name Check = name ≡ codes "check"
+IsNamed name Figures = name ≡ codes "figures"
+IsNamed name Profile = name ≡ codes "profile"
+IsNamed name Encode = name ≡ codes "encode"
 
 -- the files of a request: none where no file is named, or `-`
 abbrev pub paths_of : Option (List ℕ) → List (List ℕ)
 paths_of None = []
 paths_of (Some path) = cond (bytes_eq path (codes "-")) [] (path ∷ [])
+
+-- the number that a text spells
+abbrev pub number_of : Text → ℕ
+number_of text = digits_value 10 (without_leading_plus text)
+
+-- the text spells a number in the bounds
+abbrev pub IsNumberIn : ℕ → ℕ → Text → Type 0
+IsNumberIn least most text =
+    IsNumeral 10 (without_leading_plus text) × (least ≤ number_of text) × (number_of text ≤ most)
+
+-- n is the number that the text spells, and where there is none in the bounds the one that goes without saying
+abbrev pub IsNumberOr : ℕ → ℕ → ℕ → Option Text → ℕ → Type 0
+IsNumberOr least most unsaid None n = n ≡ unsaid
+IsNumberOr least most unsaid (Some text) n =
+    (IsNumberIn least most text → n ≡ number_of text)
+    × ((IsNumberIn least most text → ⊥) → n ≡ unsaid)
+
+-- whether a flag was set
+abbrev pub IsFlag : Option Text → Bool → Type 0
+IsFlag text b = (text ≡ None → b ≡ false) × (text ≡ Some (codes "false") → b ≡ false) × (text ≡ Some (codes "true") → b ≡ true)
+
+-- the request is what `clap` found: a command's name, and by the names of its arguments their texts
+abbrev pub IsRequestOf : Option (Text × List Row) → Request → Type 0
+IsRequestOf None r = ⊥
+IsRequestOf (Some (name, rows)) r =
+    IsNamed name r.command
+    × (map string_bytes r.files.items ≡ paths_of (first_of (codes "FILE") rows))
+    × IsNumberOr 0 4294967295 15000 (one_of (codes "burden") rows) r.burden
+    × IsNumberOr 1 65536 16 (one_of (codes "parts") rows) r.parts
+    × IsFlag (one_of (codes "csv") rows) r.csv

@@ -1,5 +1,9 @@
 //! The commands and their options, as `clap` is told of them. It writes the texts of help and usage.
 
+ghost use Rattle.std.specs.Prelude.{◌≡◌, ◌∷◌, [], IfOk, false, codes};
+ghost use Rattle.clap.specs.Words.{app_of, rule_of};
+ghost use Rattle.spp_command_line.specs.Spprof.{IsAt, burden_rule, csv_rule, file_rule, over_file, parts_rule, spprof};
+
 use clap::{Arg, ArgAction, Command, value_parser};
 use spp_cut::Parts;
 use std::alloc::{AllocError, Global};
@@ -33,7 +37,9 @@ fn command_over<'a>(
     name: &'a str,
     about: &'a str,
     file: &'a str,
-) -> Result<Command<'a>, AllocError> {
+) -> Result<Command<'a>, AllocError>
+    ensures { IfOk result (IsAt (over_file name.now [])) }
+{
     let file = Arg::new(alloc, "FILE").help(file);
     Command::new(alloc, name)
         .about(about)
@@ -42,7 +48,10 @@ fn command_over<'a>(
 }
 
 /// The burden of an edge where a thief may take over.
-fn burden<'a>(alloc: Global) -> Arg<'a> {
+fn burden<'a>(alloc: Global) -> Arg<'a>
+    ensures rule { rule_of result ≡ burden_rule }
+    ensures local { result.global ≡ false }
+{
     Arg::new(alloc, "burden")
         .long("burden")
         .value_name("N")
@@ -52,7 +61,10 @@ fn burden<'a>(alloc: Global) -> Arg<'a> {
 }
 
 /// Into how many parts the trace is cut.
-fn parts<'a>(alloc: Global) -> Arg<'a> {
+fn parts<'a>(alloc: Global) -> Arg<'a>
+    ensures rule { rule_of result ≡ parts_rule }
+    ensures local { result.global ≡ false }
+{
     let most = i64::from(Parts::MOST);
     Arg::new(alloc, "parts")
         .long("parts")
@@ -65,14 +77,19 @@ fn parts<'a>(alloc: Global) -> Arg<'a> {
 }
 
 /// Whether the values of the tables are asked for alone.
-fn csv<'a>(alloc: Global) -> Arg<'a> {
+fn csv<'a>(alloc: Global) -> Arg<'a>
+    ensures rule { rule_of result ≡ csv_rule }
+    ensures local { result.global ≡ false }
+{
     Arg::new(alloc, "csv")
         .long("csv")
         .action(ArgAction::SetTrue)
         .help("Print the tables alone, as comma-separated values")
 }
 
-fn check<'a>(alloc: Global) -> Result<Command<'a>, AllocError> {
+fn check<'a>(alloc: Global) -> Result<Command<'a>, AllocError>
+    ensures { IfOk result (IsAt (over_file (codes "check") [])) }
+{
     command_over(
         alloc,
         "check",
@@ -81,7 +98,9 @@ fn check<'a>(alloc: Global) -> Result<Command<'a>, AllocError> {
     )
 }
 
-fn figures<'a>(alloc: Global) -> Result<Command<'a>, AllocError> {
+fn figures<'a>(alloc: Global) -> Result<Command<'a>, AllocError>
+    ensures { IfOk result (IsAt (over_file (codes "figures") (burden_rule ∷ parts_rule ∷ []))) }
+{
     command_over(
         alloc,
         "figures",
@@ -92,7 +111,9 @@ fn figures<'a>(alloc: Global) -> Result<Command<'a>, AllocError> {
     .arg(parts(alloc))
 }
 
-fn profile<'a>(alloc: Global) -> Result<Command<'a>, AllocError> {
+fn profile<'a>(alloc: Global) -> Result<Command<'a>, AllocError>
+    ensures { IfOk result (IsAt (over_file (codes "profile") (burden_rule ∷ csv_rule ∷ []))) }
+{
     command_over(
         alloc,
         "profile",
@@ -103,7 +124,9 @@ fn profile<'a>(alloc: Global) -> Result<Command<'a>, AllocError> {
     .arg(csv(alloc))
 }
 
-fn encode<'a>(alloc: Global) -> Result<Command<'a>, AllocError> {
+fn encode<'a>(alloc: Global) -> Result<Command<'a>, AllocError>
+    ensures { IfOk result (IsAt (over_file (codes "encode") [])) }
+{
     command_over(
         alloc,
         "encode",
@@ -113,7 +136,9 @@ fn encode<'a>(alloc: Global) -> Result<Command<'a>, AllocError> {
 }
 
 /// The whole command line. It lives as long as the words that it is to read.
-pub(crate) fn command_line<'a>(alloc: Global) -> Result<Command<'a>, AllocError> {
+pub(crate) fn command_line<'a>(alloc: Global) -> Result<Command<'a>, AllocError>
+    ensures { IfOk result (λ c. app_of c ≡ spprof) }
+{
     Command::new(alloc, "spprof")
         .about(ABOUT)
         .version(VERSION)

@@ -1,8 +1,13 @@
 //! Reading the words of a command line.
-ghost use Rattle.std.specs.Prelude.{◌≡◌, IfErr, IfOk, map};
+ghost use Rattle.std.specs.Prelude.{◌≡◌, ◌∷◌, [], IfErr, IfOk, IfSome, None, map};
 ghost use Rattle.std.specs.Option.{option_map};
 ghost use Rattle.std.specs.String.{string_bytes};
-ghost use Rattle.spp_command_line.specs.Usage.{EndsByUsage, paths_of};
+ghost use Rattle.clap.specs.Words.{fault_of, kind_of, subcommand_of};
+ghost use Rattle.clap.specs.declared.error.kind.ErrorKind.TheVariants.{MissingSubcommand, OutOfMemory};
+ghost use Rattle.spp_request.specs.declared.request.UsageFault.TheVariants.{Memory};
+ghost use Rattle.spp_request.specs.declared.request.Command.{Command};
+ghost use Rattle.spp_command_line.specs.Spprof.{spprof};
+ghost use Rattle.spp_command_line.specs.Usage.{EndsBy, IsNamed, IsRequestOf, paths_of};
 
 use crate::command_line::{DEFAULT_BURDEN, command_line};
 use clap::Error;
@@ -14,7 +19,8 @@ use std::convert::AsStr;
 
 /// What the user is shown where `clap` gives no matches.
 fn shown(alloc: Global, error: Error) -> UsageFault
-    ensures { EndsByUsage result }
+    ensures ends { EndsBy (kind_of error ∷ []) result }
+    ensures memory { kind_of error ≡ OutOfMemory → result ≡ Memory }
 {
     if error.kind() == ErrorKind::OutOfMemory {
         return UsageFault::Memory;
@@ -26,7 +32,10 @@ fn shown(alloc: Global, error: Error) -> UsageFault
     }
 }
 
-fn command_of(name: &str) -> Option<Command> {
+fn command_of(name: &str) -> Option<Command>
+    ensures named { IfSome result (IsNamed name.now) }
+    ensures none { result ≡ None → (c : Command) → IsNamed name.now c → ⊥ }
+{
     match name {
         "check" => Some(Command::Check),
         "figures" => Some(Command::Figures),
@@ -38,7 +47,7 @@ fn command_of(name: &str) -> Option<Command> {
 
 /// What the user is shown where there is none of the commands. `clap` has refused such words already.
 fn no_command(alloc: Global) -> UsageFault
-    ensures { EndsByUsage result }
+    ensures { EndsBy (MissingSubcommand ∷ []) result }
 {
     match "error: no such command\n".to_string(alloc) {
         Ok(text) => UsageFault::Shown { text, status: 2 },
@@ -87,7 +96,9 @@ fn request_of(
 ///
 /// The text that the user is to be shown, or want of memory.
 pub fn read_request<S: AsStr>(alloc: Global, words: &[S]) -> Result<Request, UsageFault>
-    ensures { IfErr result EndsByUsage }
+    ensures found { IfOk result (IsRequestOf (subcommand_of spprof (map S.text words.now))) }
+    ensures good { IfOk result (λ _. fault_of spprof (map S.text words.now) ≡ []) }
+    ensures refused { IfErr result (EndsBy (fault_of spprof (map S.text words.now))) }
 {
     let matches = match command_line(alloc)?.try_get_matches_from(words) {
         Ok(matches) => matches,

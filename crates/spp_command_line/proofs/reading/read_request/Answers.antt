@@ -1,0 +1,61 @@
+use Rattle.std.proofs.Common.{◌∙◌, ap, sym, subst, refl, map, codes, List}
+use Rattle.std.specs.Str.Parse.{ExplainsUnsignedError, HasUnsignedDigitsIfOk, ParsesUnsigned}
+use Rattle.clap.specs.Walk.{Text, one_of, rows_of}
+use Rattle.clap.specs.Matches.{found_of}
+use Rattle.clap.specs.Simple.{App, is_simple, subcommand_of}
+use Rattle.clap.specs.Faults.{fault_of, is_simple_and_free}
+use Rattle.clap.proofs.WalkLemmas.{first_value-rows, one_text-rows}
+use Rattle.spp_command_line.specs.Usage.{EndsBy, IsNamed, IsNumberOr, IsRequestOf, paths_of}
+use Rattle.spp_command_line.proofs.Matches.{entered_both, command_named, shown_among, spprof_free, spprof_simple, burden_read, parts_read}
+use Rattle.spp_command_line.proofs.reading.read_request.Goals as goal
+
+pub returns-in-Err-clause-refused : goal.returns-in-Err-clause-refused
+returns-in-Err-clause-refused g c =
+    let is = c.in_ok-command_line.ensures in
+    let words : List Text = map g.S.AsStr.text c.args.words.now in
+    let known = c.in-Err.ensures.kinds (ap is_simple_and_free is ∙ spprof_free) in
+    subst (λ (a : App). EndsBy (fault_of a words) c.shown.result) is
+    (shown_among _ _ c.shown.result c.shown.ensures.ends c.shown.ensures.memory known)
+
+pub returns-in_default-command_of-clause-refused :
+    goal.returns-in_default-command_of-clause-refused
+returns-in_default-command_of-clause-refused g c =
+    let is = c.in_ok-command_line.ensures in
+    let words : List Text = map g.S.AsStr.text c.args.words.now in
+    let both = entered_both _ _ _ c.in-Some.ensures.name c.in-Some.ensures.rows in
+    let here = sym both ∙ (c.in-Ok.ensures.matches (ap is_simple is ∙ spprof_simple)).1 ∙ ap (λ (a : App). subcommand_of a words) is in
+    let command = command_named words _ _ (sym here) in
+    absurd (c.in_default-command_of.ensures.none refl command.0 command.1)
+
+pub returns-clause-found : goal.returns-clause-found
+returns-clause-found g c =
+    let is = c.in_ok-command_line.ensures in
+    let words : List Text = map g.S.AsStr.text c.args.words.now in
+    let both = entered_both _ _ _ c.in-Some.ensures.name c.in-Some.ensures.rows in
+    let here = sym both ∙ (c.in-Ok.ensures.matches (ap is_simple is ∙ spprof_simple)).1 ∙ ap (λ (a : App). subcommand_of a words) is in
+    let f = found_of c.in-Some.given.now in
+    let burden = one_text-rows f (codes "burden") in
+    let parts = one_text-rows f (codes "parts") in
+    let csv = one_text-rows f (codes "csv") in
+    let r = c.in_ok-request_of.field-0 in
+    let made = c.in_ok-request_of.ensures in
+    subst (λ o. IsRequestOf o r) here (
+      subst (IsNamed c.in-Some.name.now) (sym made.command) c.in-Some-command_of.ensures.named,
+      made.files ∙ ap paths_of (c.get_str.ensures ∙ first_value-rows f (codes "FILE")),
+      subst (IsNumberOr 0 4294967295 15000 (one_of (codes "burden") (rows_of f))) (sym (made.burden ∙ c.unwrap_or-burden.ensures))
+          (burden_read (λ bs r. ParsesUnsigned 32 10 bs r × ExplainsUnsignedError 10 bs r × HasUnsignedDigitsIfOk bs r) _ c.get_one.result (λ t x h. h.0) (λ e. c.get_one.ensures.none (burden ∙ e)) (λ t e. c.get_one.ensures.value t (burden ∙ e))),
+      subst (IsNumberOr 1 65536 16 (one_of (codes "parts") (rows_of f))) (sym made.parts)
+          (parts_read (λ bs r. ParsesUnsigned 32 10 bs r × ExplainsUnsignedError 10 bs r × HasUnsignedDigitsIfOk bs r) _ c.get_one-2.result c.and_then-parts.result c.unwrap_or_default.result (λ t x h. h.0) (λ e. c.get_one-2.ensures.none (parts ∙ e))
+          (λ t e. c.get_one-2.ensures.value t (parts ∙ e)) c.and_then-parts.ensures c.unwrap_or_default.ensures),
+      (
+        (λ e. made.csv ∙ c.get_flag.ensures.none (csv ∙ e)),
+        (λ e. made.csv ∙ c.get_flag.ensures.other (csv ∙ e)),
+        (λ e. made.csv ∙ c.get_flag.ensures.value (csv ∙ e)),
+      ),
+    )
+
+pub returns-clause-good : goal.returns-clause-good
+returns-clause-good g c =
+    let is = c.in_ok-command_line.ensures in
+    let words : List Text = map g.S.AsStr.text c.args.words.now in
+    sym (ap (λ (a : App). fault_of a words) is) ∙ c.in-Ok.ensures.kinds (ap is_simple_and_free is ∙ spprof_free)

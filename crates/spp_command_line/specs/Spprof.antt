@@ -1,0 +1,61 @@
+-- The command line of spprof as `clap` reads it: its commands, and the arguments of each.
+use Rattle.std.specs.Prelude.{◌≡◌, pos, true, false, List, [], ◌∷◌, Some, codes}
+use Rattle.clap.specs.Walk.{Rule, Text}
+use Rattle.clap.specs.declared.builder.command.Command.{Command}
+use Rattle.clap.specs.declared.builder.command.Command.TheViews.{out-Command}
+use Rattle.clap.specs.Simple.{App, Shape, app_of, new_rule, new_shape}
+use Rattle.clap.specs.declared.builder.action.ArgAction.TheVariants.{SetTrue}
+use Rattle.clap.specs.declared.builder.value_parser.ValueParser.TheVariants.{Signed}
+
+-- FILE, which may be left out
+abbrev pub file_rule : Rule
+file_rule = new_rule (codes "FILE")
+
+-- --burden N, of 32 bits
+abbrev pub burden_rule : Rule
+burden_rule = record (new_rule (codes "burden")) {
+  long = Some (codes "burden");
+  value_names = 1;
+  defaults = codes "15000" ∷ [];
+  parser = Some (Signed (pos 0) (pos 4294967295));
+}
+
+-- --parts N, 1 to 65536
+abbrev pub parts_rule : Rule
+parts_rule = record (new_rule (codes "parts")) {
+  long = Some (codes "parts");
+  value_names = 1;
+  defaults = codes "16" ∷ [];
+  parser = Some (Signed (pos 1) (pos 65536));
+}
+
+-- --csv
+abbrev pub csv_rule : Rule
+csv_rule = record (new_rule (codes "csv")) { long = Some (codes "csv"); action = Some SetTrue }
+
+-- a command over one file, with its options
+abbrev pub over_file : Text → List Rule → Shape
+over_file name options = record (new_shape name) { rules = file_rule ∷ options }
+
+abbrev pub commands : List Shape
+commands = over_file (codes "check") []
+    ∷ over_file (codes "figures") (burden_rule ∷ parts_rule ∷ [])
+    ∷ over_file (codes "profile") (burden_rule ∷ csv_rule ∷ [])
+    ∷ over_file (codes "encode") []
+    ∷ []
+
+-- the command line: --version beside --help, one of the commands is wanted, and no word `help` is one
+abbrev pub spprof : App
+spprof = record {
+  top = record (new_shape (codes "spprof")) {
+    is_leaf = false;
+    disable_help_subcommand = true;
+    has_version = true;
+    subcommand_required = true;
+  };
+  subs = commands;
+}
+
+-- a command of this shape, with no command below it and no argument that others share
+abbrev pub IsAt : Shape → Command → Type 0
+IsAt s c = (app_of c ≡ record { top = s; subs = [] }) × ((out-Command c).has_globals ≡ false)
