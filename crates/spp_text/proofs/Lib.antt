@@ -9,3 +9,6 @@ pub mod LineByLine
 pub mod LineAdds
 pub mod TextLines
 pub mod FirstFault
+pub mod NameFaults
+pub mod EventFaults
+pub mod LineFaults

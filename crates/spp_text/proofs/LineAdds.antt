@@ -21,16 +21,16 @@ pub record Adds (s : Said) (func site : Option (List ℕ)) (number : Option ℕ)
 
 -- ---- one thing more
 
-abbrev with_func : Said → List ℕ → Said
+abbrev pub with_func : Said → List ℕ → Said
 with_func s name = record { funcs = s.funcs ++ name ∷ []; sites = s.sites; root = s.root; events = s.events }
 
-abbrev with_site : Said → List ℕ → Said
+abbrev pub with_site : Said → List ℕ → Said
 with_site s name = record { funcs = s.funcs; sites = s.sites ++ name ∷ []; root = s.root; events = s.events }
 
-abbrev with_root : Said → Option ℕ → Said
+abbrev pub with_root : Said → Option ℕ → Said
 with_root s root = record { funcs = s.funcs; sites = s.sites; root = root; events = s.events }
 
-abbrev with_event : Said → Event → Said
+abbrev pub with_event : Said → Event → Said
 with_event s e = record { funcs = s.funcs; sites = s.sites; root = s.root; events = s.events ++ e ∷ [] }
 
 -- a line that says nothing

@@ -11,6 +11,7 @@ use Rattle.spp_text.specs.declared.fault.TextFault.{TextFault}
 use Rattle.spp_text.specs.Text.{text_of}
 use Rattle.spp_text.specs.Reading.{Said, nothing, read_line, read_text, opening_fault}
 use Rattle.spp_text.specs.LineKinds.{func_on, site_on, root_on, event_on}
+use Rattle.spp_text.specs.LineFaults.{IsOpeningFault, IsLineFault}
 use Rattle.spp_text.specs.Parsed.{Names}
 
 -- the text of a trace names that trace
@@ -38,3 +39,11 @@ FaultIsNext ls n s why = ((n < length ls) × (read_line s (slice_index_or ls n [
 abbrev pub FaultIsOnItsLine : Type 0
 FaultIsOnItsLine = (text : List ℕ) (fault : TextFault) → (read_text text ≡ Err fault)
     ↔ ((n : ℕ) × (s : Said) × SaysSoFar nothing (take n (lines text)) s × FaultIsNext (lines text) n s fault.why × (fault.line ≡ min (suc n) 4294967295))
+
+-- a line is refused with the fault that it has
+abbrev pub LineFaultIsTold : Type 0
+LineFaultIsTold = (s : Said) (line : List ℕ) (why : TextWhy) → (read_line s line ≡ Err why) ↔ IsLineFault s line why
+
+-- and so is the end of a text
+abbrev pub EndFaultIsTold : Type 0
+EndFaultIsTold = (s : Said) (why : TextWhy) → (opening_fault s ≡ Some why) ↔ IsOpeningFault s why

@@ -2,6 +2,7 @@ pub mod Text
 pub mod Printed
 pub mod Reading
 pub mod LineKinds
+pub mod LineFaults
 pub mod Parsed
 pub mod FaultTexts
 pub mod Steps
