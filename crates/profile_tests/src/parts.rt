@@ -155,6 +155,21 @@ fn a_frame_lives_on_in_later_parts(rt: HostRuntime) -> Result<(), Fail> {
     Ok(())
 }
 
+/// The frame of the node that is told for the beginning of part `k`.
+fn top_at(stacks: &Entries, k: usize) -> Option<EntryFrame> {
+    if k > stacks.parts() {
+        return None;
+    }
+    let number = stacks.top(k) as usize;
+    stacks.nodes().get(number).map(|node| node.frame)
+}
+
+/// The innermost frame where part `k` begins, with the number of frames but the root and the work before.
+fn innermost_at(alloc: Global, stacks: &Entries, k: usize) -> Option<(EntryFrame, u32, u128)> {
+    let (frames, depth, work) = told_at(alloc, stacks, k)?;
+    Some((*frames.first()?, depth, work))
+}
+
 #[test]
 fn stacks_share_their_frames(rt: HostRuntime) -> Result<(), Fail> {
     let alloc = rt.alloc();
@@ -162,20 +177,9 @@ fn stacks_share_their_frames(rt: HostRuntime) -> Result<(), Fail> {
         return Err(AllocError.into());
     };
     assert!(rt; stacks.nodes().len() <= 4001);
-    let Some((frames, depth, work)) = told_at(alloc, &stacks, 1500) else {
-        return Err(AllocError.into());
-    };
     let top = inner(FrameKind::Called, 999, 0, 500, false, false);
-    if stacks.parts() >= 1500 {
-        let number = stacks.top(1500) as usize;
-        assert_eq!(rt;
-            stacks.nodes().get(number).map(|node| node.frame),
-            Some(top)
-        );
-    }
-    assert_eq!(rt; frames.first(), Some(&top));
-    assert_eq!(rt; depth, 1000);
-    assert_eq!(rt; work, 500);
+    assert!(rt; top_at(&stacks, 1500) == Some(top));
+    assert!(rt; innermost_at(alloc, &stacks, 1500) == Some((top, 1000, 500)));
     Ok(())
 }
 

@@ -19,7 +19,7 @@ pub struct Choice {
     pub taken: Option<u32>,
 }
 
-/// The choices of a run: what decides which children its path enters.
+/// The choices of a run, or of a part of it: what decides which children its path enters.
 #[derive(Debug, Drop)]
 pub struct Choices {
     /// The returns of all spawned children, in order.

@@ -38,8 +38,9 @@ fn root_row(whole: &Figures) -> Row
 ///
 /// The events are read twice, once for the frames that are open where parts begin, and once for the shares. The time is
 /// linear in the number of events, and for each part in the numbers of sites and functions that are open before it or
-/// come in it, and in the greatest of these numbers. The memory is what `survey` and `entries` take, one part's table
-/// at a time, and for the choices up to 20 bytes for each spawned child, or twice that where the lists grew bit by bit.
+/// come in it, and in the greatest of these numbers. The memory is what `survey` and `entries` take, what `run_part`
+/// takes for one part at a time, the table, and for the choices up to 20 bytes for each spawned child, or twice that
+/// where the lists grew bit by bit; a list that isn't empty has room for four at least.
 ///
 /// # Errors
 ///

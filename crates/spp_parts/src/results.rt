@@ -13,7 +13,8 @@ pub struct Survey {
     pub whole: Figures,
 }
 
-/// The rows of a run by call site on its whole dag, and what settles its greatest path, by way of its parts.
+/// The rows of a run by call site on its whole dag, and the choices in its parts. Those settle the run's path together
+/// with what the root frame waits for at the end of the trace, which is in no part.
 #[derive(Drop)]
 pub struct Tabled {
     /// The rows, to which each part has added its share.

@@ -13,7 +13,7 @@ abbrev pub IsShare : List Event → ℕ → ℕ → ℕ → Sums → Type 0
 IsShare es root from end t =
     (span : ℕ → ℕ) × AreSpans es span × ((key : Option ℕ) → key_row t key ≡ share es root span everywhere key from end)
 
--- a table and choices are those of the range
+-- these rows and choices are those of the range
 pub record IsPartOf (es : List Event) (root from end : ℕ) (t : Sums) (c : Choices) : Type 0 where
   pub table : IsShare es root from end t
   pub choices : AreChoicesIn es from end c

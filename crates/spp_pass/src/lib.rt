@@ -4,8 +4,8 @@
 //! The pass doesn't know whether a bad event comes, and so keeps every sum within bounds whatever comes. An open frame
 //! takes 128 bytes and is changed where it lies. Whether an open frame has a site, or runs a function, is one mark for
 //! each (`Marks` of spp_site): so a new frame is seen to be a top frame in constant time, and the frame that set a mark
-//! takes it out. Strands add to their frame, and a return adds one row to the table. Each return of a spawned child and
-//! each place where a waiting child is taken is noted in 8 bytes.
+//! takes it out. Strands add to their frame, and a return adds one row to the table. Each return of a spawned child
+//! is noted in 8 bytes, and each place where one joins in 12.
 //!
 //! A part is read by the same machine: it begins with the innermost of the frames that are open before the part, and
 //! comes to the next one below where that returns. The strands of frames that stay open are added to their rows at the

@@ -83,7 +83,8 @@ fn mark(marks: &mut Vec<bool>, spawn: u32)
 ///
 /// Where an allocation was refused.
 pub fn settle(alloc: Global, count: u32, choices: &Choices) -> Result<Vec<bool>, AllocError>
-    ensures { IfOk result (λ marks. (es : List Event) → IsWellFormed es → length es ≡ count → AreChoices es choices.now → AreEntered es marks.items) }
+    ensures length { IfOk result (λ marks. length marks.items ≡ count) }
+    ensures entered { IfOk result (λ marks. (es : List Event) → IsWellFormed es → length es ≡ count → AreChoices es choices.now → AreEntered es marks.items) }
 {
     let mut marks = vec![in alloc; false; count as usize]?;
     let mut ends = choices.ends.len();

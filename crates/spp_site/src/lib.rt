@@ -1,4 +1,5 @@
-//! The table of rows by call site: the row of the root frame, and one for each site that was added to.
+//! The table of rows by call site: the row of the root frame, and one for each site that was added to; and the share of
+//! a part of a run in it.
 #![tactic(auto)]
 
 mod closed_frame;

@@ -9,8 +9,8 @@ use std::marker::Model;
 
 /// The share of a part of a run in the run's table: rows that wait to be added to a table ([`Table::absorb`]).
 ///
-/// It takes about 128 bytes for each site that has a row, or up to twice that, and nothing for other sites, so that as
-/// many shares as parts can be kept.
+/// It takes about 128 bytes for each site that has a row, or up to twice that, and room for four rows at least where it
+/// has any; and nothing for other sites, so that as many shares as parts can be kept.
 ///
 /// [`Table::absorb`]: crate::Table::absorb
 #[derive(Drop)]
@@ -33,7 +33,7 @@ impl Model for Share {
 
 impl Share {
     /// The share with these rows.
-    pub(crate) fn of(root: Row, rows: Vec<SiteRow>) -> Share
+    pub(crate) fn new(root: Row, rows: Vec<SiteRow>) -> Share
         ensures { result ≡ stored root rows.items }
     {
         Share { root, rows }

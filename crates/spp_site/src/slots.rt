@@ -72,7 +72,7 @@ pub(crate) fn make_room(
     ensures rows { rows.new.items ≡ rows.old.items }
 {
     if rows.len() + more.len() > u32::MAX as usize {
-        // As many rows as site numbers: more than half a terabyte.
+        // More rows than the index can tell apart, counted as if none were there already: over half a terabyte.
         return Err(AllocError);
     }
     rows.reserve(more.len())?;

@@ -18,7 +18,8 @@ use std::marker::Model;
 /// Works, spans and local counts are in instructions. A site that was never added to has the zero row.
 ///
 /// A table takes about 128 bytes for each site that was added to, and 4 bytes for each site number up to the greatest
-/// of these, or up to twice that where it grew bit by bit.
+/// of these, or up to twice that where it grew bit by bit; up to four times where shares were added to it, since room is
+/// made for all rows of a share before it is known which of them are there.
 #[derive(Drop)]
 pub struct Table {
     root: Row,
@@ -142,7 +143,7 @@ impl Table {
     ///
     /// # Errors
     ///
-    /// Where room for its rows was refused; the table then is as it was.
+    /// Where room for its rows was refused; the table then has the rows that it had.
     pub fn absorb(&mut self, share: &Share) -> Result<(), AllocError>
         requires root_fits { Fits (plus self.old.root share.now.root) }
         requires sites_fit { (s : ℕ) → Fits (plus (row_at self.old s) (row_at share.now s)) }
@@ -167,12 +168,12 @@ impl Table {
         Ok(())
     }
 
-    /// What is left of the table where no more is added to it: the same rows, in memory for these alone. It takes
+    /// The table as a share, to which nothing more is added: the same rows without the index. Spare room stays. It takes
     /// constant time.
     pub fn into_share(self) -> Share
         ensures { result ≡ self }
     {
-        Share::of(self.root, self.rows)
+        Share::new(self.root, self.rows)
     }
 
     /// A table with the same rows. It takes time linear in the size of the table.

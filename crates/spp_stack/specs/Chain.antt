@@ -85,8 +85,8 @@ abbrev pub IsTree : List Node → Type 0
 IsTree nodes = (n : ℕ) (node : Node) → slice_get nodes n ≡ Some node → IsUnder n node.below
 
 -- that node is there, if one is meant, and nodes below come before those above
-abbrev pub IsWithin : List Node → Option ℕ → Type 0
-IsWithin nodes next = IsUnder (length nodes) next × IsTree nodes
+abbrev pub IsNextNode : List Node → Option ℕ → Type 0
+IsNextNode nodes next = IsUnder (length nodes) next × IsTree nodes
 
 -- each node has its links
 abbrev pub AreLinked : List Node → Type 0

@@ -19,13 +19,13 @@ pub struct Frames<'e> {
 impl<'e> Model for Frames<'e> {
     ghost use Rattle.std.specs.Prelude.{List};
     ghost use Rattle.spp_dag.specs.declared.stack.EntryFrame.{EntryFrame};
-    ghost use Rattle.spp_stack.specs.Chain.{IsWithin, frames_from};
+    ghost use Rattle.spp_stack.specs.Chain.{IsNextNode, frames_from};
 
     ghost Value = { List EntryFrame };
 
     ghost view = { λ r. frames_from r.nodes.now r.next };
 
-    ghost invariant = { λ r. IsWithin r.nodes.now r.next };
+    ghost invariant = { λ r. IsNextNode r.nodes.now r.next };
 }
 
 impl<'e> Frames<'e> {

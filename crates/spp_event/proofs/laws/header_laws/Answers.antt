@@ -14,8 +14,8 @@ returns-clause-one_trace c = trace_is_one
 pub returns-clause-either : goal.returns-clause-either
 returns-clause-either c = trace_or_fault
 
-pub returns-clause-spelled : goal.returns-clause-spelled
-returns-clause-spelled c = trace_is_spelled
+pub returns-clause-bytes : goal.returns-clause-bytes
+returns-clause-bytes c = trace_is_spelled
 
-pub returns-clause-one_spelling : goal.returns-clause-one_spelling
-returns-clause-one_spelling c = bytes_are_one
+pub returns-clause-one_list : goal.returns-clause-one_list
+returns-clause-one_list c = bytes_are_one

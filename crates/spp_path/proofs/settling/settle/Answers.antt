@@ -79,8 +79,11 @@ loop-note-preserved c =
       settles = settles_passed c.args.count given c.loop-note.ends c.loop-note.joins c.loop-note.onward c.loop-note.marks.items c.in-Join.join i.ends i.joins next not i.settles;
     }
 
-pub returns : goal.returns
-returns c =
+pub returns-clause-length : goal.returns-clause-length
+returns-clause-length c = c.loop-note.invariant.size
+
+pub returns-clause-entered : goal.returns-clause-entered
+returns-clause-entered c =
     let i = c.loop-note.invariant in
     let given : Choices = c.args.choices.now in
     let was = c.in_default.ensures in
