@@ -4,7 +4,8 @@ use Rattle.std.specs.Str.Lines.{lines}
 use Rattle.spp_text.specs.declared.fault.TextWhy.{TextWhy}
 use Rattle.spp_text.specs.declared.fault.TextFault.{TextFault}
 use Rattle.spp_text.specs.Reading.{Said, nothing, read_line, fault_at, at_end, go_on, read_lines, opening_fault}
-use Rattle.spp_text.specs.Laws.{SaysSoFar, FaultIsNext, FaultIsOnItsLine}
+use Rattle.spp_text.specs.Parsed.{SaysSoFar}
+use Rattle.spp_text.specs.Laws.{FaultIsNext, FaultIsOnItsLine}
 
 -- reading these lines, of which the first has that number, has that fault after n of them
 abbrev FaultAfter : Said → ℕ → List (List ℕ) → TextFault → Type 0

@@ -1,5 +1,5 @@
 -- The laws of texts.
-use Rattle.std.specs.Prelude.{◌≡◌, ◌↔◌, ◌⊎◌, ℕ, suc, ◌<◌, min, List, [], ◌∷◌, length, take, map, filter_map, slice_index_or, option_to_list, Some, Ok, Err}
+use Rattle.std.specs.Prelude.{◌≡◌, ◌↔◌, ◌⊎◌, ℕ, suc, ◌<◌, min, List, [], length, take, map, filter_map, slice_index_or, option_to_list, Some, Ok, Err}
 use Rattle.std.specs.List.{AllByRecursion}
 use Rattle.std.specs.Str.Lines.{lines}
 use Rattle.spp_event.specs.declared.records.Event.{Event}
@@ -12,7 +12,7 @@ use Rattle.spp_text.specs.Text.{text_of}
 use Rattle.spp_text.specs.Reading.{Said, nothing, read_line, read_text, opening_fault}
 use Rattle.spp_text.specs.LineKinds.{func_on, site_on, root_on, event_on}
 use Rattle.spp_text.specs.LineFaults.{IsOpeningFault, IsLineFault}
-use Rattle.spp_text.specs.Parsed.{Names}
+use Rattle.spp_text.specs.Parsed.{Names, SaysSoFar}
 
 -- the text of a trace names that trace
 abbrev pub TextNamesTrace : Type 0
@@ -24,11 +24,6 @@ abbrev pub TextIsItsLines : Type 0
 TextIsItsLines = (text : List ℕ) (s : Said) → read_text text ≡ Ok s
     → (s.funcs ≡ filter_map func_on (lines text)) × (s.sites ≡ filter_map site_on (lines text))
     × (option_to_list s.root ≡ filter_map root_on (lines text)) × (s.events ≡ filter_map event_on (lines text))
-
--- where s has been said, these lines are read one after the other without a fault, and then t has been said
-abbrev pub SaysSoFar : Said → List (List ℕ) → Said → Type 0
-SaysSoFar s [] t = s ≡ t
-SaysSoFar s (l ∷ ls) t = (u : Said) × (read_line s l ≡ Ok u) × SaysSoFar u ls t
 
 -- the first n lines have said s, and the next has this fault; or there is no next, and the end has it
 abbrev pub FaultIsNext : List (List ℕ) → ℕ → Said → TextWhy → Type 0

@@ -1,5 +1,5 @@
 -- What a step of reading, and the whole of it, answers.
-use Rattle.std.specs.Prelude.{◌≡◌, ◌≢◌, ℕ, suc, ◌≤◌, List, length, map, min, unwrap_or, Result, Ok, Err}
+use Rattle.std.specs.Prelude.{◌≡◌, ◌≢◌, ℕ, suc, ◌≤◌, List, [], ◌∷◌, length, take, map, min, unwrap_or, Result, Ok, Err}
 use Rattle.std.specs.List.{flat_map}
 use Rattle.std.specs.Str.Lines.{lines}
 use Rattle.spp_event.specs.Records.{spelling}
@@ -8,7 +8,7 @@ use Rattle.spp_event.specs.Header.{IsTraceOf}
 use Rattle.spp_text.specs.declared.fault.TextWhy.{TextWhy}
 use Rattle.spp_text.specs.declared.fault.TextWhy.TheVariants.{Memory}
 use Rattle.spp_text.specs.declared.fault.TextFault.{TextFault}
-use Rattle.spp_text.specs.Reading.{Said, read_text}
+use Rattle.spp_text.specs.Reading.{Said, nothing, read_line, read_text}
 
 -- the fault is the one that was to come, or want of memory
 abbrev pub IsWhy : {T : Type 0} → TextWhy → Result T TextWhy → Type 0
@@ -37,6 +37,12 @@ IsEncoded text bytes = (s : Said) × (read_text text ≡ Ok s) × IsTraceOf byte
 abbrev pub IsTextFault : List ℕ → TextFault → Type 0
 IsTextFault text fault = fault.why ≢ Memory → read_text text ≡ Err fault
 
--- the number of a line of the text, from 1, or of the end behind the last; numbers past 32 bits are told as the greatest
-abbrev pub IsLineNumber : List ℕ → ℕ → Type 0
-IsLineNumber text number = (1 ≤ number) × (number ≤ min (suc (length (lines text))) 4294967295)
+-- where s has been said, these lines are read one after the other without a fault, and then t has been said
+abbrev pub SaysSoFar : Said → List (List ℕ) → Said → Type 0
+SaysSoFar s [] t = s ≡ t
+SaysSoFar s (l ∷ ls) t = (u : Said) × (read_line s l ≡ Ok u) × SaysSoFar u ls t
+
+-- the number of a line of the text, from 1, or of the end behind the last, up to which all lines are read without a
+-- fault; numbers past 32 bits are told as the greatest
+abbrev pub IsLineReached : List ℕ → ℕ → Type 0
+IsLineReached text number = (n : ℕ) × (s : Said) × (n ≤ length (lines text)) × SaysSoFar nothing (take n (lines text)) s × (number ≡ min (suc n) 4294967295)

@@ -1,6 +1,7 @@
 -- What a text says: each line adds to what the lines before it have said, or has a fault. The lines are std's: parted
 -- by line feeds, without the one carriage return before a line feed; what follows the last line feed is a line where it
--- isn't empty. LineKinds and Laws say the same without going from line to line.
+-- isn't empty. LineKinds and Laws say the same without going from line to line, and LineFaults without going through the
+-- checks of a line.
 use Rattle.std.specs.Prelude.{ℕ, suc, ◌+◌, ◌-◌, ◌*◌, Bool, ◌&&◌, ◌||◌, not, nat_eq, nat_lt, nat_le, if◌then◌else◌, List, [], ◌∷◌, ◌++◌, length, take, drop, filter, codes, min, Option, None, Some, is_some, unwrap_or, Result, Ok, Err}
 use Rattle.std.specs.List.{list_all, slice_split}
 use Rattle.std.specs.Str.{bytes_eq}

@@ -1,7 +1,7 @@
 //! A trace out of its text.
 
 ghost use Rattle.std.specs.Prelude.{IfOk, IfErr};
-ghost use Rattle.spp_text.specs.Parsed.{IsEncoded, IsTextFault, IsLineNumber};
+ghost use Rattle.spp_text.specs.Parsed.{IsEncoded, IsTextFault, IsLineReached};
 
 use crate::draft::Draft;
 use crate::fault::{TextFault, TextWhy};
@@ -17,11 +17,11 @@ use std::alloc::Global;
 /// # Errors
 ///
 /// The first fault of the least line that has one, in the order of the checks of [`TextWhy`]'s documentation;
-/// `Memory`, with the number of a line of the text or of its end, where a growth was refused.
+/// `Memory`, where a growth was refused, with the number of a line, or of the end, before which no line has a fault.
 pub fn parse_text(alloc: Global, text: &str) -> Result<Vec<u8>, TextFault>
     ensures found { IfOk result (λ bytes. IsEncoded text.now bytes.items) }
     ensures refused { IfErr result (λ fault. IsTextFault text.now fault) }
-    ensures line { IfErr result (λ fault. IsLineNumber text.now fault.line) }
+    ensures line { IfErr result (λ fault. IsLineReached text.now fault.line) }
 {
     let mut draft = Draft::new(alloc);
     let mut number: u32 = 1;

@@ -1,10 +1,11 @@
-use Rattle.std.proofs.Common.{◌≡◌, ◌+◌, ℕ, suc, length, drop, Err, Ok, sym, ap, ◌∙◌, arith}
+use Rattle.std.proofs.Common.{◌≡◌, ◌+◌, ℕ, suc, length, take, drop, Err, Ok, sym, ap, subst, ◌∙◌, arith}
 use Rattle.std.specs.Str.Lines.{lines}
 use Rattle.std.proofs.lemmas.List.{length_push}
 use Rattle.std.proofs.lemmas.Iterator.Consumers.{YieldsList-turn, YieldsList-end}
 use Rattle.std.proofs.lemmas.Iterator.Splits.{YieldsList-from_lines}
-use Rattle.spp_text.specs.Reading.{read_line, read_lines, go_on, at_end}
-use Rattle.spp_text.proofs.LineByLine.{why_is, one_line, last_line, line_number}
+use Rattle.spp_text.specs.Reading.{nothing, read_line, read_lines, go_on, at_end}
+use Rattle.spp_text.specs.Parsed.{SaysSoFar}
+use Rattle.spp_text.proofs.LineByLine.{why_is, one_line, last_line, so_far_more}
 use Rattle.spp_text.proofs.parse.parse_text.Goals as goal
 
 pub returns-in-Err-clause-refused : goal.returns-in-Err-clause-refused
@@ -23,7 +24,7 @@ returns-in-Err-clause-refused c =
 pub returns-in-Err-clause-line : goal.returns-in-Err-clause-line
 returns-in-Err-clause-line c =
     let t = YieldsList-turn (YieldsList-from_lines c.args.text.now cc) c.loop-line.yielded _ c.loop-line.yielded_by _ _ c.in-Some.line c.in-Some.is c.next.ensures.steps in
-    line_number c.args.text.now (length c.loop-line.yielded) c.loop-line.number (omega (arith, t.0)) c.loop-line.invariant.number
+    (length c.loop-line.yielded, c.loop-line.draft, omega (arith, t.0), c.loop-line.invariant.so_far, c.loop-line.invariant.number)
 
 pub loop-line-preserved : goal.loop-line-preserved
 loop-line-preserved c =
@@ -40,6 +41,7 @@ loop-line-preserved c =
     ∙ sym (one_line (lines text) i said (suc i) c.in-Some.line.now t.0 t.1 ∙ ap (λ (r : _). go_on (suc i) r (λ u. read_lines u (suc (suc i)) (drop (i + 1) (lines text)))) told) in
     record {
       number = omega (arith, n, c.saturating_add-number.ensures, c.loop-line.invariant.number);
+      so_far = rw n (subst (λ (m : ℕ). SaysSoFar nothing (take m (lines text)) more) (sym k) (so_far_more (lines text) i nothing said more c.in-Some.line.now t.0 t.1 c.loop-line.invariant.so_far told));
       read = rw n (step ∙ c.loop-line.invariant.read);
     }
 
@@ -58,12 +60,12 @@ returns-in-Some-opening_fault-clause-refused c =
 pub returns-in-Some-opening_fault-clause-line : goal.returns-in-Some-opening_fault-clause-line
 returns-in-Some-opening_fault-clause-line c =
     let t = YieldsList-end (YieldsList-from_lines c.args.text.now cc) c.loop-line.yielded _ c.loop-line.yielded_by _ _ c.in-None.is c.next.ensures.steps in
-    line_number c.args.text.now (length c.loop-line.yielded) c.loop-line.number (omega (arith, t.1)) c.loop-line.invariant.number
+    (length c.loop-line.yielded, c.loop-line.draft, omega (arith, t.1), c.loop-line.invariant.so_far, c.loop-line.invariant.number)
 
 pub returns-clause-line : goal.returns-clause-line
 returns-clause-line c =
     let t = YieldsList-end (YieldsList-from_lines c.args.text.now cc) c.loop-line.yielded _ c.loop-line.yielded_by _ _ c.in-None.is c.next.ensures.steps in
-    line_number c.args.text.now (length c.loop-line.yielded) c.loop-line.number (omega (arith, t.1)) c.loop-line.invariant.number
+    (length c.loop-line.yielded, c.loop-line.draft, omega (arith, t.1), c.loop-line.invariant.so_far, c.loop-line.invariant.number)
 
 pub returns-in-Ok-clause-found : goal.returns-in-Ok-clause-found
 returns-in-Ok-clause-found c =
