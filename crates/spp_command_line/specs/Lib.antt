@@ -1,2 +1,3 @@
 pub mod Spprof
 pub mod Usage
+pub mod Worked

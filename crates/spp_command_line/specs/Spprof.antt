@@ -11,7 +11,7 @@ use Rattle.clap.specs.declared.builder.value_parser.ValueParser.TheVariants.{Sig
 abbrev pub file_rule : Rule
 file_rule = new_rule (codes "FILE")
 
--- --burden N, of 32 bits
+-- --burden N, a number of 32 bits; 15000 where it isn't given
 abbrev pub burden_rule : Rule
 burden_rule = record (new_rule (codes "burden")) {
   long = Some (codes "burden");
@@ -20,7 +20,7 @@ burden_rule = record (new_rule (codes "burden")) {
   parser = Some (Signed (pos 0) (pos 4294967295));
 }
 
--- --parts N, 1 to 65536
+-- --parts N, 1 to 65536; 16 where it isn't given
 abbrev pub parts_rule : Rule
 parts_rule = record (new_rule (codes "parts")) {
   long = Some (codes "parts");
@@ -29,7 +29,7 @@ parts_rule = record (new_rule (codes "parts")) {
   parser = Some (Signed (pos 1) (pos 65536));
 }
 
--- --csv
+-- --csv, which takes no value
 abbrev pub csv_rule : Rule
 csv_rule = record (new_rule (codes "csv")) { long = Some (codes "csv"); action = Some SetTrue }
 

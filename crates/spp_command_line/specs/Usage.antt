@@ -1,4 +1,5 @@
--- What a request has of the words, and how a program ends whose words are no request.
+-- What a request has of the words, and how a program ends whose words are no request. What `clap` finds in words, and
+-- which kinds of error it has for those that it refuses, are definitions of its own.
 use Rattle.std.specs.Prelude.{◌≡◌, ℕ, Bool, true, false, List, [], ◌∷◌, Option, Some, None, cond, codes, map, ◌≤◌}
 use Rattle.std.specs.Str.{bytes_eq}
 use Rattle.std.specs.Str.Parse.{IsNumeral, digits_value, without_leading_plus}
@@ -45,18 +46,19 @@ abbrev pub IsNumberIn : ℕ → ℕ → Text → Type 0
 IsNumberIn least most text =
     IsNumeral 10 (without_leading_plus text) × (least ≤ number_of text) × (number_of text ≤ most)
 
--- n is the number that the text spells, and where there is none in the bounds the one that goes without saying
+-- n is the number that the text spells; where there is no text, or it spells none in the bounds, n is the fallback
 abbrev pub IsNumberOr : ℕ → ℕ → ℕ → Option Text → ℕ → Type 0
-IsNumberOr least most unsaid None n = n ≡ unsaid
-IsNumberOr least most unsaid (Some text) n =
+IsNumberOr least most fallback None n = n ≡ fallback
+IsNumberOr least most fallback (Some text) n =
     (IsNumberIn least most text → n ≡ number_of text)
-    × ((IsNumberIn least most text → ⊥) → n ≡ unsaid)
+    × ((IsNumberIn least most text → ⊥) → n ≡ fallback)
 
--- whether a flag was set
+-- whether a flag was set, by the text that `clap` holds for it
 abbrev pub IsFlag : Option Text → Bool → Type 0
 IsFlag text b = (text ≡ None → b ≡ false) × (text ≡ Some (codes "false") → b ≡ false) × (text ≡ Some (codes "true") → b ≡ true)
 
--- the request is what `clap` found: a command's name, and by the names of its arguments their texts
+-- the request is what `clap` found: a command's name, and the texts of its arguments; an argument that the command hasn't
+-- got, as --parts has none at `check`, has no text
 abbrev pub IsRequestOf : Option (Text × List Row) → Request → Type 0
 IsRequestOf None r = ⊥
 IsRequestOf (Some (name, rows)) r =

@@ -3,5 +3,7 @@
 
 mod command_line;
 mod reading;
+mod worked;
 
 pub use reading::read_request;
+pub use worked::worked_words;

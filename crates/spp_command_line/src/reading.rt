@@ -45,7 +45,8 @@ fn command_of(name: &str) -> Option<Command>
     }
 }
 
-/// What the user is shown where there is none of the commands. `clap` has refused such words already.
+/// What the user is shown where there is none of the commands. `clap` has refused such words already, as the proof of
+/// `read_request` shows.
 fn no_command(alloc: Global) -> UsageFault
     ensures { EndsBy (MissingSubcommand ∷ []) result }
 {
@@ -89,8 +90,11 @@ fn request_of(
     })
 }
 
-/// Reads a request from the words of a command line, of which the first is the program's name. The texts of help
-/// and usage are those of `clap`, and which words give which request is shown by tests alone.
+/// Reads a request from the words of a command line, of which the first is the program's name. A request is what `clap`
+/// finds in the words, which are then without fault; a text is shown where they have a fault, and with its status. Both
+/// are by `clap`'s definitions, for the command line `spprof` of specs; `worked_words` has some words worked by hand.
+///
+/// The texts of help and usage are those of `clap`: which text is shown isn't said, and tests compare them.
 ///
 /// # Errors
 ///
