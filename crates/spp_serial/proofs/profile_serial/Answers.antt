@@ -12,7 +12,7 @@ pub path_table-requires-clause-marks : goal.path_table-requires-clause-marks
 path_table-requires-clause-marks c = λ es are.
     let formed : IsWellFormed es = subst (λ (rs : List Record). nesting.IsWellFormed rs) are c.in_ok-pass.ensures.dag.0 in
     let same : length es ≡ c.count.result = sym (length-map es (λ e. Ok e)) ∙ sym (ap (λ (rs : List Record). length rs) are) ∙ sym c.count.ensures.count in
-    subst (AreEntered es) (sym c.deref.ensures.value) (c.in_ok-entered.ensures es formed same (c.in_ok-pass.ensures.choices es are))
+    subst (AreEntered es) (sym c.deref.ensures.value) (c.in_ok-entered.ensures.entered es formed same (c.in_ok-pass.ensures.choices es are))
 
 pub returns-clause-profile : goal.returns-clause-profile
 returns-clause-profile c =
