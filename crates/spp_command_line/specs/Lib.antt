@@ -1,3 +1,3 @@
+pub mod Laws
 pub mod Spprof
 pub mod Usage
-pub mod Worked

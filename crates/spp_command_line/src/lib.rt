@@ -2,8 +2,8 @@
 #![tactic(auto)]
 
 mod command_line;
+mod laws;
 mod reading;
-mod worked;
 
+pub use laws::word_laws;
 pub use reading::read_request;
-pub use worked::worked_words;

@@ -92,7 +92,7 @@ fn request_of(
 
 /// Reads a request from the words of a command line, of which the first is the program's name. A request is what `clap`
 /// finds in the words, which are then without fault; a text is shown where they have a fault, and with its status. Both
-/// are by `clap`'s definitions, for the command line `spprof` of specs; `worked_words` has some words worked by hand.
+/// are by `clap`'s definitions, for the command line `spprof` of specs; `word_laws` says what they make of some words.
 ///
 /// The texts of help and usage are those of `clap`: which text is shown isn't said, and tests compare them.
 ///

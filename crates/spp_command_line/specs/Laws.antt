@@ -1,5 +1,5 @@
--- What some words ask for, worked by hand. The program's name stands before them.
-use Rattle.std.specs.Prelude.{◌≡◌, ℕ, Bool, true, false, List, [], ◌∷◌, codes, map}
+-- What words ask for. The program's name stands before them.
+use Rattle.std.specs.Prelude.{◌≡◌, ◌==◌, ℕ, Bool, true, false, List, [], ◌∷◌, codes, map}
 use Rattle.std.specs.String.{string_bytes}
 use Rattle.clap.specs.Walk.{Text}
 use Rattle.clap.specs.Simple.{subcommand_of}
@@ -19,12 +19,33 @@ Ask words command files burden parts csv =
     × ((r : Request) → IsRequestOf (subcommand_of spprof (codes "spprof" ∷ words)) r
     → (r.command ≡ command) × (map string_bytes r.files.items ≡ files) × (r.burden ≡ burden) × (r.parts ≡ parts) × (r.csv ≡ csv))
 
--- the words have a fault of this kind
+-- the words have just this fault
 abbrev pub Fail : List Text → ErrorKind → Type 0
 Fail words kind = fault_of spprof (codes "spprof" ∷ words) ≡ kind ∷ []
 
-abbrev pub CheckOfAFile : Type 0
-CheckOfAFile = Ask (codes "check" ∷ codes "a" ∷ []) Check (codes "a" ∷ []) 15000 16 false
+abbrev pub name_of : Command → Text
+name_of Check = codes "check"
+name_of Figures = codes "figures"
+name_of Profile = codes "profile"
+name_of Encode = codes "encode"
+
+-- a command alone asks for itself, over standard input, with the defaults
+abbrev pub CommandAlone : Type 0
+CommandAlone = (command : Command) → Ask (name_of command ∷ []) command [] 15000 16 false
+
+-- and so with `-`
+abbrev pub Dash : Type 0
+Dash = (command : Command) → Ask (name_of command ∷ codes "-" ∷ []) command [] 15000 16 false
+
+-- one word more, if it doesn't begin with `-` (45), is the file
+abbrev pub OneWord : Type 0
+OneWord = (command : Command) (first : ℕ) (rest : Text) → (first == 45) ≡ false
+    → Ask (name_of command ∷ (first ∷ rest) ∷ []) command ((first ∷ rest) ∷ []) 15000 16 false
+
+-- a second such word is a fault
+abbrev pub TwoWords : Type 0
+TwoWords = (command : Command) (first second : ℕ) (rest more : Text) → (first == 45) ≡ false → (second == 45) ≡ false
+    → Fail (name_of command ∷ (first ∷ rest) ∷ (second ∷ more) ∷ []) UnknownArgument
 
 abbrev pub FiguresInParts : Type 0
 FiguresInParts =
@@ -33,20 +54,14 @@ FiguresInParts =
 abbrev pub ProfileAsCsv : Type 0
 ProfileAsCsv = Ask (codes "profile" ∷ codes "--csv" ∷ codes "-" ∷ []) Profile [] 15000 16 true
 
-abbrev pub EncodeOfInput : Type 0
-EncodeOfInput = Ask (codes "encode" ∷ []) Encode [] 15000 16 false
-
 abbrev pub NoCommand : Type 0
 NoCommand = Fail [] MissingSubcommand
 
 abbrev pub Help : Type 0
-Help = Fail (codes "figures" ∷ codes "--help" ∷ []) DisplayHelp
+Help = Fail (codes "--help" ∷ []) DisplayHelp × ((command : Command) → Fail (name_of command ∷ codes "--help" ∷ []) DisplayHelp)
 
 abbrev pub Version : Type 0
 Version = Fail (codes "--version" ∷ []) DisplayVersion
 
 abbrev pub NoParts : Type 0
 NoParts = Fail (codes "figures" ∷ codes "--parts" ∷ codes "0" ∷ []) ValueValidation
-
-abbrev pub TwoFiles : Type 0
-TwoFiles = Fail (codes "check" ∷ codes "a" ∷ codes "b" ∷ []) UnknownArgument

@@ -1,0 +1,203 @@
+use Rattle.std.proofs.Common.{◌≡◌, ◌∙◌, ◌==◌, refl, arith, subst, ℕ, true, false, List, [], ◌∷◌, Some, None, codes, ap}
+use Rattle.std.specs.Str.{bytes_eq}
+use Rattle.clap.specs.Walk.{Row, Text}
+use Rattle.clap.specs.Simple.{subcommand_of}
+use Rattle.clap.specs.declared.parser.matches.ValueSource.TheVariants.{CommandLine, DefaultValue}
+use Rattle.clap.specs.declared.builder.value_parser.Reading.{Reading}
+use Rattle.clap.specs.declared.builder.value_parser.Reading.TheVariants.{AsWritten, WithoutMinus}
+use Rattle.spp_command_line.specs.Spprof.{spprof}
+use Rattle.spp_command_line.specs.Laws.{Ask, CommandAlone, Dash, Fail, Help, OneWord, TwoWords, name_of}
+use Rattle.clap.proofs.OnLiterals.{clap_on_literals}
+use Rattle.spp_request.specs.declared.request.Command.{Command}
+use Rattle.spp_request.specs.declared.request.Command.TheVariants.{Check, Figures, Profile, Encode}
+use Rattle.spp_command_line.specs.Usage.{IsRequestOf, paths_of, IsNamed, IsNumberIn}
+use Rattle.clap.specs.declared.error.kind.ErrorKind.TheVariants.{DisplayHelp}
+use Rattle.spp_command_line.proofs.laws.word_laws.Goals as goal
+
+-- a name is one command's
+is_check : (c : Command) → IsNamed (codes "check") c → c ≡ Check
+is_check Check e = refl
+is_check Figures e =
+    let bad : true ≡ false = ap (λ (t : Text). bytes_eq t (codes "check")) e in
+    cc
+is_check Profile e =
+    let bad : true ≡ false = ap (λ (t : Text). bytes_eq t (codes "check")) e in
+    cc
+is_check Encode e =
+    let bad : true ≡ false = ap (λ (t : Text). bytes_eq t (codes "check")) e in
+    cc
+
+is_figures : (c : Command) → IsNamed (codes "figures") c → c ≡ Figures
+is_figures Check e =
+    let bad : true ≡ false = ap (λ (t : Text). bytes_eq t (codes "figures")) e in
+    cc
+is_figures Figures e = refl
+is_figures Profile e =
+    let bad : true ≡ false = ap (λ (t : Text). bytes_eq t (codes "figures")) e in
+    cc
+is_figures Encode e =
+    let bad : true ≡ false = ap (λ (t : Text). bytes_eq t (codes "figures")) e in
+    cc
+
+is_profile : (c : Command) → IsNamed (codes "profile") c → c ≡ Profile
+is_profile Check e =
+    let bad : true ≡ false = ap (λ (t : Text). bytes_eq t (codes "profile")) e in
+    cc
+is_profile Figures e =
+    let bad : true ≡ false = ap (λ (t : Text). bytes_eq t (codes "profile")) e in
+    cc
+is_profile Profile e = refl
+is_profile Encode e =
+    let bad : true ≡ false = ap (λ (t : Text). bytes_eq t (codes "profile")) e in
+    cc
+
+is_encode : (c : Command) → IsNamed (codes "encode") c → c ≡ Encode
+is_encode Check e =
+    let bad : true ≡ false = ap (λ (t : Text). bytes_eq t (codes "encode")) e in
+    cc
+is_encode Figures e =
+    let bad : true ≡ false = ap (λ (t : Text). bytes_eq t (codes "encode")) e in
+    cc
+is_encode Profile e =
+    let bad : true ≡ false = ap (λ (t : Text). bytes_eq t (codes "encode")) e in
+    cc
+is_encode Encode e = refl
+
+burden_7 : IsNumberIn 0 4294967295 (codes "7")
+burden_7 = ((omega arith, (omega arith, tt)), omega arith, omega arith)
+
+parts_4 : IsNumberIn 1 65536 (codes "4")
+parts_4 = ((omega arith, (omega arith, tt)), omega arith, omega arith)
+
+parts_unsaid : IsNumberIn 1 65536 (codes "16")
+parts_unsaid = ((omega arith, (omega arith, (omega arith, tt))), omega arith, omega arith)
+
+burden_unsaid : IsNumberIn 0 4294967295 (codes "15000")
+burden_unsaid = ((omega arith, (omega arith, (omega arith, (omega arith, (omega arith, (omega arith, tt)))))), omega arith, omega arith)
+
+pub returns-clause-figures_in_parts : goal.returns-clause-figures_in_parts
+unfolding clap_on_literals
+returns-clause-figures_in_parts c = (refl, (λ r h. (is_figures r.command h.0, h.1, h.2.0 burden_7, h.3.0 parts_4, h.4.0 refl)))
+
+pub returns-clause-profile_as_csv : goal.returns-clause-profile_as_csv
+unfolding clap_on_literals
+returns-clause-profile_as_csv c = (refl, (λ r h. (is_profile r.command h.0, h.1, h.2.0 burden_unsaid, h.3, h.4.2 refl)))
+
+pub returns-clause-no_command : goal.returns-clause-no_command
+unfolding clap_on_literals
+returns-clause-no_command c = refl
+
+pub returns-clause-version : goal.returns-clause-version
+unfolding clap_on_literals
+returns-clause-version c = refl
+
+pub returns-clause-no_parts : goal.returns-clause-no_parts
+unfolding clap_on_literals
+returns-clause-no_parts c = refl
+
+-- what `clap` holds for words of the command line, and for defaults
+unfoldable given : Text → List Text → Row
+given id values = record { id = id; values = values; count = None; source = Some CommandLine; reading = AsWritten }
+
+unfoldable unsaid : Text → Text → Reading → Row
+unsaid id value how = record { id = id; values = value ∷ []; count = None; source = Some DefaultValue; reading = how }
+
+one_check : (x : ℕ) (rest : Text) → (x == 45) ≡ false → Ask (codes "check" ∷ (x ∷ rest) ∷ []) Check ((x ∷ rest) ∷ []) 15000 16 false
+unfolding clap_on_literals given unsaid
+one_check x rest plain =
+    let rows : List Row = given (codes "FILE") ((x ∷ rest) ∷ []) ∷ [] in
+    let found : subcommand_of spprof (codes "spprof" ∷ codes "check" ∷ (x ∷ rest) ∷ []) ≡ Some (codes "check", rows) = simp plain in
+    let path : paths_of (Some (x ∷ rest)) ≡ (x ∷ rest) ∷ [] = simp plain in (
+      simp plain,
+      (λ r h.
+          let q : IsRequestOf (Some (codes "check", rows)) r = subst (λ o. IsRequestOf o r) found h in
+          (is_check r.command q.0, q.1 ∙ path, q.2, q.3, q.4.0 refl)),
+    )
+
+one_figures : (x : ℕ) (rest : Text) → (x == 45) ≡ false → Ask (codes "figures" ∷ (x ∷ rest) ∷ []) Figures ((x ∷ rest) ∷ []) 15000 16 false
+unfolding clap_on_literals given unsaid
+one_figures x rest plain =
+    let rows : List Row = given (codes "FILE") ((x ∷ rest) ∷ []) ∷ unsaid (codes "burden") (codes "15000") WithoutMinus ∷ unsaid (codes "parts") (codes "16") WithoutMinus ∷ [] in
+    let found : subcommand_of spprof (codes "spprof" ∷ codes "figures" ∷ (x ∷ rest) ∷ []) ≡ Some (codes "figures", rows) = simp plain in
+    let path : paths_of (Some (x ∷ rest)) ≡ (x ∷ rest) ∷ [] = simp plain in (
+      simp plain,
+      (λ r h.
+          let q : IsRequestOf (Some (codes "figures", rows)) r = subst (λ o. IsRequestOf o r) found h in
+          (is_figures r.command q.0, q.1 ∙ path, q.2.0 burden_unsaid, q.3.0 parts_unsaid, q.4.0 refl)),
+    )
+
+one_profile : (x : ℕ) (rest : Text) → (x == 45) ≡ false → Ask (codes "profile" ∷ (x ∷ rest) ∷ []) Profile ((x ∷ rest) ∷ []) 15000 16 false
+unfolding clap_on_literals given unsaid
+one_profile x rest plain =
+    let rows : List Row = given (codes "FILE") ((x ∷ rest) ∷ []) ∷ unsaid (codes "burden") (codes "15000") WithoutMinus ∷ unsaid (codes "csv") (codes "false") AsWritten ∷ [] in
+    let found : subcommand_of spprof (codes "spprof" ∷ codes "profile" ∷ (x ∷ rest) ∷ []) ≡ Some (codes "profile", rows) = simp plain in
+    let path : paths_of (Some (x ∷ rest)) ≡ (x ∷ rest) ∷ [] = simp plain in (
+      simp plain,
+      (λ r h.
+          let q : IsRequestOf (Some (codes "profile", rows)) r = subst (λ o. IsRequestOf o r) found h in
+          (is_profile r.command q.0, q.1 ∙ path, q.2.0 burden_unsaid, q.3, q.4.1 refl)),
+    )
+
+one_encode : (x : ℕ) (rest : Text) → (x == 45) ≡ false → Ask (codes "encode" ∷ (x ∷ rest) ∷ []) Encode ((x ∷ rest) ∷ []) 15000 16 false
+unfolding clap_on_literals given unsaid
+one_encode x rest plain =
+    let rows : List Row = given (codes "FILE") ((x ∷ rest) ∷ []) ∷ [] in
+    let found : subcommand_of spprof (codes "spprof" ∷ codes "encode" ∷ (x ∷ rest) ∷ []) ≡ Some (codes "encode", rows) = simp plain in
+    let path : paths_of (Some (x ∷ rest)) ≡ (x ∷ rest) ∷ [] = simp plain in (
+      simp plain,
+      (λ r h.
+          let q : IsRequestOf (Some (codes "encode", rows)) r = subst (λ o. IsRequestOf o r) found h in
+          (is_encode r.command q.0, q.1 ∙ path, q.2, q.3, q.4.0 refl)),
+    )
+
+pub returns-clause-one_word : goal.returns-clause-one_word
+returns-clause-one_word c = one
+  where
+    one : OneWord
+    one Check x rest plain = one_check x rest plain
+    one Figures x rest plain = one_figures x rest plain
+    one Profile x rest plain = one_profile x rest plain
+    one Encode x rest plain = one_encode x rest plain
+
+two_words : TwoWords
+unfolding clap_on_literals
+two_words Check x y rest more plain plain2 = simp (plain, plain2)
+two_words Figures x y rest more plain plain2 = simp (plain, plain2)
+two_words Profile x y rest more plain plain2 = simp (plain, plain2)
+two_words Encode x y rest more plain plain2 = simp (plain, plain2)
+
+pub returns-clause-two_words : goal.returns-clause-two_words
+returns-clause-two_words c = two_words
+
+alone : CommandAlone
+unfolding clap_on_literals
+alone Check = (refl, (λ r h. (is_check r.command h.0, h.1, h.2, h.3, h.4.0 refl)))
+alone Figures = (refl, (λ r h. (is_figures r.command h.0, h.1, h.2.0 burden_unsaid, h.3.0 parts_unsaid, h.4.0 refl)))
+alone Profile = (refl, (λ r h. (is_profile r.command h.0, h.1, h.2.0 burden_unsaid, h.3, h.4.1 refl)))
+alone Encode = (refl, (λ r h. (is_encode r.command h.0, h.1, h.2, h.3, h.4.0 refl)))
+
+pub returns-clause-command_alone : goal.returns-clause-command_alone
+returns-clause-command_alone c = alone
+
+dash : Dash
+unfolding clap_on_literals
+dash Check = (refl, (λ r h. (is_check r.command h.0, h.1, h.2, h.3, h.4.0 refl)))
+dash Figures = (refl, (λ r h. (is_figures r.command h.0, h.1, h.2.0 burden_unsaid, h.3.0 parts_unsaid, h.4.0 refl)))
+dash Profile = (refl, (λ r h. (is_profile r.command h.0, h.1, h.2.0 burden_unsaid, h.3, h.4.1 refl)))
+dash Encode = (refl, (λ r h. (is_encode r.command h.0, h.1, h.2, h.3, h.4.0 refl)))
+
+pub returns-clause-dash : goal.returns-clause-dash
+returns-clause-dash c = dash
+
+help : Help
+unfolding clap_on_literals
+help = (refl, of)
+  where
+    of : (command : Command) → Fail (name_of command ∷ codes "--help" ∷ []) DisplayHelp
+    of Check = refl
+    of Figures = refl
+    of Profile = refl
+    of Encode = refl
+
+pub returns-clause-help : goal.returns-clause-help
+returns-clause-help c = help

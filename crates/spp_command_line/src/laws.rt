@@ -1,0 +1,17 @@
+//! What words of a command line ask for.
+ghost use Rattle.spp_command_line.specs.Laws.{CommandAlone, Dash, FiguresInParts, Help, NoCommand, NoParts, OneWord, ProfileAsCsv, TwoWords, Version};
+
+/// What the definitions say of words: of some shapes of words, and of lists of words worked by hand. Its contract is what
+/// it is for.
+pub fn word_laws()
+    ensures command_alone { CommandAlone }
+    ensures dash { Dash }
+    ensures one_word { OneWord }
+    ensures figures_in_parts { FiguresInParts }
+    ensures profile_as_csv { ProfileAsCsv }
+    ensures no_command { NoCommand }
+    ensures help { Help }
+    ensures version { Version }
+    ensures no_parts { NoParts }
+    ensures two_words { TwoWords }
+{}
