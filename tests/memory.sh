@@ -4,11 +4,11 @@
 # The probe calls the functions that allocate and that commands stand on, each twice: one answer at most becomes
 # `Memory`, and no other changes. The table by way of parts, for which there is no command, is the right one or there is
 # none.
-# usage: tests/memory.sh SPPROF PROBE PARTS_PRINTER
+# usage: tests/memory.sh SPPROF PROBE TEST_PRINTER
 set -u
 spprof=$1
 probe=$2
-parts_printer=$3
+printer=$3
 tests=$(cd "$(dirname "${BASH_SOURCE[0]}")" && pwd)
 folder=$(mktemp -d)
 trap 'rm -rf "$folder"' EXIT
@@ -91,10 +91,10 @@ each_refused() { # NAME STATUS OUT ERR INPUT WORDS..: what the program ends with
 
 parts_refused() { # NAME INPUT PARTS: the table by so many parts
     local name=$1 input=$2 at=1 told=0 status
-    run 0 "$input" "$parts_printer" "$3" || { fails "$name, nothing refused"; return; }
+    run 0 "$input" "$printer" parts "$3" || { fails "$name, nothing refused"; return; }
     cp "$folder/out" "$folder/wanted.out"
     while true; do
-        run $at "$input" "$parts_printer" "$3"
+        run $at "$input" "$printer" parts "$3"
         status=$?
         if [ $status -eq 1 ] && [ ! -s "$folder/out" ]; then
             told=$((told + 1))

@@ -1,10 +1,9 @@
 #!/usr/bin/env bash
 # Runs the built program over files, pipes and devices: its answers, its lines of fault and its statuses.
-# usage: tests/program.sh SPPROF TEXT_PRINTER PARTS_PRINTER
+# usage: tests/program.sh SPPROF TEST_PRINTER
 set -u
 spprof=$(readlink -f "$1")
 printer=$(readlink -f "$2")
-parts_printer=$(readlink -f "$3")
 top=$(cd "$(dirname "${BASH_SOURCE[0]}")/.." && pwd)
 folder=$(mktemp -d)
 trap 'rm -rf "$folder"' EXIT
@@ -75,7 +74,7 @@ done
 for trace in cilksort fib nqueens; do
     tail -n +2 "$top/examples/$trace.csv" | cut -d , -f 1-9 > "$folder/rows"
     for parts in 1 7 100 65536; do
-        "$parts_printer" $parts < "$top/examples/$trace.sptrace" > "$folder/out" 2> "$folder/err"
+        "$printer" parts $parts < "$top/examples/$trace.sptrace" > "$folder/out" 2> "$folder/err"
         status=$?
         cmp -s "$folder/out" "$folder/rows" || status=125
         : > "$folder/out"
@@ -161,7 +160,7 @@ timeout 30 "$spprof" profile --csv "$folder/wide" > "$folder/out" 2> "$folder/er
 status=$?
 judge 'tables of a million children' 0 "name,*${lf}(root),1,0,1,5000000,5,1,5000000,5,1,0,1,5000000,5,1,5000000,5${lf}A,1000000,5000000,1000000,5000000,5000000,1000000,5000000,5000000,1,5,1,5,5,1,5,5$lf" ''
 # By way of 65,536 parts too, without a list of all open frames for each.
-(ulimit -v 500000 && timeout 30 "$parts_printer" 65536 < "$folder/nested" > "$folder/out" 2> "$folder/err")
+(ulimit -v 500000 && timeout 30 "$printer" parts 65536 < "$folder/nested" > "$folder/out" 2> "$folder/err")
 status=$?
 judge 'rows of a million nested calls in parts' 0 "(root),1,0,1,5,5,1,5,5${lf}A,1000000,5,1,5,5,1,5,5$lf" 'survey *'
 # The same frames left open, in a trace that ends within them, end as a bad event.
@@ -188,15 +187,15 @@ gives() { # NAME FILE WORDS..: with the input `input`, the program writes just t
     judge "$name" 0 '' ''
 }
 for trace in small fib nqueens cilksort; do
-    "$printer" < "$top/examples/$trace.sptrace" > "$folder/input"
+    "$printer" text < "$top/examples/$trace.sptrace" > "$folder/input"
     gives "the text of $trace brings its bytes back" "$top/examples/$trace.sptrace" "$spprof" encode
 done
-cp "$top/crates/text_printer/stdout" "$folder/input"
+cp "$top/tests/small.printed.txt" "$folder/input"
 gives 'the text of the small trace' "$small" "$spprof" encode
 cp "$top/examples/small.txt" "$folder/input"
 gives 'a text typed by hand' "$small" "$spprof" encode
 gives 'a text by name' "$small" "$spprof" encode "$top/examples/small.txt"
-sed 's/^strand 1$/strand 1x/' "$top/crates/text_printer/stdout" > "$folder/text"
+sed 's/^strand 1$/strand 1x/' "$top/tests/small.printed.txt" > "$folder/text"
 expect 'a text with a bad number' 1 '' "bad text line 5: number$lf" "$folder/text" encode
 expect 'a bad text by name' 1 '' "bad text line 5: number$lf" /dev/null encode "$folder/text"
 expect 'no text' 1 '' "bad text line 1: no function$lf" /dev/null encode

@@ -1,25 +1,15 @@
-//! Prints the rows of the trace on standard input on its whole dag, as the shares of its parts make them: for the test
-//! that each number of even parts, which is the only word, gives another program's rows. How long the two rounds took
-//! is told on standard error.
-#![tactic(auto)]
+//! The rows of a trace on its whole dag, as the shares of its parts make them: for the test that each number of even
+//! parts gives another program's rows. How long the two rounds took is told on standard error.
 
 use spp_cut::{Parts, cut_even};
 use spp_dag::Row;
 use spp_event::{Trace, open_trace};
 use spp_maxplus::Burdens;
 use spp_parts::{Tabled, survey, table_in_parts};
-use spp_shell::{InSource, read_all};
 use std::alloc::Global;
-use std::process::ExitCode;
-use std::rt::{Clock, Env};
+use std::io;
+use std::rt::Clock;
 use std::time::Instant;
-use std::{env, io};
-
-/// The number that the only word names.
-fn number<R: Env + AllocGlobal>(rt: &R) -> Option<u32> {
-    let word = env::args(rt).ok()?.nth(1)?;
-    word.parse::<u32>().ok()
-}
 
 /// What the two rounds come to, with the milliseconds of the first alone and of both.
 #[derive(Drop)]
@@ -66,24 +56,23 @@ fn print_rows(rt: &impl Print, trace: &Trace<'_>, told: &Tabled) -> io::Result<(
     Ok(())
 }
 
-fn main(rt: HostRuntime) -> io::Result<ExitCode> {
-    let alloc = rt.alloc();
-    let Some(parts) = number(&rt) else {
-        return Ok(ExitCode::FAILURE);
+/// Prints the rows of the trace by so many parts. Whether there are any.
+pub(crate) fn print<R: Clock + Print + Eprint>(
+    rt: &R,
+    alloc: Global,
+    bytes: &[u8],
+    parts: u32,
+) -> io::Result<bool> {
+    let Ok(trace) = open_trace(alloc, bytes) else {
+        return Ok(false);
     };
-    let Ok(bytes) = read_all(alloc, &mut InSource::new(rt.reader())) else {
-        return Ok(ExitCode::FAILURE);
-    };
-    let Ok(trace) = open_trace(alloc, bytes.as_slice()) else {
-        return Ok(ExitCode::FAILURE);
-    };
-    let Some(timed) = measured(&rt, alloc, &trace, parts) else {
-        return Ok(ExitCode::FAILURE);
+    let Some(timed) = measured(rt, alloc, &trace, parts) else {
+        return Ok(false);
     };
     eprintln!(rt;
         "survey {} ms, survey and table {} ms",
         timed.first, timed.both
     )?;
-    print_rows(&rt, &trace, &timed.told)?;
-    Ok(ExitCode::SUCCESS)
+    print_rows(rt, &trace, &timed.told)?;
+    Ok(true)
 }

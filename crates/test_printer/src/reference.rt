@@ -1,8 +1,6 @@
-//! Prints what the reference profiler answers for each of the traces on standard input. They stand there as text, each
-//! ended by a line `---`. For the test that it gives the numbers of another program, which was written from the
-//! definitions alone in another language. Where the profiler on one thread says anything else, or the table by way of
-//! parts of one event, that is told.
-#![tactic(auto)]
+//! What the reference profiler answers for each of many traces, which stand as text, each ended by a line `---`. For the
+//! test that it gives the numbers of another program, which was written from the definitions alone in another language.
+//! Where the profiler on one thread says anything else, or the table by way of parts of one event, that is told.
 
 use spp_cut::{Parts, cut_even};
 use spp_dag::{Figures, Row};
@@ -11,11 +9,9 @@ use spp_maxplus::Burdens;
 use spp_parts::table_in_parts;
 use spp_reference::{Reference, SiteRows, profile};
 use spp_serial::profile_serial;
-use spp_shell::{InSource, read_all};
 use spp_text::parse_text;
 use std::alloc::Global;
 use std::io;
-use std::process::ExitCode;
 
 /// The burden of the first burdened span, on edges of both kinds.
 const BURDEN: u32 = 3;
@@ -116,13 +112,10 @@ fn print_profile(rt: &impl Print, one: &Reference, other: &Reference) -> io::Res
     print_table(rt, "path", &one.path_rows)
 }
 
-fn main(rt: HostRuntime) -> io::Result<ExitCode> {
-    let alloc = rt.alloc();
-    let Ok(bytes) = read_all(alloc, &mut InSource::new(rt.reader())) else {
-        return Ok(ExitCode::FAILURE);
-    };
-    let Ok(mut rest) = str::from_utf8(bytes.as_slice()) else {
-        return Ok(ExitCode::FAILURE);
+/// Prints the answers for the traces of which that is the text. Whether it is text.
+pub(crate) fn print(rt: &impl Print, alloc: Global, bytes: &[u8]) -> io::Result<bool> {
+    let Ok(mut rest) = str::from_utf8(bytes) else {
+        return Ok(false);
     };
     for number in 0..bytes.len() {
         let Some((text, others)) = rest.split_once("---\n") else {
@@ -130,20 +123,25 @@ fn main(rt: HostRuntime) -> io::Result<ExitCode> {
         };
         rest = others;
         println!(rt; "trace {number}")?;
-        let one = profiled(alloc, text, Burdens::equal(BURDEN));
-        let other = profiled(alloc, text, BURDENS);
-        match (one, other) {
-            (Some(one), Some(other)) => {
-                print_profile(&rt, &one, &other)?;
-                if is_confirmed(alloc, text, &one, BURDEN) != Some(true) {
-                    println!(rt; "the profiler on one thread differs")?;
-                }
-                if is_confirmed_by_parts(alloc, text, &one) != Some(true) {
-                    println!(rt; "the parts of one event differ")?;
-                }
-            }
-            _ => println!(rt; "no profile")?,
-        }
+        print_answers(rt, alloc, text)?;
     }
-    Ok(ExitCode::SUCCESS)
+    Ok(true)
+}
+
+/// Prints the answers for the trace that the text names.
+fn print_answers(rt: &impl Print, alloc: Global, text: &str) -> io::Result<()> {
+    let (Some(one), Some(other)) = (
+        profiled(alloc, text, Burdens::equal(BURDEN)),
+        profiled(alloc, text, BURDENS),
+    ) else {
+        return println!(rt; "no profile");
+    };
+    print_profile(rt, &one, &other)?;
+    if is_confirmed(alloc, text, &one, BURDEN) != Some(true) {
+        println!(rt; "the profiler on one thread differs")?;
+    }
+    if is_confirmed_by_parts(alloc, text, &one) != Some(true) {
+        println!(rt; "the parts of one event differ")?;
+    }
+    Ok(())
 }
