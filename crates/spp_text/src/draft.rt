@@ -103,7 +103,8 @@ impl<'t> Draft<'t> {
     /// A line declares the next function.
     #[tactic(auto, unfolding(crate::specs::Reading::read_func))]
     fn add_func(&mut self, name: &'t [u8]) -> Result<(), TextWhy>
-        ensures { Reads result (read_func self.old name.now) self.new }
+        ensures said { Reads result (read_func self.old name.now) self.new }
+        ensures stays { OnErr result (self.new ≡ self.old) }
     {
         if self.has_event() {
             return Err(TextWhy::Late);
@@ -121,7 +122,8 @@ impl<'t> Draft<'t> {
     /// A line declares the next site.
     #[tactic(auto, unfolding(crate::specs::Reading::read_site))]
     fn add_site(&mut self, name: &'t [u8]) -> Result<(), TextWhy>
-        ensures { Reads result (read_site self.old name.now) self.new }
+        ensures said { Reads result (read_site self.old name.now) self.new }
+        ensures stays { OnErr result (self.new ≡ self.old) }
     {
         if self.has_event() {
             return Err(TextWhy::Late);
@@ -146,7 +148,8 @@ impl<'t> Draft<'t> {
     /// A line declares the root function by these words behind its first.
     #[tactic(auto, unfolding(crate::specs::Reading::read_root))]
     fn set_root(&mut self, words: &[&[u8]]) -> Result<(), TextWhy>
-        ensures { Reads result (read_root self.old (map (λ w. w.now) words.now)) self.new }
+        ensures said { Reads result (read_root self.old (map (λ w. w.now) words.now)) self.new }
+        ensures stays { OnErr result (self.new ≡ self.old) }
     {
         let [word] = words else {
             return Err(TextWhy::Count);
@@ -191,7 +194,8 @@ impl<'t> Draft<'t> {
     fn add_event(&mut self, event: Event) -> Result<(), TextWhy>
         requires opened { opening_fault self.old ≡ None }
         requires fits { IsEvent event }
-        ensures { Reads result (adds_event self.old event) self.new }
+        ensures said { Reads result (adds_event self.old event) self.new }
+        ensures stays { OnErr result (self.new ≡ self.old) }
     {
         if self.events.len() >= 1 << 28 {
             return Err(TextWhy::Limits);
@@ -208,7 +212,8 @@ impl<'t> Draft<'t> {
 
     /// A line has these words.
     fn add_words(&mut self, words: &[&[u8]]) -> Result<(), TextWhy>
-        ensures { Reads result (read_words self.old (map (λ w. w.now) words.now)) self.new }
+        ensures said { Reads result (read_words self.old (map (λ w. w.now) words.now)) self.new }
+        ensures stays { OnErr result (self.new ≡ self.old) }
     {
         let Some((word, others)) = words.split_first() else {
             return Ok(());
@@ -242,7 +247,8 @@ impl<'t> Draft<'t> {
     /// One line more.
     #[tactic(auto, unfolding(crate::specs::Reading::read_line))]
     pub(crate) fn add_line(&mut self, alloc: Global, line: &'t [u8]) -> Result<(), TextWhy>
-        ensures { Reads result (read_line self.old line.now) self.new }
+        ensures said { Reads result (read_line self.old line.now) self.new }
+        ensures stays { OnErr result (self.new ≡ self.old) }
     {
         if let Some(name) = after(b"func ".as_slice(), line) {
             return self.add_func(name);

@@ -15,7 +15,7 @@ returns-in-Err-clause-refused c =
     let t = YieldsList-turn (YieldsList-from_lines text cc) c.loop-line.yielded _ c.loop-line.yielded_by _ _ c.in-Some.line c.in-Some.is c.next.ensures.steps in
     let said = c.loop-line.draft in
     λ other.
-    let told : read_line said c.in-Some.line.now ≡ Err c.in-Err.why = why_is c.in-Err.why _ (rw c.as_bytes.ensures.value at c.in-Err.ensures) other in
+    let told : read_line said c.in-Some.line.now ≡ Err c.in-Err.why = why_is c.in-Err.why _ (rw c.as_bytes.ensures.value at c.in-Err.ensures.said) other in
     sym c.loop-line.invariant.read
     ∙ one_line (lines text) i said (suc i) c.in-Some.line.now t.0 t.1
     ∙ ap (λ (r : _). go_on (suc i) r (λ u. read_lines u (suc (suc i)) (drop (i + 1) (lines text)))) told
@@ -33,7 +33,7 @@ loop-line-preserved c =
     let t = YieldsList-turn (YieldsList-from_lines text cc) c.loop-line.yielded _ c.loop-line.yielded_by _ _ c.in-Some.line c.in-Some.is c.next.ensures.steps in
     let said = c.loop-line.draft in
     let more = c.add_line.new.self in
-    let told : read_line said c.in-Some.line.now ≡ Ok more = rw c.as_bytes.ensures.value at c.in_default.ensures in
+    let told : read_line said c.in-Some.line.now ≡ Ok more = rw c.as_bytes.ensures.value at c.in_default.ensures.said in
     let n = length_push c.loop-line.yielded c.in-Some.line in
     let k : i + 1 ≡ suc i = omega arith in
     let step : read_lines more (suc (i + 1)) (drop (i + 1) (lines text)) ≡ read_lines said (suc i) (drop i (lines text)) =
