@@ -117,7 +117,10 @@ fn the_first_bad_cut_is_told(rt: HostRuntime) -> Result<(), Fail> {
     assert!(rt; is_refused(rt.alloc(), &[2, 2], CutFault::NotRising { index: 1 })?);
     assert!(rt; is_refused(rt.alloc(), &[8], CutFault::OutOfRange { index: 0 })?);
     assert!(rt; is_refused(rt.alloc(), &[3, 2, 8], CutFault::NotRising { index: 1 })?);
+    // 65,536 cuts make one part too many; with one cut less their order is looked at.
     let zeros = vec![in rt.alloc(); 0; 65536]?;
     assert!(rt; is_refused(rt.alloc(), &zeros, CutFault::TooMany)?);
+    let fewer = vec![in rt.alloc(); 0; 65535]?;
+    assert!(rt; is_refused(rt.alloc(), &fewer, CutFault::NotRising { index: 1 })?);
     Ok(())
 }

@@ -204,6 +204,38 @@ fn a_bad_header_has_its_first_fault(rt: HostRuntime) -> Result<(), Fail> {
     Ok(())
 }
 
+/// Headers at each limit and one past it, without the names that they say follow: where the numbers are good, these are
+/// what is missing.
+const HEADERS_AT_LIMITS: &[(&[u8], HeaderFault)] = &[
+    (
+        b"SPTRACE1\x00\x01\x00\x00\x00\x01\x00\x00\x00\x00\xff\xff\x10\x00\x00\x00",
+        HeaderFault::Short,
+    ),
+    (
+        b"SPTRACE1\x00\x01\x00\x01\x00\x00\x00\x00\x00\x00\x00\x00\x00\x00\x00\x00",
+        HeaderFault::Limits,
+    ),
+    (
+        b"SPTRACE1\x00\x00\x00\x01\x00\x01\x00\x01\x00\x00\x00\x00\x00\x00\x00\x00",
+        HeaderFault::Limits,
+    ),
+    (
+        b"SPTRACE1\x00\x00\x00\x01\x00\x00\x00\x00\x00\x00\x00\x00\x10\x00\x00\x01",
+        HeaderFault::Limits,
+    ),
+    (
+        b"SPTRACE1\x00\x01\x00\x00\x00\x00\x00\x00\x00\x01\x00\x00\x00\x00\x00\x00",
+        HeaderFault::RootFunc,
+    ),
+];
+
+#[test]
+fn limits_are_inclusive(rt: HostRuntime) {
+    for (bytes, fault) in HEADERS_AT_LIMITS {
+        assert_eq!(rt; header_fault(rt.alloc(), bytes), Some(*fault));
+    }
+}
+
 #[test]
 fn sites_are_told_apart(rt: HostRuntime) {
     let root = b"SPTRACE1\x00\x00\x00\x02\x00\x00\x00\x01\x00\x00\x00\x00\x00\x00\x00\x00\
