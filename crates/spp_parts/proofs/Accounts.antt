@@ -12,9 +12,7 @@ use Rattle.spp_cut.proofs.Whole.{cover_le}
 use Rattle.spp_maxplus.specs.declared.state.Burdens.{Burdens}
 use Rattle.spp_dag.specs.Trace.{records}
 use Rattle.spp_dag.specs.Limits.{IsSmall}
-use Rattle.spp_dag.specs.declared.figures.Figures.{Figures}
 use Rattle.spp_piece.specs.Account.{Account, account_of}
-use Rattle.spp_dag.specs.Figures.{AreFigures}
 use Rattle.spp_frame.specs.Answers.{IsFaultOf}
 use Rattle.spp_frame.specs.declared.profile_fault.ProfileFault.{ProfileFault}
 use Rattle.spp_frame.specs.declared.profile_fault.ProfileFault.TheVariants.{Bad}
@@ -65,11 +63,11 @@ cover_accounts t b number from (p ∷ ps) h =
           (subst (λ n. AreAccounts n (drop n t.records) (map (account_in b) ps)) next (cover_accounts t b (suc number) (from + p.count) ps h.3)),
     )
 
--- the accounts of all parts are those of a trace that has figures
-pub are_of_parts : (t : Recording) (b : Burdens) (ps : List PartOf) (xs : List Account) (f : Figures) (es : List Event) → Cover t 0 0 ps (length t.records)
-    → xs ≡ map (account_in b) ps → AreFigures t.records b f → t.records ≡ records es → IsSmall es → AreOfParts es xs
-are_of_parts t b ps xs f es cover is figures events small = record {
-  well_formed = subst (λ rs. nesting.IsWellFormed rs) events figures.well_formed;
+-- the accounts of all parts are those of a well-formed trace
+pub are_of_parts : (t : Recording) (b : Burdens) (ps : List PartOf) (xs : List Account) (es : List Event) → Cover t 0 0 ps (length t.records)
+    → xs ≡ map (account_in b) ps → nesting.IsWellFormed t.records → t.records ≡ records es → IsSmall es → AreOfParts es xs
+are_of_parts t b ps xs es cover is wf events small = record {
+  well_formed = subst (λ rs. nesting.IsWellFormed rs) events wf;
   small = small;
   are = subst (λ rs. AreAccounts 0 rs xs) events (subst (λ l. AreAccounts 0 t.records l) (sym is) (cover_accounts t b 0 0 ps cover));
 }

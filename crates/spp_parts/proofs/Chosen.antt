@@ -8,7 +8,7 @@ use Rattle.spp_cut.specs.Parts.{PartOf}
 use Rattle.spp_dag.specs.declared.choices.Choices.{Choices}
 use Rattle.spp_dag.specs.ChoiceLists.{AreChoicesIn}
 use Rattle.spp_parts.specs.Choices.{AreChoicesOf}
-use Rattle.spp_parts.proofs.Shares.{PartAt}
+use Rattle.spp_parts.proofs.Begins.{PartAt}
 
 chosen_more : (es : List Event) (ps : List PartOf) (p : PartOf) (cs : List Choices) (c : Choices)
     → AreChoicesOf es ps cs → AreChoicesIn es p.first (p.first + p.count) c → AreChoicesOf es (ps ++ p ∷ []) (cs ++ c ∷ [])

@@ -1,4 +1,6 @@
 mod Known
 mod Accounts
+mod Begins
+pub mod Entries
 mod Shares
 mod Chosen

@@ -1,22 +1,18 @@
 -- The shares of the parts of a cut make the rows of the dag.
 use Rattle.std.proofs.Common.{◌≡◌, ℕ, zero, suc, ◌+◌, ◌<◌, ◌≤◌, true, List, [], ◌∷◌, length, map, get_or, take, drop, Option, Some, None, Ok, refl, sym, ap, ap₂, subst, ◌∙◌, arith}
-use Rattle.std.proofs.lemmas.List.Sums.{sum_by-cons}
-use Rattle.std.proofs.lemmas.List.{length-take-le, length-drop, length-map}
+use Rattle.std.proofs.lemmas.List.{length-map}
 use Rattle.spp_event.specs.declared.records.Event.{Event}
 use Rattle.spp_event.specs.Recordings.{Record, Recording}
 use Rattle.spp_frame.specs.Nesting as nesting
 use Rattle.spp_frame.specs.Nesting.{AreEvents}
-use Rattle.spp_cut.specs.Parts.{PartOf, records_in, Cover}
-use Rattle.spp_cut.proofs.Whole.{cover_le}
+use Rattle.spp_cut.specs.Parts.{PartOf, Cover}
 use Rattle.spp_maxplus.specs.declared.state.Burdens.{Burdens}
 use Rattle.spp_maxplus.specs.State.{unburdened}
 use Rattle.spp_dag.specs.declared.row.Row.{Row}
-use Rattle.spp_dag.specs.declared.stack.EntryFrame.{EntryFrame}
 use Rattle.spp_dag.specs.Trace.{IsWellFormed}
 use Rattle.spp_dag.specs.Rows.{everywhere, work, row}
 use Rattle.spp_dag.specs.Shares.{share, plus}
 use Rattle.spp_dag.specs.Laws.{own_row}
-use Rattle.spp_dag.specs.Choices.{IsEntry}
 use Rattle.spp_dag.specs.Limits.{IsSmall, IsSmallRow}
 use Rattle.spp_dag.proofs.Bounds.{rows_fit}
 use Rattle.spp_dag.proofs.Profiles.{shares_one, greatest_one, spans_of, are_spans, root_work}
@@ -25,79 +21,14 @@ use Rattle.spp_site.specs.Rows.{Fits, frame_row}
 use Rattle.spp_site.specs.Table.{Sums, empty, IsSum}
 use Rattle.spp_site.proofs.Rows.{plus-zero}
 use Rattle.spp_dag.specs.declared.figures.Figures.{Figures}
-use Rattle.spp_piece.specs.Account.{Account}
 use Rattle.spp_dag.specs.Figures.{AreFigures}
-use Rattle.spp_stack.specs.Chain.{Stacks, StackOf, IsStart, HasFrames}
-use Rattle.spp_stack.specs.Parts.{IsEntryOf, begin_of}
 use Rattle.spp_site.specs.Profiles.{key_row}
 use Rattle.spp_dag.specs.declared.choices.Choices.{Choices}
-use Rattle.spp_pass.specs.Outside.{StandsAt}
 use Rattle.spp_pass.specs.Shares.{IsPartOf}
 use Rattle.spp_site.specs.Profiles.{IsDagTable}
 use Rattle.spp_pass.proofs.Bounded.{empty_rows}
 use Rattle.spp_pass.proofs.Shared.{share_none}
-use Rattle.spp_parts.proofs.Accounts.{account_in}
-
--- ---- where parts begin
-
--- how many events the parts before part k have
-abbrev pub begin_in : List PartOf → ℕ → ℕ
-begin_in [] k = 0
-begin_in (p ∷ ps) zero = 0
-begin_in (p ∷ ps) (suc k) = p.count + begin_in ps k
-
-pub begin_zero : (ps : List PartOf) → begin_in ps 0 ≡ 0
-begin_zero [] = refl
-begin_zero (p ∷ ps) = refl
-
--- a part of the trace t
-pub record PartAt (t : Recording) (from : ℕ) (ps : List PartOf) (k : ℕ) (p : PartOf) : Type 0 where
-  pub trace : p.trace ≡ t
-  pub first : p.first ≡ from + begin_in ps k
-  pub next : begin_in ps (suc k) ≡ begin_in ps k + p.count
-
-pub part_at : (t : Recording) (number from end : ℕ) (ps : List PartOf) → Cover t number from ps end → (k : ℕ) (d : PartOf) → k < length ps → PartAt t from ps k (get_or ps k d)
-part_at t number from end [] h k d l = absurd (omega arith)
-part_at t number from end (p ∷ ps) h zero d l = record {
-  trace = h.0;
-  first = h.2 ∙ (let z : from ≡ from + 0 = omega arith in z);
-  next = let z = begin_zero ps in omega arith;
-}
-part_at t number from end (p ∷ ps) h (suc k) d l =
-    let r = part_at t (suc number) (from + p.count) end ps h.3 k d (omega arith) in
-    let first = r.first in
-    let next = r.next in
-    record { trace = r.trace; first = omega arith; next = omega arith }
-
-pub all_parts : (t : Recording) (number from end : ℕ) (ps : List PartOf) → Cover t number from ps end → from + begin_in ps (length ps) ≡ end
-all_parts t number from end [] h = let e : from ≡ end = h in omega arith
-all_parts t number from end (p ∷ ps) h = let r = all_parts t (suc number) (from + p.count) end ps h.3 in omega arith
-
--- as the accounts tell it
-pub begin_is : (t : Recording) (b : Burdens) (number from : ℕ) (ps : List PartOf) → Cover t number from ps (length t.records) → (k : ℕ) → begin_of (map (account_in b) ps) k ≡ begin_in ps k
-begin_is t b number from [] h zero = refl
-begin_is t b number from [] h (suc k) = refl
-begin_is t b number from (p ∷ ps) h zero = refl
-begin_is t b number from (p ∷ ps) h (suc k) =
-    let within = cover_le t (suc number) (from + p.count) (length t.records) ps h.3 in
-    let same : records_in p ≡ take p.count (drop from t.records) = ap (λ (u : Recording). take p.count (drop p.first u.records)) h.0 ∙ ap (λ n. take p.count (drop n t.records)) h.2 in
-    let count : length (records_in p) ≡ p.count = ap (λ (l : List Record). length l) same ∙ length-take-le p.count (drop from t.records) (omega (arith, length-drop from t.records)) in
-    let rest = begin_is t b (suc number) (from + p.count) ps h.3 k in
-    let cons : begin_of (map (account_in b) (p ∷ ps)) (suc k) ≡ length (records_in p) + begin_of (map (account_in b) ps) k = sum_by-cons (λ (a : Account). a.events) (account_in b p) (take k (map (account_in b) ps)) in
-    omega arith
-
--- the entry of a part
-pub stands_at : (t : Recording) (k : ℕ) (accounts : List Account) (stacks : Stacks) (p : PartOf) (stack : StackOf) (es : List Event) → AreEvents t.records es → IsWellFormed es
-    → IsEntryOf es t.root accounts stacks k → begin_of accounts k ≡ p.first → p.trace ≡ t
-    → ((fs : List EntryFrame) (work : ℕ) → IsStart stacks k fs work → HasFrames stack fs × (stack.work ≡ work)) → StandsAt p.trace p.first stack
-stands_at t k accounts stacks p stack es are wf e begins same starts =
-    let s = starts e.frames e.work e.start in
-    subst (λ (u : Recording). StandsAt u p.first stack) (sym same) (
-      es,
-      are,
-      wf,
-      (e.frames, subst (λ w. IsEntry es t.root p.first e.frames w) (sym s.1) (subst (λ i. IsEntry es t.root i e.frames e.work) begins e.is), s.0),
-    )
+use Rattle.spp_parts.proofs.Begins.{begin_in, PartAt, all_parts}
 
 -- ---- the shares add up
 
@@ -190,19 +121,6 @@ module _ (t : Recording) (b : Burdens) (f : Figures) (fig : AreFigures t.records
   dag_is new same = subst (λ x. IsDagTable t x) (sym same) (fig.well_formed, (fig.events, fig.are_events, (spans_of fig.events, are_spans fig.events wf, all_rows)))
 
 -- ---- a part of the cut, as it is read
-
-pub part_read : (t : Recording) (ps read : List PartOf) (k : ℕ) (p : PartOf) → Cover t 0 0 ps (length t.records) → read ≡ ps → p ≡ get_or read k p → k < length read → PartAt t 0 ps k p
-part_read t ps read k p cover same is lt =
-    let l : k < length ps = (let z : length read ≡ length ps = ap (λ (l : List PartOf). length l) same in omega arith) in
-    let here : p ≡ get_or ps k p = is ∙ ap (λ (l : List PartOf). get_or l k p) same in
-    subst (λ (q : PartOf). PartAt t 0 ps k q) (sym here) (part_at t 0 0 (length t.records) ps cover k p l)
-
-pub part_stands : (t : Recording) (b : Burdens) (ps : List PartOf) (accounts : List Account) (stacks : Stacks) (k root : ℕ) (p : PartOf) (stack : StackOf) (es : List Event)
-    → AreEvents t.records es → IsWellFormed es → Cover t 0 0 ps (length t.records) → PartAt t 0 ps k p → accounts ≡ map (account_in b) ps → root ≡ t.root → IsEntryOf es root accounts stacks k
-    → ((fs : List EntryFrame) (work : ℕ) → IsStart stacks k fs work → HasFrames stack fs × (stack.work ≡ work)) → StandsAt p.trace p.first stack
-part_stands t b ps accounts stacks k root p stack es are wf cover at accs root_same e starts =
-    stands_at t k accounts stacks p stack es are wf (subst (λ r. IsEntryOf es r accounts stacks k) root_same e)
-    (ap (λ (l : List Account). begin_of l k) accs ∙ begin_is t b 0 0 ps cover k ∙ (let f = at.first in let z : begin_in ps k ≡ p.first = omega arith in z)) at.trace starts
 
 module _ (t : Recording) (ps : List PartOf) (k : ℕ) (p : PartOf) (at : PartAt t 0 ps k p) where
   pub next_begin : begin_in ps k ≤ begin_in ps (k + 1)

@@ -8,6 +8,7 @@ ghost use Rattle.spp_site.specs.Rows.{frame_row};
 ghost use Rattle.spp_frame.specs.Answers.{IsFaultOf};
 ghost use Rattle.spp_site.specs.Profiles.{IsDagTable};
 
+use crate::beginnings::entries_of;
 use crate::results::Tabled;
 use crate::surveying::survey;
 use spp_cut::Cut;
@@ -16,7 +17,6 @@ use spp_frame::ProfileFault;
 use spp_maxplus::Burdens;
 use spp_pass::run_part;
 use spp_site::{ClosedFrame, Table};
-use spp_stack::entries;
 use std::alloc::Global;
 
 /// What the root frame itself adds to its row, where the run comes to these figures.
@@ -38,7 +38,7 @@ fn root_row(whole: &Figures) -> Row
 ///
 /// The events are read twice, once for the frames that are open where parts begin, and once for the shares. The time is
 /// linear in the number of events, and for each part in the numbers of sites and functions that are open before it or
-/// come in it, and in the greatest of these numbers. The memory is what `survey` and `entries` take, what `run_part`
+/// come in it, and in the greatest of these numbers. The memory is what `survey` and `entries_of` take, what `run_part`
 /// takes for one part at a time, the table, and for the choices up to 20 bytes for each spawned child, or twice that
 /// where the lists grew bit by bit; a list that isn't empty has room for four at least.
 ///
@@ -52,7 +52,7 @@ pub fn table_in_parts(alloc: Global, cut: &Cut<'_, '_>) -> Result<Tabled, Profil
 {
     let parts = cut.parts();
     let found = survey(alloc, cut, Burdens::default())?;
-    let stacks = entries(alloc, cut.trace().root(), &found.each)?;
+    let stacks = entries_of(alloc, cut, &found.each)?;
     let mut dag = Table::new(alloc);
     let mut choices = Vec::with_capacity(alloc, parts.len())?;
     for k in 0..parts.len() {

@@ -1,10 +1,12 @@
 //! A run's table by way of its parts.
 #![tactic(auto)]
 
+mod beginnings;
 mod in_parts;
 mod results;
 mod surveying;
 
+pub use beginnings::entries_of;
 pub use in_parts::table_in_parts;
 pub use results::{Survey, Tabled};
 pub use surveying::survey;

@@ -95,6 +95,8 @@ pub record Going (es : List Event) (root : ℕ) (accounts : List Account) (i : �
   pub before : x.work + most_before a.sum.frames < 2 ^ 128
   pub work : x.work + a.sum.work < 2 ^ 128
   pub opened : open_count (take (i + 1) accounts) ≡ open_count (take i accounts) + length a.sum.frames
+  pub begin : begin_of accounts (i + 1) ≡ begin_of accounts i + a.events
+  pub within : begin_of accounts (i + 1) ≤ 2 ^ 28
   pub next : (v : StackBuilder) → Stands v (play entry_ops a.sum x) → Gone es root accounts (i + 1) v
 
 sum_more : (f : Account → ℕ) (accounts : List Account) (i : ℕ) (a : Account) → i < length accounts → a ≡ get_or accounts i a
@@ -147,6 +149,8 @@ going es root accounts p i a w lt is g =
       before = omega arith;
       work = omega arith;
       opened = opened;
+      begin = begin;
+      within = omega arith;
       next = λ v s. record {
         at = play entry_ops a.sum g.at;
         follows = follows;
@@ -180,21 +184,23 @@ told_more es root accounts nodes more starts start k kept h = record {
   start = record {
     start = h.start.start;
     is = get_more starts (start ∷ []) k h.start.start h.start.is;
+    at = h.start.at;
     chain = kept (Some h.start.start.top) h.frames h.start.chain;
     work = h.start.work;
   };
 }
 
-pub told_last : (es : List Event) (root : ℕ) (accounts : List Account) (w : StackBuilder) (starts : List Start) (top work i : ℕ) (g : Gone es root accounts i w) → IsKept w
-    → top + 1 ≡ length w.nodes.items → work ≡ w.work → length starts ≡ i
-    → IsEntryOf es root accounts (record { nodes = w.nodes.items; starts = starts ++ record { top = top; work = work } ∷ [] }) i
-told_last es root accounts w starts top work i g kept last same long = record {
+pub told_last : (es : List Event) (root : ℕ) (accounts : List Account) (w : StackBuilder) (starts : List Start) (top at work i : ℕ) (g : Gone es root accounts i w) → IsKept w
+    → top + 1 ≡ length w.nodes.items → at ≡ begin_of accounts i → work ≡ w.work → length starts ≡ i
+    → IsEntryOf es root accounts (record { nodes = w.nodes.items; starts = starts ++ record { top = top; at = at; work = work } ∷ [] }) i
+told_last es root accounts w starts top at work i g kept last begins same long = record {
   frames = g.at.frames;
   work = g.at.work;
   is = g.follows.is;
   start = record {
-    start = record { top = top; work = work };
-    is = get_last starts (record { top = top; work = work }) i (sym long);
+    start = record { top = top; at = at; work = work };
+    is = get_last starts (record { top = top; at = at; work = work }) i (sym long);
+    at = sym begins;
     chain = start_chain w g.at kept g.stands top last;
     work = sym g.stands.work ∙ sym same;
   };
@@ -216,24 +222,24 @@ tops_more [] s m n le lt old (suc k) t h = let l = slice_get_within (s ∷ []) (
 tops_more (x ∷ xs) s m n le lt old zero t h = let l = old zero t h in omega arith
 tops_more (x ∷ xs) s m n le lt old (suc k) t h = tops_more xs s m n le lt (λ j u g. old (suc j) u g) k t h
 
-pub told_next : (es : List Event) (root : ℕ) (accounts : List Account) (w v : StackBuilder) (starts all : List Start) (top work i : ℕ) → ((k : ℕ) → k ≤ i → IsEntryOf es root accounts (record { nodes = w.nodes.items; starts = starts }) k)
-    → AreKept w.nodes.items v.nodes.items → Gone es root accounts (i + 1) v → IsKept v → top + 1 ≡ length v.nodes.items → work ≡ v.work → length starts ≡ i + 1
-    → all ≡ starts ++ record { top = top; work = work } ∷ []
+pub told_next : (es : List Event) (root : ℕ) (accounts : List Account) (w v : StackBuilder) (starts all : List Start) (top at work i : ℕ) → ((k : ℕ) → k ≤ i → IsEntryOf es root accounts (record { nodes = w.nodes.items; starts = starts }) k)
+    → AreKept w.nodes.items v.nodes.items → Gone es root accounts (i + 1) v → IsKept v → top + 1 ≡ length v.nodes.items → at ≡ begin_of accounts (i + 1) → work ≡ v.work → length starts ≡ i + 1
+    → all ≡ starts ++ record { top = top; at = at; work = work } ∷ []
     → (k : ℕ) → k ≤ i + 1 → IsEntryOf es root accounts (record { nodes = v.nodes.items; starts = all }) k
-told_next es root accounts w v starts all top work i old chains g kept last same long is k le =
+told_next es root accounts w v starts all top at work i old chains g kept last begins same long is k le =
     subst (λ l. IsEntryOf es root accounts (record { nodes = v.nodes.items; starts = l }) k) (sym is)
     (elim (cases_lt k (i + 1)) [
-      | inl l ↦ told_more es root accounts w.nodes.items v.nodes.items starts (record { top = top; work = work }) k chains (old k (omega arith))
+      | inl l ↦ told_more es root accounts w.nodes.items v.nodes.items starts (record { top = top; at = at; work = work }) k chains (old k (omega arith))
       | inr l ↦
-          let at : i + 1 ≡ k = omega arith in
-          subst (λ j. IsEntryOf es root accounts (record { nodes = v.nodes.items; starts = starts ++ record { top = top; work = work } ∷ [] }) j) at
-          (told_last es root accounts v starts top work (i + 1) g kept last same long)
+          let here : i + 1 ≡ k = omega arith in
+          subst (λ j. IsEntryOf es root accounts (record { nodes = v.nodes.items; starts = starts ++ record { top = top; at = at; work = work } ∷ [] }) j) here
+          (told_last es root accounts v starts top at work (i + 1) g kept last begins same long)
     ])
 
 pub told_first : (es : List Event) (root : ℕ) (accounts : List Account) (w : StackBuilder) (all : List Start) → Gone es root accounts 0 w → IsKept w → 1 ≡ length w.nodes.items → 0 ≡ w.work
-    → all ≡ record { top = 0; work = 0 } ∷ [] → (k : ℕ) → k ≤ 0 → IsEntryOf es root accounts (record { nodes = w.nodes.items; starts = all }) k
+    → all ≡ record { top = 0; at = 0; work = 0 } ∷ [] → (k : ℕ) → k ≤ 0 → IsEntryOf es root accounts (record { nodes = w.nodes.items; starts = all }) k
 told_first es root accounts w all g kept one none is k le =
     let at : 0 ≡ k = omega arith in
     subst (λ l. IsEntryOf es root accounts (record { nodes = w.nodes.items; starts = l }) k) (sym is)
-    (subst (λ j. IsEntryOf es root accounts (record { nodes = w.nodes.items; starts = record { top = 0; work = 0 } ∷ [] }) j) at
-    (told_last es root accounts w [] 0 0 0 g kept (omega arith) none refl))
+    (subst (λ j. IsEntryOf es root accounts (record { nodes = w.nodes.items; starts = record { top = 0; at = 0; work = 0 } ∷ [] }) j) at
+    (told_last es root accounts w [] 0 0 0 0 g kept (omega arith) refl none refl))

@@ -51,8 +51,8 @@ abbrev pub frames_from : List Node → Option ℕ → List EntryFrame
 frames_from nodes None = []
 frames_from nodes (Some n) = frames_at nodes (Some n) (suc n)
 
--- The nodes of all stacks; and for the beginning of each part, and the end, the number of its innermost frame's node
--- and the work of the trace before.
+-- The nodes of all stacks; and for the beginning of each part, and the end, the number of its innermost frame's node,
+-- its position and the work of the trace before.
 pub record Stacks : Type 0 where
   pub nodes : List Node
   pub starts : List Start
@@ -99,17 +99,19 @@ pub record AreSound (s : Stacks) : Type 0 where
   pub tree : IsTree s.nodes
   pub linked : AreLinked s.nodes
 
--- these are the frames of start k, the innermost first, and that is the work before it
-pub record IsStart (s : Stacks) (k : ℕ) (frames : List EntryFrame) (before : ℕ) : Type 0 where
+-- start k has that position, these are its frames, the innermost first, and that is the work before it
+pub record IsStart (s : Stacks) (k position : ℕ) (frames : List EntryFrame) (before : ℕ) : Type 0 where
   pub start : Start
   pub is : slice_get s.starts k ≡ Some start
+  pub at : position ≡ start.at
   pub chain : IsChain s.nodes (Some start.top) frames
   pub work : before ≡ start.work
 
--- one of the stacks
+-- one of the stacks, with its position and the work of the trace before
 pub record StackOf : Type 0 where
   pub nodes : List Node
   pub top : ℕ
+  pub at : ℕ
   pub work : ℕ
 
 -- these are its frames, the innermost first

@@ -1,8 +1,10 @@
 -- Summaries of the parts of a trace.
-use Rattle.std.specs.Prelude.{◌≡◌, ℕ, ◌+◌, List, [], ◌∷◌, length, take, drop}
+use Rattle.std.specs.Prelude.{◌≡◌, ℕ, ◌+◌, List, [], ◌∷◌, length, take, drop, slice_get, Some}
 use Rattle.std.specs.List.{sum_by}
 use Rattle.spp_event.specs.declared.records.Event.{Event}
 use Rattle.spp_event.specs.Recordings.{Record}
+use Rattle.spp_frame.specs.Nesting.{AreEvents}
+use Rattle.spp_cut.specs.Parts.{PartOf, CutOf}
 use Rattle.spp_dag.specs.declared.stack.EntryFrame.{EntryFrame}
 use Rattle.spp_dag.specs.Trace.{records, IsWellFormed}
 use Rattle.spp_dag.specs.Limits.{IsSmall}
@@ -31,9 +33,23 @@ begin_of accounts k = sum_by (λ a. a.events) (take k accounts)
 abbrev pub open_count : List Account → ℕ
 open_count accounts = sum_by (λ a. length a.sum.frames) accounts
 
--- start k is the entry of the position where part k begins
-pub record IsEntryOf (es : List Event) (root : ℕ) (accounts : List Account) (s : Stacks) (k : ℕ) : Type 0 where
+-- start k is the entry of that position
+pub record IsEntryAt (es : List Event) (root : ℕ) (s : Stacks) (k position : ℕ) : Type 0 where
   pub frames : List EntryFrame
   pub work : ℕ
-  pub is : IsEntry es root (begin_of accounts k) frames work
-  pub start : IsStart s k frames work
+  pub is : IsEntry es root position frames work
+  pub start : IsStart s k position frames work
+
+-- start k is the entry of the position where part k begins
+abbrev pub IsEntryOf : List Event → ℕ → List Account → Stacks → ℕ → Type 0
+IsEntryOf es root accounts s k = IsEntryAt es root s k (begin_of accounts k)
+
+-- The stacks are those of a cut of a well-formed trace: start k is the entry of the position where part k begins, and
+-- one start more is that of the end.
+pub record AreEntriesOf (cut : CutOf) (s : Stacks) : Type 0 where
+  pub events : List Event
+  pub are_events : AreEvents cut.trace.records events
+  pub well_formed : IsWellFormed events
+  pub count : length s.starts ≡ length cut.parts + 1
+  pub begins : (k : ℕ) (p : PartOf) → slice_get cut.parts k ≡ Some p → IsEntryAt events cut.trace.root s k p.first
+  pub ends : IsEntryAt events cut.trace.root s (length cut.parts) (length events)

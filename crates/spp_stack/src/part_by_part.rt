@@ -18,8 +18,8 @@ fn most_nodes(summaries: &[Summary]) -> usize {
     most
 }
 
-/// The open frames where each part of a trace begins, and where it ends, from the summaries of its parts in order. The
-/// root frame runs the function `root`. The burdens of the summaries have no part in it.
+/// The open frames where each part of a trace begins, and where it ends, from the summaries of its parts in order, with
+/// these positions. The root frame runs the function `root`. The burdens of the summaries have no part in it.
 ///
 /// It takes time and memory linear in the numbers of parts, of the frames that they leave open and of those that they
 /// close and don't open, and in the greatest numbers of their sites and functions. There are no more nodes than one,
@@ -37,12 +37,19 @@ pub fn entries(alloc: Global, root: u32, summaries: &[Summary]) -> Result<Entrie
 {
     let mut builder = StackBuilder::start(alloc, root, most_nodes(summaries))?;
     let mut starts = Vec::with_capacity(alloc, summaries.len() + 1)?;
-    starts.push(Start { top: 0, work: 0 })?;
+    let mut at = 0;
+    starts.push(Start {
+        top: 0,
+        at,
+        work: 0,
+    })?;
     for summary in summaries {
         summary.burdens().are_small();
         builder.pass(alloc, summary)?;
+        at += summary.events();
         starts.push(Start {
             top: builder.last(),
+            at,
             work: builder.work,
         })?;
     }

@@ -17,6 +17,9 @@ use std::marker::Model;
 pub(crate) struct Start {
     /// The number of the innermost open frame's node.
     pub(crate) top: u32,
+    /// The position of the part's first event, or, where it has none, of the event behind it; for the end the number
+    /// of events.
+    pub(crate) at: u32,
     /// The work of the trace before, in instructions.
     pub(crate) work: u128,
 }
@@ -24,7 +27,7 @@ pub(crate) struct Start {
 /// The open frames where each part of a trace begins, and where the trace ends. Stacks share the nodes of the frames
 /// that they have in common.
 ///
-/// Contracts see its nodes, and for each part and the end the number of a node and a work.
+/// Contracts see its nodes, and for each part and the end the number of a node, a position and a work.
 #[derive(Drop)]
 pub struct Entries {
     pub(crate) nodes: Vec<Node>,
@@ -43,11 +46,12 @@ impl Model for Entries {
 
 /// The frames that are open at one place of a trace, the root among them.
 ///
-/// Contracts see the nodes, the number of its innermost frame's, and the work of the trace before it.
+/// Contracts see the nodes, the number of its innermost frame's, its position, and the work of the trace before it.
 #[derive(Drop)]
 pub struct Entry<'e> {
     nodes: &'e [Node],
     top: u32,
+    at: u32,
     work: u128,
 }
 
@@ -56,12 +60,19 @@ impl<'e> Model for Entry<'e> {
 
     ghost Value = { StackOf };
 
-    ghost view = { λ e. record { nodes = e.nodes.now; top = e.top; work = e.work } };
+    ghost view = { λ e. record { nodes = e.nodes.now; top = e.top; at = e.at; work = e.work } };
 
-    ghost invariant = { λ e. IsSoundStack (record { nodes = e.nodes.now; top = e.top; work = e.work }) };
+    ghost invariant = { λ e. IsSoundStack (record { nodes = e.nodes.now; top = e.top; at = e.at; work = e.work }) };
 }
 
 impl<'e> Entry<'e> {
+    /// Its position: that of the first event behind it, and at the end of the trace the number of events.
+    pub fn at(&self) -> u32
+        ensures { result ≡ self.now.at }
+    {
+        self.at
+    }
+
     /// The work of the trace before it, in instructions.
     pub fn work(&self) -> u128
         ensures { result ≡ self.now.work }
@@ -91,16 +102,25 @@ impl<'e> Entry<'e> {
         Frames::new(self.nodes, self.top)
     }
 
-    /// The frames without the innermost one; none where that is the root. It takes a constant time and no memory.
+    /// The frames without the innermost one, at the same position; none where that is the root. It takes a constant
+    /// time and no memory.
     pub fn below(&self) -> Option<Entry<'e>>
         ensures some { (f : FrameValue) (fs : List FrameValue) → HasFrames self.now (f ∷ fs) → IfSome result (λ e. HasFrames e fs) }
         ensures none { (f : FrameValue) (fs : List FrameValue) → HasFrames self.now (f ∷ fs) → result ≡ None → fs ≡ [] }
         ensures less { IfSome result (λ e. (e.top < self.now.top) × (e.work ≡ self.now.work)) }
+        ensures at { IfSome result (λ e. e.at ≡ self.now.at) }
     {
-        let Entry { nodes, work, .. } = *self;
+        let Entry {
+            nodes, at, work, ..
+        } = *self;
         match self.innermost().below {
             None => None,
-            Some(top) => Some(Entry { nodes, top, work }),
+            Some(top) => Some(Entry {
+                nodes,
+                top,
+                at,
+                work,
+            }),
         }
     }
 }
@@ -179,21 +199,23 @@ impl Entries {
     /// parts.
     pub fn top(&self, k: usize) -> u32
         requires { k < length self.now.starts }
-        ensures top { (fs : List FrameValue) (work : ℕ) → IsStart self.now k fs work → HasFrames (record { nodes = self.now.nodes; top = result; work = work }) fs }
+        ensures top { (at : ℕ) (fs : List FrameValue) (work : ℕ) → IsStart self.now k at fs work → HasFrames (record { nodes = self.now.nodes; top = result; at = at; work = work }) fs }
         ensures within { result < length self.now.nodes }
     {
         self.starts[k].top
     }
 
-    /// The open frames where part `k` begins, or where the trace ends if `k` is the number of parts.
+    /// The open frames where part `k` begins, or where the trace ends if `k` is the number of parts, with that position
+    /// and the work before it.
     pub fn entry(&self, k: usize) -> Entry<'_>
         requires { k < length self.now.starts }
-        ensures { (fs : List FrameValue) (work : ℕ) → IsStart self.now k fs work → HasFrames result fs × (result.work ≡ work) }
+        ensures { (at : ℕ) (fs : List FrameValue) (work : ℕ) → IsStart self.now k at fs work → HasFrames result fs × (result.at ≡ at) × (result.work ≡ work) }
     {
         let start = self.starts[k];
         Entry {
             nodes: self.nodes(),
             top: start.top,
+            at: start.at,
             work: start.work,
         }
     }

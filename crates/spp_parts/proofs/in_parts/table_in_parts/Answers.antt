@@ -10,9 +10,9 @@ use Rattle.spp_dag.specs.Trace.{IsWellFormed}
 use Rattle.spp_dag.specs.Shares.{plus}
 use Rattle.spp_site.specs.Rows.{Fits}
 use Rattle.spp_site.specs.Table.{Sums}
-use Rattle.spp_stack.specs.Parts.{AreOfParts}
-use Rattle.spp_parts.proofs.Accounts.{account_in}
-use Rattle.spp_parts.proofs.Shares.{begin_in, begin_zero, AreRowsTo, rows_none, part_read, part_stands, next_begin, told_part, merge_fits, rows_more, all_begun, root_fits, dag_is}
+use Rattle.spp_parts.proofs.Begins.{begin_in, begin_zero, part_read, part_got}
+use Rattle.spp_parts.proofs.Entries.{entry_stands}
+use Rattle.spp_parts.proofs.Shares.{AreRowsTo, rows_none, next_begin, told_part, merge_fits, rows_more, all_begun, root_fits, dag_is}
 use Rattle.spp_parts.proofs.Chosen.{AreChosen, chosen_next, chosen_all}
 use Rattle.spp_dag.specs.declared.choices.Choices.{Choices}
 use Rattle.spp_parts.specs.Choices.{AreChoicesOf}
@@ -30,24 +30,22 @@ loop-k-init c = record {
       omega (arith, c.in_ok-choices.ensures.capacity);
 }
 
+pub entries_of-requires-clause-well_formed : goal.entries_of-requires-clause-well_formed
+entries_of-requires-clause-well_formed c = c.in_ok-found.ensures.figures.well_formed
+
+pub entries_of-requires-clause-each : goal.entries_of-requires-clause-each
+entries_of-requires-clause-each c = (c.default.result, c.deref.ensures.value ∙ c.in_ok-found.ensures.each)
+
+pub entry-requires : goal.entry-requires
+entry-requires c =
+    let m : length c.parts-parts.result.now ≡ length c.args.cut.now.parts = ap (λ (l : List PartOf). length l) c.parts-parts.ensures.parts in
+    let e = c.in_ok-stacks.ensures.entries in
+    omega (arith, c.loop-k-test.true, e.count)
+
 pub run_part-requires : goal.run_part-requires
 run_part-requires c =
-    let t : Recording = c.args.cut.now.trace in
-    let ps : List PartOf = c.args.cut.now.parts in
-    let read = c.parts-parts.result.now in
-    let fig = c.in_ok-found.ensures.figures in
-    let es : List Event = fig.events in
-    let are : AreEvents t.records es = fig.are_events in
-    let wf : IsWellFormed es = subst (λ (rs : List Record). nesting.IsWellFormed rs) fig.are_events fig.well_formed in
-    let accs : c.deref.result.now ≡ map (account_in c.default.result) ps = c.deref.ensures.value ∙ c.in_ok-found.ensures.each in
-    let of_parts = c.in_ok-found.ensures.parts es are in
-    let at = part_read t ps read c.loop-k.k c.index-parts-k.result c.parts-parts.ensures.cut c.parts-parts.ensures.parts c.index-parts-k.is c.loop-k-test.true in
-    let few : c.loop-k.k ≤ length c.deref.result.now = (let n : length c.in_ok-found.found.each.items ≡ length ps = c.in_ok-found.ensures.count in
-    let m : length read ≡ length ps = ap (λ (l : List PartOf). length l) c.parts-parts.ensures.parts in
-    let d : length c.deref.result.now ≡ length c.in_ok-found.found.each.items = ap (λ l. length l) c.deref.ensures.value in omega (arith, c.loop-k-test.true)) in
-    part_stands t c.default.result ps c.deref.result.now c.in_ok-stacks.stacks c.loop-k.k c.root.result c.index-parts-k.result c.entry.result es are wf c.parts-parts.ensures.cut at accs
-    (c.root.ensures ∙ ap (λ (u : Recording). u.root) c.trace.ensures)
-    (c.in_ok-stacks.ensures.entries es (subst (λ l. AreOfParts es l) (sym c.deref.ensures.value) of_parts) c.loop-k.k few) c.entry.ensures
+    let got = part_got c.args.cut.now.parts c.parts-parts.result.now c.loop-k.k c.index-parts-k.result c.parts-parts.ensures.parts c.index-parts-k.is c.loop-k-test.true in
+    entry_stands c.args.cut.now c.in_ok-stacks.stacks c.in_ok-stacks.ensures.entries c.loop-k.k c.index-parts-k.result got c.entry.result c.entry.ensures c.parts-parts.ensures.cut
 
 pub absorb-requires-clause-root_fits : goal.absorb-requires-clause-root_fits
 absorb-requires-clause-root_fits c =

@@ -1,5 +1,6 @@
 use Rattle.std.specs.Prelude.{◌≡◌, ◌≤◌, length, vec_capacity}
-use Rattle.spp_parts.proofs.Shares.{begin_in, AreRowsTo}
+use Rattle.spp_parts.proofs.Begins.{begin_in}
+use Rattle.spp_parts.proofs.Shares.{AreRowsTo}
 use Rattle.spp_parts.proofs.Chosen.{AreChosen}
 use Rattle.spp_parts.proofs.in_parts.table_in_parts.Given as goal
 

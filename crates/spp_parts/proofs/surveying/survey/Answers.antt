@@ -87,4 +87,4 @@ returns-clause-parts c es are =
     let same : u.records ≡ t.records = ap (λ (v : Recording). v.records) c.trace.ensures in
     let small = known_small u.records (length u.sites) (length u.funcs) es c.keeps_limits.ensures.limits.events (same ∙ are) c.keeps_limits.ensures.events in
     let cover = subst (λ l. Cover t 0 0 l (length t.records)) (sym c.parts-parts.ensures.parts) c.parts-parts.ensures.cut in
-    are_of_parts t c.args.burdens ps c.loop-part.each.items c.in_ok-finish.field-0 es cover is figures are small
+    are_of_parts t c.args.burdens ps c.loop-part.each.items es cover is figures.well_formed are small

@@ -1,4 +1,4 @@
-use Rattle.std.proofs.Common.{◌≡◌, ◌<◌, ◌^◌, ap, arith, sym, subst, refl, List, length, Some, [], ◌∷◌, ◌++◌, ◌∙◌}
+use Rattle.std.proofs.Common.{◌≡◌, ◌+◌, ◌<◌, ◌^◌, ap, arith, sym, subst, refl, List, length, Some, [], ◌∷◌, ◌++◌, ◌∙◌}
 use Rattle.std.specs.Prelude.{slice_get}
 use Rattle.std.proofs.lemmas.Option.{slice_get_within}
 use Rattle.std.proofs.lemmas.List.{length-append}
@@ -7,8 +7,8 @@ use Rattle.spp_stack.specs.declared.stacks.Start.{Start}
 use Rattle.spp_stack.proofs.PartsPassed.{going, gone_first, tops_more, told_next, told_first}
 use Rattle.spp_stack.proofs.part_by_part.entries.Goals as goal
 
-first : (c : goal.In_ok-push) → c.push.new.self.items ≡ record { top = 0; work = 0 } ∷ []
-first c = c.in_ok-push.ensures.items ∙ ap (λ (l : List Start). l ++ record { top = 0; work = 0 } ∷ []) c.in_ok-starts.ensures.items
+first : (c : goal.In_ok-push) → c.push.new.self.items ≡ record { top = 0; at = 0; work = 0 } ∷ []
+first c = c.in_ok-push.ensures.items ∙ ap (λ (l : List Start). l ++ record { top = 0; at = 0; work = 0 } ∷ []) c.in_ok-starts.ensures.items
 
 pub loop-summary-init : goal.loop-summary-init
 loop-summary-init c = record {
@@ -16,10 +16,11 @@ loop-summary-init c = record {
   told = λ es p. told_first es c.args.root c.args.summaries.now c.in_ok-builder.builder c.push.new.self.items
       (gone_first es c.args.root c.args.summaries.now p c.in_ok-builder.builder c.in_ok-builder.ensures.stands)
       c.in_ok-builder.ensures.kept (sym c.in_ok-builder.ensures.one) (let s = c.in_ok-builder.ensures.stands in sym s.work) (first c);
+  at = refl;
   kept = c.in_ok-builder.ensures.kept;
   starts = ap length (first c);
   nodes = c.in_ok-builder.ensures.one;
-  tops = λ k t e. tops_more [] (record { top = 0; work = 0 }) 0 (length c.in_ok-builder.builder.nodes.items) (omega arith) (omega (arith, c.in_ok-builder.ensures.one))
+  tops = λ k t e. tops_more [] (record { top = 0; at = 0; work = 0 }) 0 (length c.in_ok-builder.builder.nodes.items) (omega arith) (omega (arith, c.in_ok-builder.ensures.one))
       (λ j u g. let l = slice_get_within [] j u g in absurd (omega arith)) k t (subst (λ l. slice_get l k ≡ Some t) (first c) e);
 }
 
@@ -83,13 +84,14 @@ loop-summary-preserved c =
       told = λ es q.
           let g = c.loop-summary.invariant.gone es q in
           let n = going es c.args.root c.args.summaries.now q i c.summary-item.result c.loop-summary.builder c.loop-summary-test.true c.summary-item.is g in
-          told_next es c.args.root c.args.summaries.now c.loop-summary.builder c.pass.new.self c.loop-summary.starts.items c.push-in-loop-summary.new.self.items c.last.result c.pass.new.self.work i
+          told_next es c.args.root c.args.summaries.now c.loop-summary.builder c.pass.new.self c.loop-summary.starts.items c.push-in-loop-summary.new.self.items c.last.result (c.loop-summary.at + c.events-at.result) c.pass.new.self.work i
           (c.loop-summary.invariant.told es q) c.in_ok-pass.ensures.chains (n.next c.pass.new.self (c.in_ok-pass.ensures.stands g.at g.stands n.goes))
-          c.in_ok-pass.ensures.kept c.last.ensures refl c.loop-summary.invariant.starts c.in_ok-push-2.ensures.items;
+          c.in_ok-pass.ensures.kept c.last.ensures (omega (arith, c.loop-summary.invariant.at, c.events-at.ensures.value, n.begin)) refl c.loop-summary.invariant.starts c.in_ok-push-2.ensures.items;
+      at = omega (arith, c.loop-summary.invariant.at, c.events-at.ensures.value, m.begin);
       kept = c.in_ok-pass.ensures.kept;
-      starts = omega (arith, c.loop-summary.invariant.starts, length-append c.loop-summary.starts.items (record { top = c.last.result; work = c.pass.new.self.work } ∷ []));
+      starts = omega (arith, c.loop-summary.invariant.starts, length-append c.loop-summary.starts.items (record { top = c.last.result; at = c.loop-summary.at + c.events-at.result; work = c.pass.new.self.work } ∷ []));
       nodes = omega (arith, c.in_ok-pass.ensures.count, c.loop-summary.invariant.nodes, m.opened);
-      tops = λ k t e. tops_more c.loop-summary.starts.items (record { top = c.last.result; work = c.pass.new.self.work }) (length c.loop-summary.builder.nodes.items) (length c.pass.new.self.nodes.items)
+      tops = λ k t e. tops_more c.loop-summary.starts.items (record { top = c.last.result; at = c.loop-summary.at + c.events-at.result; work = c.pass.new.self.work }) (length c.loop-summary.builder.nodes.items) (length c.pass.new.self.nodes.items)
           (omega (arith, c.in_ok-pass.ensures.count)) (omega (arith, c.last.ensures)) c.loop-summary.invariant.tops k t (subst (λ l. slice_get l k ≡ Some t) c.in_ok-push-2.ensures.items e);
     }
 

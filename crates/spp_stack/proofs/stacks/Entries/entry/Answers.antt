@@ -24,13 +24,14 @@ invariant_of-result c =
     }
 
 pub returns : goal.returns
-returns c fs work h =
+returns c at fs work h =
     let s = c.index-start.result.now in
     let get = start_is c in
-    let i = subst (λ (z : Stacks). IsStart z c.args.k fs work) (sym c.self.view_is) h in
+    let i = subst (λ (z : Stacks). IsStart z c.args.k at fs work) (sym c.self.view_is) h in
     let got = i.is in
     let is : i.start ≡ s = cc in (
       subst (λ l. IsChain l (Some s.top) fs) (sym (nodes_are c))
           (subst (λ (z : Start). IsChain c.self.inside.nodes.items (Some z.top) fs) is i.chain),
+      sym (i.at ∙ ap (λ (z : Start). z.at) is),
       sym (i.work ∙ ap (λ (z : Start). z.work) is),
     )

@@ -1,0 +1,34 @@
+//! The open frames where the parts of a cut begin.
+
+ghost use Rattle.std.specs.Prelude.{◌≡◌, ℕ, ◌+◌, ◌≤◌, length, map, IfOk};
+ghost use Rattle.spp_cut.specs.Parts.{records_in};
+ghost use Rattle.spp_frame.specs.Nesting.{IsWellFormed};
+ghost use Rattle.spp_maxplus.specs.declared.state.Burdens.{Burdens};
+ghost use Rattle.spp_piece.specs.Account.{account_of};
+ghost use Rattle.spp_stack.specs.Parts.{AreEntriesOf, open_count};
+
+use spp_cut::Cut;
+use spp_stack::{Entries, entries};
+use spp_summary::Summary;
+use std::alloc::{AllocError, Global};
+
+/// The open frames where the parts of a cut trace begin, and where it ends, from the summaries of its parts in order.
+/// Time, memory and the number of nodes are those of `entries`.
+///
+/// # Errors
+///
+/// Where a growth was refused.
+pub fn entries_of(
+    alloc: Global,
+    cut: &Cut<'_, '_>,
+    each: &[Summary],
+) -> Result<Entries, AllocError>
+    requires well_formed { IsWellFormed cut.now.trace.records }
+    requires each { (burdens : Burdens) × (each.now ≡ map (λ p. account_of burdens p.first (records_in p)) cut.now.parts) }
+    ensures entries { IfOk result (λ r. AreEntriesOf cut.now r) }
+    ensures nodes { IfOk result (λ r. length r.nodes ≤ 1 + length cut.now.parts + open_count each.now) }
+{
+    cut.trace().keeps_limits();
+    let _parts = cut.parts();
+    entries(alloc, cut.trace().root(), each)
+}
