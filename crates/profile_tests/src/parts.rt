@@ -155,6 +155,43 @@ fn a_frame_lives_on_in_later_parts(rt: HostRuntime) -> Result<(), Fail> {
     Ok(())
 }
 
+/// The position where part `k` begins, and that of the end behind the last part.
+fn position_at(stacks: &Entries, k: usize) -> Option<u32> {
+    if k > stacks.parts() {
+        return None;
+    }
+    Some(stacks.entry(k).at())
+}
+
+/// Whether the parts begin at these positions, the last of which is the end.
+fn begin_at(stacks: &Entries, positions: &[u32]) -> bool {
+    let mut told = positions.iter().enumerate();
+    let all = told.all(|(k, at)| position_at(stacks, k) == Some(*at));
+    all && position_at(stacks, positions.len()).is_none()
+}
+
+#[test]
+fn entries_have_the_positions_of_their_parts(rt: HostRuntime) -> Result<(), Fail> {
+    let alloc = rt.alloc();
+    let Some(cut) = stacks_at(alloc, &FORK, &[2, 4, 6]) else {
+        return Err(AllocError.into());
+    };
+    assert!(rt; begin_at(&cut, &[0, 2, 4, 6, 7]));
+    let Some(uneven) = stacks_at(alloc, &CALLS, &[1, 4, 9]) else {
+        return Err(AllocError.into());
+    };
+    assert!(rt; begin_at(&uneven, &[0, 1, 4, 9, 9]));
+    let Some(even) = stacks_in(alloc, &[S1, S2], 5) else {
+        return Err(AllocError.into());
+    };
+    assert!(rt; begin_at(&even, &[0, 0, 0, 1, 1, 2]));
+    let Some(none) = stacks_in(alloc, &[], 1) else {
+        return Err(AllocError.into());
+    };
+    assert!(rt; begin_at(&none, &[0, 0]));
+    Ok(())
+}
+
 /// The frame of the node that is told for the beginning of part `k`.
 fn top_at(stacks: &Entries, k: usize) -> Option<EntryFrame> {
     if k > stacks.parts() {

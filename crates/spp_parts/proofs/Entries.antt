@@ -1,11 +1,13 @@
 -- The entries of a cut are those of its parts.
-use Rattle.std.proofs.Common.{◌≡◌, ℕ, ◌+◌, ◌≤◌, List, length, map, get_or, Some, Ok, sym, ap, subst, ◌∙◌, arith}
+use Rattle.std.proofs.Common.{◌≡◌, ℕ, ◌+◌, ◌≤◌, ◌^◌, List, length, map, get_or, Some, Result, Ok, Err, IfOk, sym, ap, subst, ◌∙◌, arith}
 use Rattle.std.specs.Prelude.{slice_get}
 use Rattle.std.proofs.lemmas.List.{length-map}
 use Rattle.std.proofs.lemmas.Option.{slice_get_within, slice_get-get_or}
 use Rattle.spp_event.specs.declared.records.Event.{Event}
-use Rattle.spp_event.specs.Recordings.{Record, Recording}
+use Rattle.spp_event.specs.Recordings.{Record, Recording, AreEventsOf}
+use Rattle.spp_frame.specs.Nesting as nesting
 use Rattle.spp_frame.specs.Nesting.{AreEvents}
+use Rattle.spp_frame.proofs.Laws.{well_formed_are_events}
 use Rattle.spp_cut.specs.Parts.{PartOf, CutOf, IsCut}
 use Rattle.spp_maxplus.specs.declared.state.Burdens.{Burdens}
 use Rattle.spp_dag.specs.declared.stack.EntryFrame.{EntryFrame}
@@ -13,9 +15,10 @@ use Rattle.spp_dag.specs.Trace.{IsWellFormed}
 use Rattle.spp_dag.specs.Choices.{IsEntry}
 use Rattle.spp_piece.specs.Account.{Account}
 use Rattle.spp_stack.specs.Chain.{Stacks, StackOf, IsStart, HasFrames}
-use Rattle.spp_stack.specs.Parts.{begin_of, IsEntryAt, IsEntryOf, AreEntriesOf}
+use Rattle.spp_stack.specs.Parts.{begin_of, AreOfParts, IsEntryAt, IsEntryOf, AreEntriesOf}
 use Rattle.spp_pass.specs.Outside.{StandsAt}
-use Rattle.spp_parts.proofs.Accounts.{account_in}
+use Rattle.spp_parts.proofs.Accounts.{account_in, are_of_parts}
+use Rattle.spp_parts.proofs.Known.{known_small}
 use Rattle.spp_parts.proofs.Begins.{begin_in, PartAt, part_at, all_parts, begin_is}
 
 -- a part of a cut
@@ -27,6 +30,23 @@ part_of_cut cut whole k p is =
     subst (λ (q : PartOf). PartAt cut.trace 0 cut.parts k q) same (part_at cut.trace 0 0 (length cut.trace.records) cut.parts whole k p lt)
 
 -- ---- where the stacks are told by the accounts of the parts
+
+-- the accounts are those of the parts of these events
+pub record OfCut (cut : CutOf) (accounts : List Account) : Type 0 where
+  pub events : List Event
+  pub are_events : AreEvents cut.trace.records events
+  pub are : AreOfParts events accounts
+
+pub of_cut : (cut : CutOf) (u : Recording) (b : Burdens) (accounts : List Account) → IsCut cut → accounts ≡ map (account_in b) cut.parts → nesting.IsWellFormed cut.trace.records
+    → u ≡ cut.trace → length u.records ≤ 2 ^ 28 → AreEventsOf (length u.sites) (length u.funcs) u.records → OfCut cut accounts
+of_cut cut u b accounts whole are_of wf same few good =
+    let all = well_formed_are_events cut.trace.records wf in
+    let small = known_small u.records (length u.sites) (length u.funcs) all.0 few (ap (λ (v : Recording). v.records) same ∙ all.1) good in
+    record {
+      events = all.0;
+      are_events = all.1;
+      are = are_of_parts cut.trace b cut.parts accounts all.0 whole are_of wf all.1 small;
+    }
 
 module _ (cut : CutOf) (whole : IsCut cut) (b : Burdens) (accounts : List Account) (are_of : accounts ≡ map (account_in b) cut.parts) (es : List Event) (are : AreEvents cut.trace.records es) (s : Stacks)
     (told : (k : ℕ) → k ≤ length accounts → IsEntryOf es cut.trace.root accounts s k) where
@@ -60,6 +80,11 @@ module _ (cut : CutOf) (whole : IsCut cut) (b : Burdens) (accounts : List Accoun
     begins = entry_of;
     ends = entry_of_end;
   }
+
+-- what is said of a good result by two clauses
+pub both_ok : {X E : Type 0} {P Q R : X → Type 0} (x : Result X E) → ((r : X) → P r → Q r → R r) → IfOk x P → IfOk x Q → IfOk x R
+both_ok (Ok r) f p q = f r p q
+both_ok (Err e) f p q = tt
 
 -- ---- what they are for
 

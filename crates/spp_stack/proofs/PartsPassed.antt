@@ -96,7 +96,6 @@ pub record Going (es : List Event) (root : ℕ) (accounts : List Account) (i : �
   pub work : x.work + a.sum.work < 2 ^ 128
   pub opened : open_count (take (i + 1) accounts) ≡ open_count (take i accounts) + length a.sum.frames
   pub begin : begin_of accounts (i + 1) ≡ begin_of accounts i + a.events
-  pub within : begin_of accounts (i + 1) ≤ 2 ^ 28
   pub next : (v : StackBuilder) → Stands v (play entry_ops a.sum x) → Gone es root accounts (i + 1) v
 
 sum_more : (f : Account → ℕ) (accounts : List Account) (i : ℕ) (a : Account) → i < length accounts → a ≡ get_or accounts i a
@@ -150,7 +149,6 @@ going es root accounts p i a w lt is g =
       work = omega arith;
       opened = opened;
       begin = begin;
-      within = omega arith;
       next = λ v s. record {
         at = play entry_ops a.sum g.at;
         follows = follows;

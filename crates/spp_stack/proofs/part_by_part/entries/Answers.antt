@@ -62,6 +62,14 @@ pass-requires-clause-work c =
     let s = g.stands in
     omega (arith, n.work, s.work)
 
+pub overflow_add-at : goal.overflow_add-at
+overflow_add-at c =
+    let p = c.requires.parts in
+    let g = c.loop-summary.invariant.gone p.0 p.1 in
+    let small = p.1.small in
+    let gone = g.follows in
+    omega (arith, c.loop-summary.invariant.at, gone.within, small.events, c.events-at.ensures.range)
+
 pub last-requires-clause-few : goal.last-requires-clause-few
 last-requires-clause-few c =
     let p = c.requires.parts in
