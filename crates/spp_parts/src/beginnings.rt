@@ -18,11 +18,7 @@ use std::alloc::{AllocError, Global};
 /// # Errors
 ///
 /// Where a growth was refused.
-pub fn entries_of(
-    alloc: Global,
-    cut: &Cut<'_, '_>,
-    each: &[Summary],
-) -> Result<Entries, AllocError>
+pub fn entries_of(alloc: Global, cut: &Cut<'_, '_>, each: &[Summary]) -> Result<Entries, AllocError>
     requires well_formed { IsWellFormed cut.now.trace.records }
     requires each { (burdens : Burdens) × (each.now ≡ map (λ p. account_of burdens p.first (records_in p)) cut.now.parts) }
     ensures entries { IfOk result (λ r. AreEntriesOf cut.now r) }

@@ -111,7 +111,10 @@ impl<'e> Entry<'e> {
         ensures at { IfSome result (λ e. e.at ≡ self.now.at) }
     {
         let Entry {
-            nodes, at, work, ..
+            nodes,
+            at,
+            work,
+            ..
         } = *self;
         match self.innermost().below {
             None => None,

@@ -1,4 +1,4 @@
-use Rattle.std.proofs.Common.{◌≡◌, ℕ, ap, subst, ◌∙◌}
+use Rattle.std.proofs.Common.{◌≡◌, ap, subst, ◌∙◌}
 use Rattle.spp_event.specs.Recordings.{Recording}
 use Rattle.spp_stack.specs.Parts.{IsEntryOf}
 use Rattle.spp_parts.proofs.Entries.{of_cut, are_entries, both_ok}
@@ -17,5 +17,5 @@ returns-clause-entries c =
     let root : c.root.result ≡ c.args.cut.now.trace.root = c.root.ensures ∙ ap (λ (u : Recording). u.root) c.trace-2.ensures in
     both_ok c.entries.result
     (λ r starts told. are_entries c.args.cut.now c.parts-parts.ensures.cut c.requires.each.0 c.args.each.now c.requires.each.1 p.events p.are_events r
-        (λ k le. subst (λ n. IsEntryOf p.events n c.args.each.now r k) root (told p.events p.are k le)) p.are.well_formed starts)
+    (λ k le. subst (λ n. IsEntryOf p.events n c.args.each.now r k) root (told p.events p.are k le)) p.are.well_formed starts)
     c.entries.ensures.starts c.entries.ensures.entries
