@@ -37,7 +37,7 @@ use Rattle.spp_pass.specs.Weights.{LeanFrame}
 use Rattle.spp_pass.specs.declared.weights.Weights.{Weights}
 use Rattle.spp_pass.specs.Weights.{weights_of, child_weight, kept}
 use Rattle.spp_pass.specs.Passes.{Seen, child_of, state_of, row_of, joins_at, ends_at, start_seen, strand_seen, sync_seen, open_seen, returned_frame}
-use Rattle.spp_pass.specs.Outside.{spawn_of, entered_frame, entered_frames}
+use Rattle.spp_pass.specs.Outside.{spawn_of, entered_frame, entered_frames, AreBelow}
 use Rattle.spp_pass.proofs.Keeping as figures
 use Rattle.spp_pass.proofs.Keeping.{kept_return}
 use Rattle.spp_pass.proofs.TablePart.{state_sum}
@@ -46,7 +46,7 @@ use Rattle.spp_dag.proofs.OpenEntries.{AreOpen}
 use Rattle.spp_pass.proofs.Shared.{share_none}
 use Rattle.spp_pass.proofs.Choosing.{none_from}
 use Rattle.spp_pass.proofs.Projected.{lean, counted, IsNeat, AllNeat}
-use Rattle.spp_pass.proofs.Passed.{leans, IsRead, Passed, start_passed, strand_passed, sync_passed, call_passed, spawn_passed, return_passed}
+use Rattle.spp_pass.proofs.Passed.{leans, IsRead, site_bound, Passed, start_passed, strand_passed, sync_passed, call_passed, spawn_passed, return_passed}
 
 -- ---- a pass over all events
 
@@ -72,6 +72,7 @@ added_row t site row = (
 pub record Sound (trace : Recording) : Type 0 where
   pub formed : nesting.IsWellFormed trace.records
   pub short : length trace.records ≤ 268435456
+  pub few : length trace.sites ≤ 65536
   pub within : AreEventsOf (length trace.sites) (length trace.funcs) trace.records
 
 pub light : unburdened.continuation + unburdened.join ≤ 8589934592
@@ -188,6 +189,10 @@ rested_neat : (fs : List CountedFrame) → AllNeat fs → AllNeat (map rested fs
 rested_neat [] h = tt
 rested_neat (f ∷ fs) h = (h.0, rested_neat fs h.1)
 
+rested_sites : (n : ℕ) (fs : List CountedFrame) → AreBelow n fs → AreBelow n (map rested fs)
+rested_sites n [] h = tt
+rested_sites n (f ∷ fs) h = (h.0, rested_sites n fs h.1)
+
 rested_entries : (fs : List CountedFrame) → entries (map counted (map rested fs)) ≡ entries (map counted fs)
 rested_entries [] = refl
 rested_entries (f ∷ fs) = ap (λ l. (counted f).entry ∷ l) (rested_entries fs)
@@ -226,6 +231,7 @@ begun_passed trace i s at =
     record {
       reached = subst (λ l. figures.Kept trace.records unburdened trace.root i s.work l) (sym (rested_leans s.frames)) at.reached;
       neat = rested_neat s.frames at.neat;
+      sites = rested_sites (site_bound trace) s.frames at.sites;
       bounded = record {
         low = λ key. subst (λ r. Low i s.work r) (sym (no_rows s.frames key)) (low_zero i s.work);
         sites = λ x. at.bounded.sites x ∙ ap (λ l. has_site l x) (sym same);

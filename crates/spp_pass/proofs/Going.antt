@@ -28,13 +28,13 @@ use Rattle.spp_site.proofs.RowSums.{none_owed, low_fits}
 use Rattle.spp_pass.specs.declared.part.PartResult.{PartResult}
 use Rattle.spp_pass.specs.declared.summing.CountedFrame.{CountedFrame}
 use Rattle.spp_pass.specs.Passes.{Seen, HasOpen, OnTop, strand_seen, sync_seen, open_seen, CanAdd, CanReturn, Returns}
-use Rattle.spp_pass.specs.Outside.{StandsAt, entered_frame, entered_frames, IsBegun, IsOutside, IsReached, frame_key, local_rows, FitsOpen, IsSuspended}
+use Rattle.spp_pass.specs.Outside.{StandsAt, entered_frame, entered_frames, IsBegun, IsOutside, IsReached, frame_key, local_rows, AreBelow, FitsOpen, IsSuspended}
 use Rattle.spp_pass.specs.Shares.{IsPartOf}
 use Rattle.spp_dag.specs.ChoiceLists.{IsWithin}
 use Rattle.spp_dag.specs.ChoiceLists.{AreRising, IsEnd, IsJoin}
 use Rattle.spp_pass.proofs.Bounded.{entries, owed}
 use Rattle.spp_pass.proofs.Projected.{counted}
-use Rattle.spp_pass.proofs.Passed.{IsRead, Passed, ready_add, strand_passed, sync_passed, call_passed, spawn_passed, ready_return, return_passed, events_len}
+use Rattle.spp_pass.proofs.Passed.{IsRead, site_bound, Passed, ready_add, strand_passed, sync_passed, call_passed, spawn_passed, ready_return, return_passed, events_len}
 use Rattle.spp_pass.proofs.Anywhere.{Sound, light, reads, not_alone, passed_to, passed_even, rested, begun_seen, begun_passed, entered_are}
 
 -- the pass, with frames outside
@@ -51,10 +51,11 @@ pub record Going (trace : Recording) (first i : ℕ) (outside : Option StackOf) 
 -- ---- what is known of the trace, as it is read
 
 pub sound_of : (trace : Recording) (first : ℕ) (stack : StackOf) → StandsAt trace first stack → length trace.records ≤ 268435456
-    → AreEventsOf (length trace.sites) (length trace.funcs) trace.records → Sound trace
-sound_of trace first stack stands short within = record {
+    → length trace.sites ≤ 65536 → AreEventsOf (length trace.sites) (length trace.funcs) trace.records → Sound trace
+sound_of trace first stack stands short few within = record {
   formed = subst (λ (rs : List Record). nesting.IsWellFormed rs) (sym stands.1) stands.2;
   short = short;
+  few = few;
   within = within;
 }
 
@@ -243,12 +244,12 @@ module _ (trace : Recording) (sound : Sound trace) (first i : ℕ) (begun : firs
       }
 
   pub going_can_return : 1 < length s.frames → CanReturn unburdened s s.frames
-  going_can_return two = by s.frames two (ready_return trace unburdened light sound.short first i begun lt (with_outside ks s) g.passed)
+  going_can_return two = by s.frames two (ready_return trace unburdened light sound.short first i begun lt sound.few (with_outside ks s) g.passed)
     where
       by : (frames : List CountedFrame) → 1 < length frames → CanReturn unburdened (with_outside ks s) (frames ++ ks) → CanReturn unburdened s frames
       by [] l can = absurd (omega arith)
       by (f ∷ []) l can = absurd (omega arith)
-      by (f ∷ h ∷ fs) l can = record { fits = can.fits; before = can.before; row = can.row }
+      by (f ∷ h ∷ fs) l can = record { fits = can.fits; before = can.before; site = can.site; row = can.row }
 
   pub going_return : IsRead trace i Ret → 1 < length s.frames → (went : Bool) (new : Seen) → Returns unburdened i s s.frames went new → Going trace first (suc i) outside new
   going_return r two went new h = by s.frames two h g.passed
@@ -280,6 +281,15 @@ module _ (trace : Recording) (sound : Sound trace) (first i : ℕ) (begun : firs
 
 -- ---- the end
 
+-- so are those of fewer frames, and below more
+below_first : (n : ℕ) (fs more : List CountedFrame) → AreBelow n (fs ++ more) → AreBelow n fs
+below_first n [] more h = tt
+below_first n (f ∷ fs) more h = (h.0, below_first n fs more h.1)
+
+below_more : (n m : ℕ) → n ≤ m → (fs : List CountedFrame) → AreBelow n fs → AreBelow m fs
+below_more n m l [] h = tt
+below_more n m l (f ∷ fs) h = ((let z : f.site < n = h.0 in omega arith), below_more n m l fs h.1)
+
 none_outside : (hs : List EntryFrame) (key : Option ℕ) → owed (map counted (entered_frames hs)) key ≡ zero_row
 none_outside [] key = refl
 none_outside (h ∷ hs) key =
@@ -290,6 +300,9 @@ owed_open [] hs key = none_outside hs key
 owed_open (f ∷ fs) hs key = ap (λ r. plus (cond (same_key (frame_key f) key) (strand_row f.local) zero_row) r) (owed_open fs hs key)
 
 module _ (trace : Recording) (sound : Sound trace) (first i : ℕ) (within : i ≤ length trace.records) (outside : Option StackOf) (s : Seen) (g : Going trace first i outside s) where
+  pub going_sites : AreBelow 65536 s.frames
+  going_sites = below_more (site_bound trace) 65536 (let z = sound.few in omega arith) s.frames (below_first (site_bound trace) s.frames (entered_frames g.frames) g.passed.sites)
+
   pub going_suspend : FitsOpen s
   going_suspend key =
       let short = sound.short in

@@ -1,6 +1,6 @@
 -- What a pass over the events of a run keeps: its frames are those of the figures, its counts and sums are within
 -- bounds, and if the trace is well-formed its table and its choices are those so far.
-use Rattle.std.proofs.Common.{◌≡◌, ℕ, suc, ◌+◌, ◌*◌, ◌<◌, ◌≤◌, ◌^◌, true, false, List, [], ◌∷◌, ◌++◌, length, map, take, Some, None, Ok, IfOk, refl, sym, ap, subst, ◌∙◌, arith}
+use Rattle.std.proofs.Common.{◌≡◌, ℕ, suc, ◌+◌, ◌*◌, ◌<◌, ◌≤◌, ◌^◌, max, true, false, List, [], ◌∷◌, ◌++◌, length, map, take, Some, None, Ok, IfOk, refl, sym, ap, subst, ◌∙◌, arith}
 use Rattle.std.proofs.lemmas.List.{length-map, append-nil}
 use Rattle.spp_event.specs.declared.records.Event.{Event}
 use Rattle.spp_event.specs.declared.records.Event.TheVariants.{Strand, Call, Spawn, Ret, Sync}
@@ -37,6 +37,7 @@ use Rattle.spp_pass.specs.Weights.{LeanFrame}
 use Rattle.spp_site.specs.Profiles.{IsDagTable}
 use Rattle.spp_pass.specs.Weights.{close, advance}
 use Rattle.spp_pass.specs.Passes.{Seen, state_of, joins_at, ends_at, start_seen, strand_seen, sync_seen, open_seen, OnTop, HasOpen, CanAdd, CanReturn, IsReturned, Returns, CanFinish, IsFinished}
+use Rattle.spp_pass.specs.Outside.{AreBelow}
 use Rattle.spp_pass.proofs.Keeping as figures
 use Rattle.spp_pass.proofs.Keeping.{kept_none, kept_more, all_kept}
 use Rattle.spp_pass.proofs.Bounded.{entries, Bounded, start_bounded, strand_bounded, sync_bounded, open_bounded, return_bounded, local_le, closable, finishable}
@@ -58,10 +59,15 @@ JoinFrom es from j = IsJoin es j × (from ≤ j.at)
 abbrev pub AreNoted : List Event → ℕ → ℕ → List End → List Choice → Type 0
 AreNoted es from i ends joins = AreTo (λ (e : End). e.at) (EndFrom es from) i ends × AreTo (λ (j : Choice). j.at) (JoinFrom es from) i joins
 
+-- the sites of frames are those of the trace; the root has site 0, also where the trace has no site
+abbrev pub site_bound : Recording → ℕ
+site_bound trace = max 1 (length trace.sites)
+
 -- before the event at i the pass, which began at `from`, has s
 pub record Passed (trace : Recording) (burdens : Burdens) (from i : ℕ) (s : Seen) : Type 0 where
   pub reached : figures.Kept trace.records burdens trace.root i s.work (leans s.frames)
   pub neat : AllNeat s.frames
+  pub sites : AreBelow (site_bound trace) s.frames
   pub bounded : Bounded i (told s)
   pub shared : (es : List Event) → AreEvents trace.records es → IsWellFormed es → (span : ℕ → ℕ) → AreSpans es span → Shared es trace.root span from i (told s)
   pub noted : (es : List Event) → AreEvents trace.records es → IsWellFormed es → AreNoted es from i s.ends s.joins
@@ -72,6 +78,7 @@ pub start_passed : (trace : Recording) (burdens : Burdens) (s : Seen) → s ≡ 
 start_passed trace burdens s e = subst (λ x. Passed trace burdens 0 0 x) (sym e) (record {
   reached = kept_none trace.records burdens trace.root;
   neat = ((λ c. refl), tt);
+  sites = (omega arith, tt);
   bounded = start_bounded trace.root;
   shared = λ es are wf span spans. start_shared es wf trace.root span spans;
   noted = λ es are wf. (none_from (λ (e : End). e.at) (IsEnd es) 0, none_from (λ (j : Choice). j.at) (IsJoin es) 0);
@@ -186,6 +193,7 @@ module _ (trace : Recording) (burdens : Burdens) (light : burdens.continuation +
       by (f ∷ fs) at = record {
         reached = goes (Strand n) r.0 (let z : n < 2 ^ 64 = r.1 in omega arith) _ _ s.work (s.work + n) refl refl at.reached;
         neat = at.neat;
+        sites = at.sites;
         bounded = strand_bounded i n r.1 (counted f) (map counted fs) s.open_sites s.open_funcs s.work s.table at.bounded;
         shared = λ es are wf span spans.
             strand_shared es wf trace.root span spans from i begun n (event_is trace.records es i (Strand n) are lt r.0) (counted f) (map counted fs) s.open_sites s.open_funcs s.work s.table (at.shared es are wf span spans);
@@ -212,6 +220,7 @@ module _ (trace : Recording) (burdens : Burdens) (light : burdens.continuation +
           record {
             reached = goes Sync r.0 (omega arith) _ _ s.work s.work refl (omega arith) at.reached;
             neat = ((λ c. refl), at.neat.1);
+            sites = at.sites;
             bounded = subst (λ t. Bounded (suc i) t) (sym tells) (sync_bounded i (counted f) (map counted fs) s.open_sites s.open_funcs s.work s.table at.bounded);
             shared = λ es are wf span spans. subst (λ t. Shared es trace.root span from (suc i) t) (sym tells)
                 (sync_shared es wf trace.root span spans from i begun (event_is trace.records es i Sync are lt r.0) (counted f) (map counted fs) s.open_sites s.open_funcs s.work s.table (at.shared es are wf span spans));
@@ -237,6 +246,7 @@ module _ (trace : Recording) (burdens : Burdens) (light : burdens.continuation +
           record {
             reached = goes (Call site func) r.0 (omega arith) _ _ s.work s.work refl (omega arith) at.reached;
             neat = ((λ c. refl), at.neat);
+            sites = ((let z : site < length trace.sites = r.1.0 in omega arith), at.sites);
             bounded = open_bounded i Called site func refl (counted f) (map counted fs) s.open_sites s.open_funcs s.work s.table at.bounded;
             shared = λ es are wf span spans.
                 call_shared es wf trace.root span spans from i begun site func (event_is trace.records es i (Call site func) are lt r.0) (counted f) (map counted fs) s.open_sites s.open_funcs s.work s.table at.bounded (at.shared es are wf span spans);
@@ -253,6 +263,7 @@ module _ (trace : Recording) (burdens : Burdens) (light : burdens.continuation +
           record {
             reached = goes (Spawn site func) r.0 (omega arith) _ _ s.work s.work refl (omega arith) at.reached;
             neat = ((λ c. refl), at.neat);
+            sites = ((let z : site < length trace.sites = r.1.0 in omega arith), at.sites);
             bounded = open_bounded i Spawned site func refl (counted f) (map counted fs) s.open_sites s.open_funcs s.work s.table at.bounded;
             shared = λ es are wf span spans.
                 spawn_shared es wf trace.root span spans from i begun site func (event_is trace.records es i (Spawn site func) are lt r.0) (counted f) (map counted fs) s.open_sites s.open_funcs s.work s.table at.bounded (at.shared es are wf span spans);
@@ -262,8 +273,8 @@ module _ (trace : Recording) (burdens : Burdens) (light : burdens.continuation +
 
   -- ---- a return
 
-  pub ready_return : (s : Seen) → Now s → CanReturn burdens s s.frames
-  ready_return s at = by s.frames at
+  pub ready_return : length trace.sites ≤ 65536 → (s : Seen) → Now s → CanReturn burdens s s.frames
+  ready_return few s at = by s.frames at
     where
       by : (frames : List CountedFrame) → Now (record s { frames = frames }) → CanReturn burdens s frames
       by [] at = absurd at.bounded.open_frames
@@ -276,6 +287,7 @@ module _ (trace : Recording) (burdens : Burdens) (light : burdens.continuation +
           record {
             fits = record { plain = omega arith; burdened = omega arith };
             before = c.before;
+            site = (let z : f.site < site_bound trace = at.sites.0 in omega arith);
             row = subst (λ r. Fits (plus (row_at s.table f.site) r)) (sym (row_is f s.work at.neat.0)) c.row;
           }
 
@@ -295,6 +307,7 @@ module _ (trace : Recording) (burdens : Burdens) (light : burdens.continuation +
       record {
         reached = goes Ret r.0 (omega arith) _ _ s.work new.work (ap (λ (l : List CountedFrame). Some (leans l)) (sym h.frames)) (h.work ∙ omega arith) at.reached;
         neat = subst AllNeat (sym h.frames) (neat_returned burdens f g at.neat.1.0, at.neat.1.1);
+        sites = subst (AreBelow (site_bound trace)) (sym h.frames) at.sites.1;
         bounded = return_bounded i (omega arith) (counted f) (counted g) (map counted fs) s.open_sites s.open_funcs s.work s.table (told new) at.bounded tells;
         shared = λ es are wf span spans.
             return_shared es wf trace.root span spans from i begun (event_is trace.records es i Ret are lt r.0) (counted f) (counted g) (map counted fs) s.open_sites s.open_funcs s.work s.table (told new) at.bounded tells (at.shared es are wf span spans);

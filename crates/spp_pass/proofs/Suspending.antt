@@ -1,7 +1,8 @@
 -- The strands of open frames come to their rows, one frame after another.
-use Rattle.std.proofs.Common.{◌≡◌, ℕ, suc, ◌+◌, ◌<◌, ◌≤◌, Bool, true, false, cond, List, [], ◌∷◌, ◌++◌, length, reverse, drop, get_or, Option, refl, sym, ap, ap₂, subst, ◌∙◌, arith}
+use Rattle.std.proofs.Common.{◌≡◌, ℕ, suc, ◌+◌, ◌-◌, ◌<◌, ◌≤◌, Bool, true, false, cond, List, [], ◌∷◌, ◌++◌, length, reverse, drop, get_or, Option, refl, sym, ap, ap₂, subst, ◌∙◌, arith}
 use Rattle.std.proofs.lemmas.Grind.{reverse_onto}
-use Rattle.std.proofs.lemmas.List.{drop_all}
+use Rattle.std.proofs.lemmas.List.{drop_all, length-reverse, get_or-reverse}
+use Rattle.std.proofs.lemmas.List.Elements.{All-get_or, All-from_recursion}
 use Rattle.std.proofs.Math.Seq.{drop-cons}
 use Rattle.spp_dag.specs.declared.row.Row.{Row}
 use Rattle.spp_dag.specs.Shares.{plus, zero_row}
@@ -12,7 +13,7 @@ use Rattle.spp_site.proofs.Rows.{plus-zero, zero-plus, plus-assoc}
 use Rattle.spp_dag.proofs.Shares.{same_rows}
 use Rattle.spp_site.specs.Profiles.{key_row}
 use Rattle.spp_pass.specs.declared.summing.CountedFrame.{CountedFrame}
-use Rattle.spp_pass.specs.Outside.{frame_key, local_rows, AreStrandsAdded}
+use Rattle.spp_pass.specs.Outside.{frame_key, local_rows, AreBelow, AreStrandsAdded}
 use Rattle.spp_pass.proofs.Bounded.{same_self}
 
 plus-turn : (a b : Row) → plus a b ≡ plus b a
@@ -30,6 +31,16 @@ local_rows-reverse (x ∷ xs) key =
     let r : Row = cond (same_key (frame_key x) key) (strand_row x.local) zero_row in
     ap (λ l. local_rows l key) (reverse_onto xs x []) ∙ local_rows-append (reverse xs) (x ∷ []) key
     ∙ ap₂ plus (local_rows-reverse xs key) (plus-zero r) ∙ plus-turn (local_rows xs key) r
+
+-- each of the frames is as all are, in whichever order they are told
+pub one_below : (n : ℕ) (items read : List CountedFrame) (k : ℕ) (d : CountedFrame) → read ≡ items → k < length read → AreBelow n (reverse items) → (get_or read k d).site < n
+one_below n items read k d same lt h =
+    let len : length read ≡ length items = ap (λ (l : List CountedFrame). length l) same in
+    let turned : length (reverse items) ≡ length items = length-reverse items in
+    let back : get_or (reverse items) (length items - 1 - k) d ≡ get_or items k d =
+    get_or-reverse items (length items - 1 - k) d (omega arith) ∙ ap (λ j. get_or items j d) (let z : length items - 1 - (length items - 1 - k) ≡ k = omega arith in z) in
+    subst (λ (f : CountedFrame). f.site < n) (back ∙ ap (λ (l : List CountedFrame). get_or l k d) (sym same))
+    (All-get_or (λ (f : CountedFrame). f.site < n) (reverse items) (length items - 1 - k) d (omega arith) (All-from_recursion (λ (f : CountedFrame). f.site < n) (reverse items) h))
 
 -- the rows of a table, with the strands that it lacks
 abbrev pub Whole : Sums → List CountedFrame → (Option ℕ → Row) → Type 0

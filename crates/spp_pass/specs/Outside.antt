@@ -1,6 +1,7 @@
 -- What a pass over a part of a run has, besides the pass over the whole: frames that were open before it, of which
 -- those that it hasn't come to lie outside, and the strands of those that it leaves open.
 use Rattle.std.specs.Prelude.{◌≡◌, ℕ, ◌<◌, Bool, not, cond, List, [], ◌∷◌, ◌++◌, length, Option, Some, None}
+use Rattle.std.specs.List.{AllByRecursion}
 use Rattle.spp_event.specs.declared.records.Event.{Event}
 use Rattle.spp_event.specs.Recordings.{Recording}
 use Rattle.spp_frame.specs.Nesting.{AreEvents}
@@ -93,6 +94,10 @@ local_rows (f ∷ fs) key = plus (cond (same_key (frame_key f) key) (strand_row 
 abbrev pub AreStrandsAdded : Sums → Sums → Option ℕ → ℕ → Type 0
 AreStrandsAdded old new at count = (key : Option ℕ)
     → key_row new key ≡ cond (same_key at key) (plus (key_row old key) (strand_row count)) (key_row old key)
+
+-- the sites of these frames are below n
+abbrev pub AreBelow : ℕ → List CountedFrame → Type 0
+AreBelow n fs = AllByRecursion (λ f. f.site < n) fs
 
 -- the rows fit their types with these strands
 abbrev pub FitsOpen : Seen → Type 0

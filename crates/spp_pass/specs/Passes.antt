@@ -217,6 +217,7 @@ open_seen kind at site func s = record s {
 pub record CanClose (burdens : Burdens) (f g : CountedFrame) (s : Seen) : Type 0 where
   pub fits : FitsReturn burdens (returned_of f) g
   pub before : f.before ≤ s.work
+  pub site : f.site < 65536
   pub row : Fits (plus (row_at s.table f.site) (row_of f s.work))
 
 -- some frame is open, and if it isn't alone it can return

@@ -41,6 +41,7 @@ ghost use Rattle.spp_pass.specs.Outside.{
   IsReached,
   frame_key,
   AreStrandsAdded,
+  AreBelow,
   FitsOpen,
   IsSuspended,
 };
@@ -231,7 +232,8 @@ impl CountedFrame {
 
     /// Adds the counts of its strands to its row, where there are any.
     fn add_local(&self, table: &mut Table) -> Result<(), AllocError>
-        requires { Fits (plus (key_row table.old (frame_key self.now)) (strand_row self.now.local)) }
+        requires fits { Fits (plus (key_row table.old (frame_key self.now)) (strand_row self.now.local)) }
+        requires site { self.now.site < 65536 }
         ensures { OnOk result (AreStrandsAdded table.old table.new (frame_key self.now) self.now.local) }
     {
         let local = self.local;
@@ -491,7 +493,8 @@ impl Summing {
 
     /// What the pass over a part tells. The strands of the frames that are still open are in their rows.
     pub(crate) fn suspend(self) -> Result<PartResult, AllocError>
-        requires { FitsOpen (seen self) }
+        requires fits { FitsOpen (seen self) }
+        requires sites { AreBelow 65536 (seen self).frames }
         ensures { IfOk result (λ p. IsSuspended (seen self) p) }
     {
         let Summing {

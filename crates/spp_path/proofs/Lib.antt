@@ -5,5 +5,6 @@ pub mod PathSpans
 pub mod Running
 pub mod Places
 pub mod Summed
+pub mod Sites
 pub mod Summing
 pub mod Tops

@@ -9,7 +9,7 @@ use Rattle.std.proofs.lemmas.Option.{slice_get_past}
 use Rattle.spp_event.specs.declared.records.Event.{Event}
 use Rattle.spp_event.specs.declared.records.Event.TheVariants.{Strand, Call, Spawn, Ret, Sync}
 use Rattle.spp_event.specs.Records.{IsEventOf}
-use Rattle.spp_event.specs.Recordings.{Record, Recording, record_at}
+use Rattle.spp_event.specs.Recordings.{Record, Recording, AreEventsOf, record_at}
 use Rattle.spp_frame.specs.Nesting as nesting
 use Rattle.spp_frame.specs.Nesting.{AreEvents}
 use Rattle.spp_frame.proofs.Laws.{well_formed_are_events}
@@ -45,6 +45,7 @@ use Rattle.spp_path.proofs.Running.{running_first, marked}
 use Rattle.spp_path.proofs.Places.{PathFrame, entries, first}
 use Rattle.spp_dag.proofs.OpenEntries.{AreOpen}
 use Rattle.spp_dag.proofs.EventsOfRecords.{event_is}
+use Rattle.spp_path.proofs.Sites.{AllEnterBelow, trace_enters, entry_below}
 use Rattle.spp_path.proofs.Summed.{no_weight, owed, on, on_true, shown, tell, shares_to, At, Summed, StrandDone, strand_next, SyncDone, sync_next, CallDone, call_next, SpawnDone, spawn_next, HasFirst, return_next, heads, closes_with, row_is, return_rows, return_low}
 
 -- ---- the start
@@ -174,9 +175,9 @@ module _ (es : List Event) (wf : IsWellFormed es) (root : ℕ) (span : ℕ → �
           absurd cc
       by (o ∷ p ∷ os) r e = absurd (let z = ap (λ (x : List EntryFrame). length x) e in omega arith)
 
-  pub can_return : (i : ℕ) → event_at es i ≡ Some Ret → i < length es → i ≤ 268435456 → (f : EnteredFrame) (t : Told) → HasFirst f t → SummedTo i t
+  pub can_return : AllEnterBelow 65536 es → (i : ℕ) → event_at es i ≡ Some Ret → i < length es → i ≤ 268435456 → (f : EnteredFrame) (t : Told) → HasFirst f t → SummedTo i t
       → t.skipped ≡ 0 → CanReturn f t
-  can_return i is l short f t top s none =
+  can_return known i is l short f t top s none =
       subst (λ x. CanReturn f x) (sym s.is) (by s.outs s.ks s.at
       (subst (λ x. HasFirst f x) s.is top) (ap (λ x. x.skipped) (sym s.is) ∙ none))
     where
@@ -194,6 +195,7 @@ module _ (es : List Event) (wf : IsWellFormed es) (root : ℕ) (span : ℕ → �
             deep = omega arith;
             work_before = h.place.open_frames.1;
             weight_before = omega arith;
+            site = entry_below 65536 (omega arith) es known root i k.entry (entries (g ∷ ks)) t.work h.place.entry;
             row = subst (λ r. Fits (plus (row_at t.table k.entry.site) r)) (sym (row_is es wf root span spans rest path i k t.work t.weight e)) fits;
           }
 
@@ -432,12 +434,16 @@ module _ (trace : Recording) (wf : nesting.IsWellFormed trace.records) (short : 
   pub ready_open : IsOpen (told s)
   ready_open = on_top (λ f. Unit {0}) tt
 
-  pub ready_return : i < length trace.records → IsRead trace i Ret → s.skipped ≡ 0 → OnTop (λ f. CanReturn f (told s)) (told s).frames
-  ready_return l r z =
+  -- what a reader says of the trace's sites
+  abbrev pub AreKnown : Type 0
+  AreKnown = (length trace.sites ≤ 65536) × AreEventsOf (length trace.sites) (length trace.funcs) trace.records
+
+  pub ready_return : AreKnown → i < length trace.records → IsRead trace i Ret → s.skipped ≡ 0 → OnTop (λ f. CanReturn f (told s)) (told s).frames
+  ready_return known l r z =
       let g = given trace wf in
       let n = events_len g.es g.are in
       on_top (λ f. CanReturn f (told s))
-      (can_return g.es g.wf trace.root g.span g.spans g.rest g.path i (event_is trace.records g.es i Ret g.are l r.0) (omega arith) (omega arith) first_in.0 (told s) first_in.1
+      (can_return g.es g.wf trace.root g.span g.spans g.rest g.path (trace_enters 65536 (length trace.sites) (length trace.funcs) known.0 trace.records known.1 g.es g.are) i (event_is trace.records g.es i Ret g.are l r.0) (omega arith) (omega arith) first_in.0 (told s) first_in.1
       (at g.es g.are g.wf g.span g.spans g.rest g.path) z)
 
   next_to : (new : PathRows) → ((es : List Event) → AreEvents trace.records es → (wf : IsWellFormed es) (span : ℕ → ℕ) (spans : AreSpans es span) (rest : List ℕ) (path : IsPath es unburdened 0 (length es) rest) → Summed es wf trace.root span spans rest path (suc i) (told new))
@@ -469,10 +475,10 @@ module _ (trace : Recording) (wf : nesting.IsWellFormed trace.records) (short : 
       spawn_next es wf trace.root span spans rest path i (slice_index_or marks i false) site func is
       (marked es wf rest path marks (are_marks es are) i (omega arith) (ap spawns is)) (told s) (told new) (at es are wf span spans rest path) d)
 
-  pub next_return : (new : PathRows) → i < length trace.records → IsRead trace i Ret
+  pub next_return : AreKnown → (new : PathRows) → i < length trace.records → IsRead trace i Ret
       → (s.skipped ≡ 0 → OnTop (λ f. IsReturned f (told s) (told new)) (told s).frames) × (0 < s.skipped → told new ≡ leave_told (told s)) → Kept trace (i + 1) new
-  next_return new l r d =
-      let can = ready_return l r in
+  next_return known new l r d =
+      let can = ready_return known l r in
       next_to new (λ es are wf span spans rest path.
       return_next es wf trace.root span spans rest path i (event_is trace.records es i Ret are l r.0) (omega arith) first_in.0 (told s) (told new) first_in.1 (at es are wf span spans rest path)
       (λ z. (from_top (λ f. CanReturn f (told s)) (can z)).deep) (λ z. from_top (λ f. IsReturned f (told s) (told new)) (d.0 z), d.1))
@@ -490,14 +496,14 @@ module _ (trace : Recording) (wf : nesting.IsWellFormed trace.records) (short : 
       let none : nat_eq s.skipped 0 ≡ false = ne_eqb s.skipped 0 (λ e. absurd (omega arith)) in
       both_ways (nat_eq s.skipped 0 && b) (ap (λ a. a && b) none) h
 
-  pub next_pass : (marks : List Bool) → ((es : List Event) → AreEvents trace.records es → AreEntered es marks) → (e : Event) (new : PathRows) → i < length trace.records → IsRead trace i e
+  pub next_pass : AreKnown → (marks : List Bool) → ((es : List Event) → AreEvents trace.records es → AreEntered es marks) → (e : Event) (new : PathRows) → i < length trace.records → IsRead trace i e
       → 0 < s.skipped → told new ≡ passed_told e (told s) → Kept trace (i + 1) new
-  next_pass marks are (Strand n) new l r more h = next_strand n new l r (λ runs. absurd (skips (runs_in (told s).frames) more runs), λ _. h)
-  next_pass marks are (Call site func) new l r more h = next_call site func new l r (λ runs. absurd (skips (runs_in (told s).frames) more runs), λ _. h)
-  next_pass marks are (Spawn site func) new l r more h =
+  next_pass known marks are (Strand n) new l r more h = next_strand n new l r (λ runs. absurd (skips (runs_in (told s).frames) more runs), λ _. h)
+  next_pass known marks are (Call site func) new l r more h = next_call site func new l r (λ runs. absurd (skips (runs_in (told s).frames) more runs), λ _. h)
+  next_pass known marks are (Spawn site func) new l r more h =
       next_spawn marks are site func new l r (λ enters. absurd (skips (slice_index_or marks i false) more enters), λ _. h)
-  next_pass marks are Ret new l r more h = next_return new l r (λ none. absurd (omega arith), λ _. h)
-  next_pass marks are Sync new l r more h = next_sync new l r (λ none. absurd (omega arith), λ _. h)
+  next_pass known marks are Ret new l r more h = next_return known new l r (λ none. absurd (omega arith), λ _. h)
+  next_pass known marks are Sync new l r more h = next_sync new l r (λ none. absurd (omega arith), λ _. h)
 
   pub ready_finish : i ≡ length trace.records → OnTop (λ f. CanFinish f (told s)) (told s).frames
   ready_finish last =

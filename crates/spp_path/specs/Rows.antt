@@ -181,6 +181,7 @@ pub record CanReturn (f : EnteredFrame) (t : Told) : Type 0 where
   pub deep : 1 < length t.frames
   pub work_before : f.work_before ≤ t.work
   pub weight_before : f.weight_before ≤ t.weight
+  pub site : f.site < 65536
   pub row : Fits (plus (row_at t.table f.site) (entered_row f t.work t.weight))
 
 -- it has closed, and the table has its row

@@ -1,5 +1,6 @@
 pub mod Rows
 pub mod Stored
+pub mod Pigeons
 pub mod Places
 pub mod Adding
 pub mod Merging

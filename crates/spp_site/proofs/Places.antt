@@ -1,17 +1,24 @@
 -- The index: it has the place of each row, so each site has one row at most.
-use Rattle.std.proofs.Common.{◌≡◌, ℕ, zero, suc, ◌+◌, ◌-◌, ◌≤◌, ◌<◌, ◌^◌, arith, refl, sym, ◌∙◌, ap, subst, inl, inr, List, [], ◌∷◌, ◌++◌, length, get_or, set, replicate, length-append}
+use Rattle.std.proofs.Common.{◌≡◌, ℕ, zero, suc, ◌+◌, ◌-◌, ◌≤◌, ◌<◌, arith, refl, sym, ◌∙◌, ap, subst, inl, inr, List, [], ◌∷◌, ◌++◌, length, get_or, set, replicate, length-append}
 use Rattle.std.proofs.lemmas.Bool.{cases_lt, cases_eq}
 use Rattle.std.proofs.lemmas.List.{get_or-set_same, get_or-set_other, get_or_append_left, get_or_past, length-set}
 use Rattle.std.proofs.Math.Seq.{get_or-append_seam, get_or-append_right}
 use Rattle.spp_dag.specs.declared.row.Row.{Row}
 use Rattle.spp_site.specs.declared.slots.SiteRow.{SiteRow}
 use Rattle.spp_site.specs.Slots.{blank, HasNoRow, IsPlaceOf, IsIndexed}
+use Rattle.spp_site.proofs.Pigeons.{pigeons}
 
 -- a site has one place at most
 pub one_place : (index : List ℕ) (rows : List SiteRow) → IsIndexed index rows → (s j k : ℕ) → IsPlaceOf rows s j → IsPlaceOf rows s k → j ≡ k
 one_place index rows h s j k a b =
     let z : j + 1 ≡ k + 1 = sym (h.placed j a.0) ∙ (ap (λ s. get_or index s 0) (a.1 ∙ sym b.1) ∙ h.placed k b.0) in
     omega arith
+
+-- there are no more rows than the index has places
+few_rows : (index : List ℕ) (rows : List SiteRow) → IsIndexed index rows → length rows ≤ length index
+few_rows index rows h =
+    pigeons (length index) (length rows) (λ k. (get_or rows k blank).site) h.inside
+    (λ j k a b e. one_place index rows h (get_or rows k blank).site j k (a, e) (b, refl))
 
 -- zeros behind an index change nothing that it says
 zeros : (n i : ℕ) → get_or {A = ℕ} (replicate n 0) i 0 ≡ 0
@@ -26,7 +33,7 @@ longer_says index n site = elim (cases_lt site (length index)) [
 ]
 
 -- a longer index serves
-pub grown_indexed : (index grown : List ℕ) (rows : List SiteRow) (n : ℕ) → IsIndexed index rows → grown ≡ index ++ replicate n 0 → length grown ≤ 2 ^ 32 → IsIndexed grown rows
+pub grown_indexed : (index grown : List ℕ) (rows : List SiteRow) (n : ℕ) → IsIndexed index rows → grown ≡ index ++ replicate n 0 → length grown ≤ 65536 → IsIndexed grown rows
 grown_indexed index grown rows n h e small = record {
   placed = λ k l. ap (λ i. get_or i (get_or rows k blank).site 0) e ∙ (get_or_append_left index (replicate n 0) 0 (get_or rows k blank).site (h.inside k l) ∙ h.placed k l);
   exact = λ s more.
@@ -102,3 +109,10 @@ module _ (index : List ℕ) (rows : List SiteRow) (h : IsIndexed index rows) (si
         ];
         small = let i = h.small in omega arith;
       }
+
+  -- so there is room for its number
+  pub few_more : length rows < 65536
+  few_more =
+      let l : length longer ≤ length (set index site (length rows + 1)) = few_rows (set index site (length rows + 1)) longer pushed_indexed in
+      let n : length (set index site (length rows + 1)) ≡ length index = length-set index site (length rows + 1) in
+      omega (arith, new_length, h.small)

@@ -1,5 +1,5 @@
 -- How a table is stored: the rows in the order in which their sites came, and for each site the place of its row.
-use Rattle.std.specs.Prelude.{◌≡◌, ℕ, ◌+◌, ◌-◌, ◌≤◌, ◌<◌, ◌^◌, cond, nat_eq, List, [], ◌∷◌, length, get_or}
+use Rattle.std.specs.Prelude.{◌≡◌, ℕ, ◌+◌, ◌-◌, ◌≤◌, ◌<◌, cond, nat_eq, List, [], ◌∷◌, length, get_or}
 use Rattle.std.specs.Ordering.{nat_cmp}
 use Rattle.std.specs.FinMap as map
 use Rattle.spp_dag.specs.declared.row.Row.{Row}
@@ -42,10 +42,14 @@ HasNoRow rows site = (k : ℕ) → k < length rows → (get_or rows k blank).sit
 abbrev pub IsPlaceOf : List SiteRow → ℕ → ℕ → Type 0
 IsPlaceOf rows site k = (k < length rows) × ((get_or rows k blank).site ≡ site)
 
--- The index has the place of each row at its site, counted from 1, and 0 at all other sites; and it is no longer than
--- there are site numbers.
+-- the rows are of sites that a trace can have
+abbrev pub AreOfSites : List SiteRow → Type 0
+AreOfSites rows = (k : ℕ) → k < length rows → (get_or rows k blank).site < 65536
+
+-- The index has the place of each row at its site, counted from 1, and 0 at all other sites; and it is no longer than a
+-- trace can have sites. So there are no more rows than that.
 pub record IsIndexed (index : List ℕ) (rows : List SiteRow) : Type 0 where
   pub placed : (k : ℕ) → k < length rows → get_or index (get_or rows k blank).site 0 ≡ k + 1
   pub exact : (site : ℕ) → 0 < get_or index site 0 → IsPlaceOf rows site (get_or index site 0 - 1)
   pub inside : (k : ℕ) → k < length rows → (get_or rows k blank).site < length index
-  pub small : length index ≤ 2 ^ 32
+  pub small : length index ≤ 65536

@@ -1,7 +1,7 @@
 //! The rows of a part of a run.
 
 ghost use Rattle.std.specs.Prelude.{◌≡◌};
-ghost use Rattle.spp_site.specs.Slots.{stored};
+ghost use Rattle.spp_site.specs.Slots.{stored, AreOfSites};
 
 use crate::slots::SiteRow;
 use spp_dag::Row;
@@ -26,14 +26,17 @@ impl Model for Share {
 
     ghost coded = { sums_code };
 
-    ghost use Rattle.spp_site.specs.Slots.{stored};
+    ghost use Rattle.spp_site.specs.Slots.{stored, AreOfSites};
 
     ghost view = { λ s. stored s.root s.rows.items };
+
+    ghost invariant = { λ s. AreOfSites s.rows.items };
 }
 
 impl Share {
     /// The share with these rows.
     pub(crate) fn new(root: Row, rows: Vec<SiteRow>) -> Share
+        requires { AreOfSites rows.items }
         ensures { result ≡ stored root rows.items }
     {
         Share { root, rows }
@@ -48,7 +51,8 @@ impl Share {
 
     /// The rows of sites, as they are stored.
     pub(crate) fn rows(&self) -> &[SiteRow]
-        ensures { self.now ≡ stored self.now.root result.now }
+        ensures same { self.now ≡ stored self.now.root result.now }
+        ensures limit { AreOfSites result.now }
     {
         &self.rows
     }

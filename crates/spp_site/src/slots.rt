@@ -1,10 +1,10 @@
 //! The rows of a table in the order in which their sites came, and the index that finds them.
 
-ghost use Rattle.std.specs.Prelude.{◌≡◌, ℕ, ◌+◌, ◌≤◌, ◌<◌, ◌^◌, ◌++◌, List, length, get_or, replicate, vec_capacity, MatchOption, OnOk, OnErr};
+ghost use Rattle.std.specs.Prelude.{◌≡◌, ℕ, ◌+◌, ◌≤◌, ◌<◌, ◌++◌, List, length, get_or, replicate, vec_capacity, MatchOption, OnOk, OnErr};
 ghost use Rattle.spp_site.specs.declared.slots.SiteRow.{SiteRow as RowOfSite};
 ghost use Rattle.spp_dag.specs.Shares.{plus};
 ghost use Rattle.spp_site.specs.Rows.{Fits};
-ghost use Rattle.spp_site.specs.Slots.{blank, row_in, rows_alone, HasNoRow, IsPlaceOf, IsIndexed, AreReached};
+ghost use Rattle.spp_site.specs.Slots.{blank, row_in, rows_alone, HasNoRow, IsPlaceOf, IsIndexed, AreReached, AreOfSites};
 ghost use Rattle.spp_site.specs.Table.{IsAdded, IsSum};
 
 use crate::row_sums::add_to;
@@ -31,10 +31,11 @@ pub(crate) fn place_of(index: &[u32], site: u32) -> Option<usize>
 
 /// Lengthens the index, where it doesn't reach a site.
 pub(crate) fn reach(index: &mut Vec<u32>, site: u32) -> Result<(), AllocError>
-    requires { length index.old.items ≤ 2 ^ 32 }
+    requires limit { site < 65536 }
+    requires small { length index.old.items ≤ 65536 }
     ensures reached { OnOk result (site < length index.new.items) }
     ensures grown { (n : ℕ) × (index.new.items ≡ index.old.items ++ replicate n 0) }
-    ensures small { length index.new.items ≤ 2 ^ 32 }
+    ensures small { length index.new.items ≤ 65536 }
     ensures stays { OnErr result (index.new.items ≡ index.old.items) }
 {
     let at = site as usize;
@@ -46,8 +47,9 @@ pub(crate) fn reach(index: &mut Vec<u32>, site: u32) -> Result<(), AllocError>
 
 /// One past the greatest of the sites of these rows; 0 where there are none.
 fn reach_of(rows: &[SiteRow]) -> usize
+    requires { AreOfSites rows.now }
     ensures reached { (k : ℕ) → k < length rows.now → (get_or rows.now k blank).site < result }
-    ensures small { result ≤ 2 ^ 32 }
+    ensures small { result ≤ 65536 }
 {
     let mut reach = 0;
     for entry in rows {
@@ -63,18 +65,14 @@ pub(crate) fn make_room(
     rows: &mut Vec<SiteRow>,
     more: &[SiteRow],
 ) -> Result<(), AllocError>
-    requires { length index.old.items ≤ 2 ^ 32 }
+    requires limit { AreOfSites more.now }
+    requires small { length index.old.items ≤ 65536 }
     ensures reached { OnOk result (AreReached index.new.items more.now) }
     ensures room { OnOk result (length rows.new.items + length more.now ≤ vec_capacity rows.new) }
-    ensures few { OnOk result (length rows.new.items + length more.now < 2 ^ 32) }
     ensures grown { (n : ℕ) × (index.new.items ≡ index.old.items ++ replicate n 0) }
-    ensures small { length index.new.items ≤ 2 ^ 32 }
+    ensures small { length index.new.items ≤ 65536 }
     ensures rows { rows.new.items ≡ rows.old.items }
 {
-    if rows.len() + more.len() > u32::MAX as usize {
-        // More rows than the index can tell apart, counted as if none were there already: over half a terabyte.
-        return Err(AllocError);
-    }
     rows.reserve(more.len())?;
     let reach = reach_of(more);
     if index.len() < reach {
@@ -88,7 +86,6 @@ fn put(index: &mut Vec<u32>, rows: &mut Vec<SiteRow>, entry: &SiteRow)
     requires indexed { IsIndexed index.old.items rows.old.items }
     requires reached { entry.now.site < length index.old.items }
     requires room { length rows.old.items < vec_capacity rows.old }
-    requires few { length rows.old.items + 1 < 2 ^ 32 }
     requires fits { Fits (plus (row_in rows.old.items entry.now.site) entry.now.row) }
     ensures indexed { IsIndexed index.new.items rows.new.items }
     ensures added { IsAdded (rows_alone rows.old.items) (rows_alone rows.new.items) entry.now.site entry.now.row }
@@ -110,7 +107,6 @@ pub(crate) fn put_all(index: &mut Vec<u32>, rows: &mut Vec<SiteRow>, more: &[Sit
     requires indexed { IsIndexed index.old.items rows.old.items }
     requires reached { AreReached index.old.items more.now }
     requires room { length rows.old.items + length more.now ≤ vec_capacity rows.old }
-    requires few { length rows.old.items + length more.now < 2 ^ 32 }
     requires fits { (s : ℕ) → Fits (plus (row_in rows.old.items s) (row_in more.now s)) }
     ensures indexed { IsIndexed index.new.items rows.new.items }
     ensures sum { IsSum (rows_alone rows.old.items) (rows_alone more.now) (rows_alone rows.new.items) }

@@ -1,9 +1,9 @@
 //! A table of rows by call site.
 
-ghost use Rattle.std.specs.Prelude.{◌≡◌, ℕ, OnOk, OnErr, IfOk};
+ghost use Rattle.std.specs.Prelude.{◌≡◌, ◌<◌, ℕ, OnOk, OnErr, IfOk};
 ghost use Rattle.spp_dag.specs.Shares.{plus};
 ghost use Rattle.spp_site.specs.Rows.{Fits, frame_row};
-ghost use Rattle.spp_site.specs.Slots.{row_in, stored};
+ghost use Rattle.spp_site.specs.Slots.{row_in, stored, AreOfSites};
 ghost use Rattle.spp_site.specs.Table.{row_at, empty, HasNoZeroRow, IsAdded, IsSum};
 
 use crate::closed_frame::ClosedFrame;
@@ -82,7 +82,7 @@ impl Table {
         }
     }
 
-    /// Adds to the row of a site, whose sums must fit their types.
+    /// Adds to the row of a site, whose sums must fit their types. The site is below 65,536, as all sites of a trace are.
     ///
     /// It takes constant time where the site has a row. Where it has none the table grows, in constant time, amortized,
     /// for each site number up to the greatest.
@@ -92,7 +92,8 @@ impl Table {
     /// Where a growth was refused; the table then has the rows that it had.
     #[inline(always)]
     pub fn add(&mut self, site: u32, row: &Row) -> Result<(), AllocError>
-        requires { Fits (plus (row_at self.old site) row.now) }
+        requires limit { site < 65536 }
+        requires fits { Fits (plus (row_at self.old site) row.now) }
         ensures added { OnOk result (IsAdded self.old self.new site row.now) }
         ensures stays { OnErr result (self.new ≡ self.old) }
         ensures no_zero_row { HasNoZeroRow self.new }
@@ -102,24 +103,22 @@ impl Table {
             return Ok(());
         }
         reach(&mut self.index, site)?;
-        let Ok(place) = u32::try_from(self.rows.len() + 1) else {
-            // As many rows as site numbers: more than half a terabyte.
-            return Err(AllocError);
-        };
+        let place = (self.rows.len() + 1) as u32;
         self.rows.push(SiteRow { site, row: *row })?;
         self.index[site as usize] = place;
         Ok(())
     }
 
-    /// Adds the row of a frame that closes to the row of its site, whose sums must fit their types: the same as
-    /// [`Table::add`] of [`ClosedFrame::row`], and faster where the site has a row.
+    /// Adds the row of a frame that closes to the row of its site, which is below 65,536, and whose sums must fit their
+    /// types: the same as [`Table::add`] of [`ClosedFrame::row`], and faster where the site has a row.
     ///
     /// # Errors
     ///
     /// Where a growth was refused; the table then has the rows that it had.
     #[inline(always)]
     pub fn close(&mut self, site: u32, frame: &ClosedFrame) -> Result<(), AllocError>
-        requires { Fits (plus (row_at self.old site) (frame_row frame.now)) }
+        requires limit { site < 65536 }
+        requires fits { Fits (plus (row_at self.old site) (frame_row frame.now)) }
         ensures added { OnOk result (IsAdded self.old self.new site (frame_row frame.now)) }
         ensures stays { OnErr result (self.new ≡ self.old) }
         ensures no_zero_row { HasNoZeroRow self.new }
@@ -156,6 +155,7 @@ impl Table {
 
     /// Adds to the root's row, and these rows to those of their sites.
     fn add_all(&mut self, root: &Row, rows: &[SiteRow]) -> Result<(), AllocError>
+        requires limit { AreOfSites rows.now }
         requires root_fits { Fits (plus self.old.root root.now) }
         requires sites_fit { (s : ℕ) → Fits (plus (row_at self.old s) (row_in rows.now s)) }
         ensures sums { OnOk result (IsSum self.old (stored root.now rows.now) self.new) }

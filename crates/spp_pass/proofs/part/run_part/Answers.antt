@@ -8,7 +8,7 @@ use Rattle.spp_pass.specs.declared.part.PartResult.{PartResult}
 use Rattle.spp_pass.specs.Passes.{Seen, seen, CanReturn, Returns}
 use Rattle.spp_pass.specs.Shares.{IsPartOf}
 use Rattle.spp_pass.proofs.Marking.{outside_below}
-use Rattle.spp_pass.proofs.Going.{Going, sound_of, read_at, some_read, none_are, ok_more, going_start, going_add, going_strand, going_sync, going_call, going_spawn, going_reached, going_can_return, going_return, going_suspend, going_end}
+use Rattle.spp_pass.proofs.Going.{Going, sound_of, read_at, some_read, none_are, ok_more, going_start, going_add, going_strand, going_sync, going_call, going_spawn, going_reached, going_can_return, going_return, going_sites, going_suspend, going_end}
 use Rattle.spp_pass.proofs.part.run_part.Goals as goal
 use Rattle.spp_pass.proofs.part.run_part.Goals.{in-Strand, in-Call+in_ok-open-in-Call, in-Spawn+in_ok-open-in-Spawn, in-Ret+in_ok-outside-in-Ret+in_ok-ret-in-Ret, in-Sync+in_ok-sync-in-Sync}
 
@@ -16,7 +16,7 @@ pub loop-k-init : goal.loop-k-init
 loop-k-init c =
     let trace : Recording = c.args.part.now.trace in
     let first : ℕ = c.args.part.now.first in
-    let sound = sound_of trace first c.args.entry c.requires c.keeps_limits.ensures.limits.events c.keeps_limits.ensures.events in
+    let sound = sound_of trace first c.args.entry c.requires c.keeps_limits.ensures.limits.events c.keeps_limits.ensures.limits.sites c.keeps_limits.ensures.events in
     let out = c.below-outside.result in
     let at : first ≡ c.first-first.result + 0 = omega (arith, c.first-first.ensures) in
     record {
@@ -29,7 +29,7 @@ pub known_event-requires-clause-good : goal.known_event-requires-clause-good
 known_event-requires-clause-good c =
     let trace : Recording = c.args.part.now.trace in
     let first : ℕ = c.args.part.now.first in
-    let sound = sound_of trace first c.args.entry c.requires c.keeps_limits.ensures.limits.events c.keeps_limits.ensures.events in
+    let sound = sound_of trace first c.args.entry c.requires c.keeps_limits.ensures.limits.events c.keeps_limits.ensures.limits.sites c.keeps_limits.ensures.events in
     some_read trace sound (first + c.loop-k.k) (omega (arith, c.count-k-end.ensures, c.keeps_limits.ensures.within, c.loop-k-test.true))
 
 pub strand-requires : goal.strand-requires
@@ -37,7 +37,7 @@ strand-requires c =
     let trace : Recording = c.args.part.now.trace in
     let first : ℕ = c.args.part.now.first in
     let at : ℕ = c.first-first.result + c.loop-k.k in
-    let sound = sound_of trace first c.args.entry c.requires c.keeps_limits.ensures.limits.events c.keeps_limits.ensures.events in
+    let sound = sound_of trace first c.args.entry c.requires c.keeps_limits.ensures.limits.events c.keeps_limits.ensures.limits.sites c.keeps_limits.ensures.events in
     let from : first ≤ at = omega (arith, c.first-first.ensures) in
     let lt : at < length trace.records = omega (arith, c.first-first.ensures, c.count-k-end.ensures, c.keeps_limits.ensures.within, c.loop-k-test.true) in
     going_add trace sound first at from lt c.loop-k.outside (seen c.loop-k.summing) c.loop-k.invariant.going
@@ -48,7 +48,7 @@ ret-requires c =
     let trace : Recording = c.args.part.now.trace in
     let first : ℕ = c.args.part.now.first in
     let at : ℕ = c.first-first.result + c.loop-k.k in
-    let sound = sound_of trace first c.args.entry c.requires c.keeps_limits.ensures.limits.events c.keeps_limits.ensures.events in
+    let sound = sound_of trace first c.args.entry c.requires c.keeps_limits.ensures.limits.events c.keeps_limits.ensures.limits.sites c.keeps_limits.ensures.events in
     let from : first ≤ at = omega (arith, c.first-first.ensures) in
     let lt : at < length trace.records = omega (arith, c.first-first.ensures, c.count-k-end.ensures, c.keeps_limits.ensures.within, c.loop-k-test.true) in
     let read = read_at trace first c.first-first.result c.loop-k.k Ret c.first-first.ensures c.in-Ret.ensures.said c.in-Ret.ensures.within in
@@ -63,7 +63,7 @@ loop-k-preserved c =
     let trace : Recording = c.args.part.now.trace in
     let first : ℕ = c.args.part.now.first in
     let at : ℕ = c.first-first.result + c.loop-k.k in
-    let sound = sound_of trace first c.args.entry c.requires c.keeps_limits.ensures.limits.events c.keeps_limits.ensures.events in
+    let sound = sound_of trace first c.args.entry c.requires c.keeps_limits.ensures.limits.events c.keeps_limits.ensures.limits.sites c.keeps_limits.ensures.events in
     let from : first ≤ at = omega (arith, c.first-first.ensures) in
     let lt : at < length trace.records = omega (arith, c.first-first.ensures, c.count-k-end.ensures, c.keeps_limits.ensures.within, c.loop-k-test.true) in
     let out : Option StackOf = c.loop-k.outside in
@@ -104,15 +104,19 @@ loop-k-preserved c =
 
 pub suspend-requires : goal.suspend-requires
 suspend-requires c =
-    let end : c.first-first.result + c.loop-k.k ≤ length c.args.part.now.trace.records = omega (arith, c.first-first.ensures, c.count-k-end.ensures, c.keeps_limits.ensures.within, c.loop-k.auto.k-end) in
-    going_suspend c.args.part.now.trace (sound_of c.args.part.now.trace c.args.part.now.first c.args.entry c.requires c.keeps_limits.ensures.limits.events c.keeps_limits.ensures.events)
-    c.args.part.now.first (c.first-first.result + c.loop-k.k) end c.loop-k.outside (seen c.loop-k.summing) c.loop-k.invariant.going
+    let trace : Recording = c.args.part.now.trace in
+    let end : c.first-first.result + c.loop-k.k ≤ length trace.records = omega (arith, c.first-first.ensures, c.count-k-end.ensures, c.keeps_limits.ensures.within, c.loop-k.auto.k-end) in
+    let sound = sound_of trace c.args.part.now.first c.args.entry c.requires c.keeps_limits.ensures.limits.events c.keeps_limits.ensures.limits.sites c.keeps_limits.ensures.events in
+    record {
+      fits = going_suspend trace sound c.args.part.now.first (c.first-first.result + c.loop-k.k) end c.loop-k.outside (seen c.loop-k.summing) c.loop-k.invariant.going;
+      sites = going_sites trace sound c.args.part.now.first (c.first-first.result + c.loop-k.k) end c.loop-k.outside (seen c.loop-k.summing) c.loop-k.invariant.going;
+    }
 
 pub returns : goal.returns
 returns c =
     let trace : Recording = c.args.part.now.trace in
     let first : ℕ = c.args.part.now.first in
-    let sound = sound_of trace first c.args.entry c.requires c.keeps_limits.ensures.limits.events c.keeps_limits.ensures.events in
+    let sound = sound_of trace first c.args.entry c.requires c.keeps_limits.ensures.limits.events c.keeps_limits.ensures.limits.sites c.keeps_limits.ensures.events in
     let end : c.first-first.result + c.loop-k.k ≡ first + c.args.part.now.count = omega (arith, c.first-first.ensures, c.count-k-end.ensures, c.loop-k.auto.k-end, c.loop-k-test.false) in
     ok_more _ _ c.suspend.result
     (λ (p : PartResult) h es are.

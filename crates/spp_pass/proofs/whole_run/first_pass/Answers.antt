@@ -45,7 +45,7 @@ ret-requires c =
     let lt : c.loop-at.at < length trace.records = omega (arith, c.count-count.ensures.count) in
     let b : Burdens = c.args.burdens in
     let light = light_of b c.are_small.ensures.continuation c.are_small.ensures.join in
-    ready_return trace b light c.count-count.ensures.limits.events 0 c.loop-at.at (omega arith) lt (seen c.loop-at.summing) c.loop-at.invariant.passed
+    ready_return trace b light c.count-count.ensures.limits.events 0 c.loop-at.at (omega arith) lt c.count-count.ensures.limits.sites (seen c.loop-at.summing) c.loop-at.invariant.passed
 
 pub returns-then-not-branch-clause-fault : goal.returns-then-not-branch-clause-fault
 returns-then-not-branch-clause-fault c =

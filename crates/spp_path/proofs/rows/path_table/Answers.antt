@@ -63,7 +63,7 @@ ret-requires c =
     let trace : Recording = c.args.trace.now in
     let lt : c.loop-at.at < length trace.records = omega (arith, c.count-count.ensures.count) in
     let short = c.count-count.ensures.limits.events in
-    ready_return trace c.requires.formed short c.loop-at.at c.loop-at.rows c.loop-at.invariant.kept lt c.in-Ret.ensures
+    ready_return trace c.requires.formed short c.loop-at.at c.loop-at.rows c.loop-at.invariant.kept (c.count-count.ensures.limits.sites, c.count-count.ensures.events) lt c.in-Ret.ensures
 
 pub loop-at-preserved : goal.loop-at-preserved
 loop-at-preserved c =
@@ -88,7 +88,7 @@ loop-at-preserved c =
             w.in-Spawn.ensures (w.in_ok-spawn-in-Spawn.ensures.enters, w.in_ok-spawn-in-Spawn.ensures.skips))
         | in-Ret+in_ok-ret-in-Ret w ↦
             moved w.ret.new.self w.rows-is
-            (next_return trace c.requires.formed short at s inv.kept w.ret.new.self lt w.in-Ret.ensures (w.in_ok-ret-in-Ret.ensures.returned, w.in_ok-ret-in-Ret.ensures.skipped))
+            (next_return trace c.requires.formed short at s inv.kept (c.count-count.ensures.limits.sites, c.count-count.ensures.events) w.ret.new.self lt w.in-Ret.ensures (w.in_ok-ret-in-Ret.ensures.returned, w.in_ok-ret-in-Ret.ensures.skipped))
         | in-Sync w ↦
             moved w.sync.new.self w.rows-is
             (next_sync trace c.requires.formed short at s inv.kept w.sync.new.self lt w.in-Sync.ensures (w.sync.ensures.waited, w.sync.ensures.skipped))
@@ -117,6 +117,6 @@ loop-at-preserved-then-rows-gt0 c =
     let short = c.count-count.ensures.limits.events in
     record {
       kept =
-          next_pass trace c.requires.formed short c.loop-at.at c.loop-at.rows c.loop-at.invariant.kept c.args.entered.now c.requires.marks c.known_event.result c.pass_by.new.self lt
+          next_pass trace c.requires.formed short c.loop-at.at c.loop-at.rows c.loop-at.invariant.kept (c.count-count.ensures.limits.sites, c.count-count.ensures.events) c.args.entered.now c.requires.marks c.known_event.result c.pass_by.new.self lt
           c.known_event.ensures c.if-rows-gt0.true c.pass_by.ensures;
     }

@@ -4,6 +4,7 @@ use Rattle.spp_site.specs.Rows.{Fits}
 use Rattle.spp_site.specs.Table.{IsAdded}
 use Rattle.spp_site.specs.Slots.{rows_alone, IsIndexed}
 use Rattle.spp_site.proofs.Stored.{row_at-stored}
+use Rattle.spp_site.proofs.Places.{few_more}
 use Rattle.spp_site.proofs.Adding.{found_site, found_row, summed, pushed, placed}
 use Rattle.spp_site.proofs.slots.put.Goals as goal
 
@@ -23,6 +24,13 @@ returns-in-Some-clause-added c =
     let same = found_site zero_row c.args.index.now.items rows c.requires.indexed entry.site c.in-Some.place at found c.index_mut.ensures.value in
     subst (λ s. IsAdded (rows_alone rows) (rows_alone (slice_set rows c.in-Some.place (record { site = s; row = c.add_to.new.row }))) entry.site entry.row) (sym same)
     (summed zero_row c.args.index.now.items rows c.requires.indexed entry.site c.in-Some.place at found c.index_mut.ensures.value entry.row c.add_to.new.row c.add_to.ensures)
+
+pub overflow_cast-place : goal.overflow_cast-place
+overflow_cast-place c =
+    let rows = c.args.rows.now.items in
+    let free = c.in_default.ensures rows (subst (λ i. IsIndexed i rows) (sym c.deref.ensures.value) c.requires.indexed) in
+    let few = few_more c.args.index.now.items rows c.requires.indexed c.args.entry.now.site c.args.entry.now.row c.requires.reached free in
+    omega (arith, few, c.len.ensures)
 
 pub returns-clause-indexed : goal.returns-clause-indexed
 returns-clause-indexed c =

@@ -2,7 +2,7 @@ use Rattle.std.proofs.Common.{ap, sym, ◌∙◌, refl, arith, reverse}
 use Rattle.spp_dag.specs.Shares.{plus}
 use Rattle.spp_site.specs.Profiles.{key_row}
 use Rattle.spp_pass.specs.Outside.{local_rows}
-use Rattle.spp_pass.proofs.Suspending.{local_rows-reverse, open_fits, open_whole, all_whole}
+use Rattle.spp_pass.proofs.Suspending.{local_rows-reverse, one_below, open_fits, open_whole, all_whole}
 use Rattle.spp_pass.proofs.summing.Summing.suspend.Goals as goal
 
 pub loop-frame-init : goal.loop-frame-init
@@ -11,11 +11,15 @@ loop-frame-init c = record {
   choices = refl;
 }
 
-pub add_local-requires : goal.add_local-requires
-add_local-requires c =
+pub add_local-requires-clause-site : goal.add_local-requires-clause-site
+add_local-requires-clause-site c =
+    one_below 65536 c.args.self.frames.items c.deref-frame-items.result.now c.loop-frame.frame-index _ c.deref-frame-items.ensures.value c.loop-frame-test.true c.requires.sites
+
+pub add_local-requires-clause-fits : goal.add_local-requires-clause-fits
+add_local-requires-clause-fits c =
     open_fits c.loop-frame.table c.args.self.frames.items c.deref-frame-items.result.now c.loop-frame.frame-index _
     (λ key. plus (key_row c.args.self.table key) (local_rows (reverse c.args.self.frames.items) key))
-    c.deref-frame-items.ensures.value c.loop-frame-test.true c.loop-frame.invariant.whole c.requires
+    c.deref-frame-items.ensures.value c.loop-frame-test.true c.loop-frame.invariant.whole c.requires.fits
 
 pub loop-frame-preserved : goal.loop-frame-preserved
 loop-frame-preserved c = record {

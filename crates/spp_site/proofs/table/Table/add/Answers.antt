@@ -1,10 +1,10 @@
-use Rattle.std.proofs.Common.{◌≡◌, ◌+◌, sym, ◌∙◌, ap, subst, arith, length, slice_set}
+use Rattle.std.proofs.Common.{◌+◌, sym, ◌∙◌, ap, subst, arith, slice_set}
 use Rattle.spp_dag.specs.Shares.{plus}
 use Rattle.spp_site.specs.Rows.{Fits}
 use Rattle.spp_site.specs.Table.{row_at, IsAdded}
 use Rattle.spp_site.specs.Slots.{stored, IsIndexed}
 use Rattle.spp_site.proofs.Stored.{stored_no_zero}
-use Rattle.spp_site.proofs.Places.{grown_indexed}
+use Rattle.spp_site.proofs.Places.{grown_indexed, few_more}
 use Rattle.spp_site.proofs.Adding.{found_site, found_row, summed, pushed, placed}
 use Rattle.spp_site.proofs.table.Table.add.Goals as goal
 
@@ -12,7 +12,7 @@ pub add_to-requires : goal.add_to-requires
 add_to-requires c =
     let at = c.in-Some.ensures c.self.inside.rows.items (subst (λ i. IsIndexed i c.self.inside.rows.items) (sym c.deref.ensures.value) c.self.invariant) in
     let found = found_row c.self.inside.root c.self.inside.index.items c.self.inside.rows.items c.self.invariant c.args.site c.in-Some.place at c.index_mut.result.now c.index_mut.ensures.value in
-    subst (λ r. Fits (plus r c.args.row.now)) (sym (found ∙ ap (λ t. row_at t c.args.site) c.self.view_is)) c.requires
+    subst (λ r. Fits (plus r c.args.row.now)) (sym (found ∙ ap (λ t. row_at t c.args.site) c.self.view_is)) c.requires.fits
 
 pub returns-in-Some-clause-added : goal.returns-in-Some-clause-added
 returns-in-Some-clause-added c =
@@ -30,13 +30,13 @@ returns-in-Some-clause-no_zero_row c = stored_no_zero c.self.inside.root (slice_
 pub returns-in_err-reach-clause-no_zero_row : goal.returns-in_err-reach-clause-no_zero_row
 returns-in_err-reach-clause-no_zero_row c = stored_no_zero c.self.inside.root c.self.inside.rows.items
 
-pub invariant_of-self-in_default-try_from : goal.invariant_of-self-in_default-try_from
-invariant_of-self-in_default-try_from c =
+pub overflow_cast-place : goal.overflow_cast-place
+overflow_cast-place c =
     let grown = c.in_ok-reach.ensures.grown in
-    grown_indexed c.self.inside.index.items c.reach.new.index.items c.self.inside.rows.items grown.0 c.self.invariant grown.1 c.in_ok-reach.ensures.small
-
-pub returns-in_default-try_from-clause-no_zero_row : goal.returns-in_default-try_from-clause-no_zero_row
-returns-in_default-try_from-clause-no_zero_row c = stored_no_zero c.self.inside.root c.self.inside.rows.items
+    let h = grown_indexed c.self.inside.index.items c.reach.new.index.items c.self.inside.rows.items grown.0 c.self.invariant grown.1 c.in_ok-reach.ensures.small in
+    let free = c.in_default.ensures c.self.inside.rows.items (subst (λ i. IsIndexed i c.self.inside.rows.items) (sym c.deref.ensures.value) c.self.invariant) in
+    let few = few_more c.reach.new.index.items c.self.inside.rows.items h c.args.site c.args.row.now c.in_ok-reach.ensures.reached free in
+    omega (arith, few, c.len.ensures)
 
 pub invariant_of-self-in_err-push : goal.invariant_of-self-in_err-push
 invariant_of-self-in_err-push c =
@@ -52,9 +52,8 @@ invariant_of-self-2 c =
     let grown = c.in_ok-reach.ensures.grown in
     let h = grown_indexed c.self.inside.index.items c.reach.new.index.items c.self.inside.rows.items grown.0 c.self.invariant grown.1 c.in_ok-reach.ensures.small in
     let free = c.in_default.ensures c.self.inside.rows.items (subst (λ i. IsIndexed i c.self.inside.rows.items) (sym c.deref.ensures.value) c.self.invariant) in
-    let last : c.in-Ok.place ≡ length c.self.inside.rows.items + 1 = omega (arith, c.in-Ok.ensures, c.len.ensures, c.self.inside.rows.ok.0) in
-    placed c.reach.new.index.items c.self.inside.rows.items c.push.new.self.items c.args.site c.in-Ok.place c.args.row.now h c.in_ok-reach.ensures.reached free
-    last c.in_ok-push.ensures.items
+    placed c.reach.new.index.items c.self.inside.rows.items c.push.new.self.items c.args.site (c.len.result + 1) c.args.row.now h c.in_ok-reach.ensures.reached free
+    (omega (arith, c.len.ensures, c.self.inside.rows.ok.0)) c.in_ok-push.ensures.items
 
 pub returns-clause-added : goal.returns-clause-added
 returns-clause-added c =

@@ -11,7 +11,7 @@ pub add_to-requires : goal.add_to-requires
 add_to-requires c =
     let at = c.in-Some.ensures c.self.inside.rows.items (subst (λ i. IsIndexed i c.self.inside.rows.items) (sym c.deref.ensures.value) c.self.invariant) in
     let found = found_row c.self.inside.root c.self.inside.index.items c.self.inside.rows.items c.self.invariant c.args.site c.in-Some.place at c.index_mut.result.now c.index_mut.ensures.value in
-    subst (λ r. Fits (plus r (frame_row c.args.frame.now))) (sym (found ∙ ap (λ t. row_at t c.args.site) c.self.view_is)) c.requires
+    subst (λ r. Fits (plus r (frame_row c.args.frame.now))) (sym (found ∙ ap (λ t. row_at t c.args.site) c.self.view_is)) c.requires.fits
 
 pub returns-in-Some-clause-added : goal.returns-in-Some-clause-added
 returns-in-Some-clause-added c =
