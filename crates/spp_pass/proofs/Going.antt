@@ -281,7 +281,7 @@ module _ (trace : Recording) (sound : Sound trace) (first i : ℕ) (begun : firs
 
 -- ---- the end
 
--- so are those of fewer frames, and below more
+-- sites below n are so in fewer frames, and are below a greater number
 below_first : (n : ℕ) (fs more : List CountedFrame) → AreBelow n (fs ++ more) → AreBelow n fs
 below_first n [] more h = tt
 below_first n (f ∷ fs) more h = (h.0, below_first n fs more h.1)
