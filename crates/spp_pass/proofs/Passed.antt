@@ -59,7 +59,8 @@ JoinFrom es from j = IsJoin es j × (from ≤ j.at)
 abbrev pub AreNoted : List Event → ℕ → ℕ → List End → List Choice → Type 0
 AreNoted es from i ends joins = AreTo (λ (e : End). e.at) (EndFrom es from) i ends × AreTo (λ (j : Choice). j.at) (JoinFrom es from) i joins
 
--- the sites of frames are those of the trace; the root has site 0, also where the trace has no site
+-- The sites of open frames are below this: they are sites of the trace, but that the root has site 0 also where the
+-- trace has none.
 abbrev pub site_bound : Recording → ℕ
 site_bound trace = max 1 (length trace.sites)
 

@@ -82,7 +82,8 @@ impl Table {
         }
     }
 
-    /// Adds to the row of a site, whose sums must fit their types. The site is below 65,536, as all sites of a trace are.
+    /// Adds to the row of a site, whose sums must fit their types. The site is below 65,536, as all sites of a trace
+    /// are.
     ///
     /// It takes constant time where the site has a row. Where it has none the table grows, in constant time, amortized,
     /// for each site number up to the greatest.
