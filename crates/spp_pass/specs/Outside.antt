@@ -70,13 +70,14 @@ abbrev pub IsOutside : Option StackOf → List EntryFrame → Type 0
 IsOutside None fs = fs ≡ []
 IsOutside (Some stack) fs = HasFrames stack fs
 
--- The frames fs were outside, and those of `left` still are. The others were come to, and if there are two frames in
--- all then two have been come to.
+-- The frames fs were outside, and those of `left` still are. The others were come to: if there are two frames in all then
+-- two have been come to, and none where there were two before.
 pub record IsReached (old new : Seen) (fs : List EntryFrame) (left : Option StackOf) : Type 0 where
   pub outside : List EntryFrame
   pub are : IsOutside left outside
   pub frames : new.frames ++ entered_frames outside ≡ old.frames ++ entered_frames fs
   pub two : 1 < length (old.frames ++ entered_frames fs) → 1 < length new.frames
+  pub none : 1 < length old.frames → new.frames ≡ old.frames
   pub others : new ≡ record old { frames = new.frames }
 
 -- ---- the end of the part
