@@ -3,24 +3,24 @@ use Rattle.spp_site.specs.Table.{row_at}
 use Rattle.spp_site.proofs.Small.{small_empty, small_added, small_kept, small_fits, small_thirty}
 use Rattle.profile_tests.proofs.site.tables_merge_and_are_copied.Goals as goal
 
-pub add-requires : goal.add-requires
-add-requires g c =
+pub add-requires-clause-fits : goal.add-requires-clause-fits
+add-requires-clause-fits g c =
     let start = small_kept 0 c.new-left.result c.add_root.new.self (small_empty c.new-left.result c.new-left.ensures) (ap (λ t. t.sites) c.add_root.ensures) in
     small_fits 0 30 (row_at c.add_root.new.self 7) _ (omega arith) (start 7) (small_thirty _ refl)
 
-pub add-requires-2 : goal.add-requires-2
-add-requires-2 g c =
+pub add-requires-2-clause-fits : goal.add-requires-2-clause-fits
+add-requires-2-clause-fits g c =
     let start = small_kept 0 c.new-left.result c.add_root.new.self (small_empty c.new-left.result c.new-left.ensures) (ap (λ t. t.sites) c.add_root.ensures) in
     let one = small_added 0 30 c.add_root.new.self c.add.new.self 7 _ start (small_thirty _ refl) c.in_ok-add.ensures.added in
     small_fits 30 30 (row_at c.add.new.self 2) _ (omega arith) (one 2) (small_thirty _ refl)
 
-pub add-requires-3 : goal.add-requires-3
-add-requires-3 g c =
+pub add-requires-3-clause-fits : goal.add-requires-3-clause-fits
+add-requires-3-clause-fits g c =
     let start = small_kept 0 c.new-right.result c.add_root-2.new.self (small_empty c.new-right.result c.new-right.ensures) (ap (λ t. t.sites) c.add_root-2.ensures) in
     small_fits 0 30 (row_at c.add_root-2.new.self 65535) _ (omega arith) (start 65535) (small_thirty _ refl)
 
-pub add-requires-4 : goal.add-requires-4
-add-requires-4 g c =
+pub add-requires-4-clause-fits : goal.add-requires-4-clause-fits
+add-requires-4-clause-fits g c =
     let start = small_kept 0 c.new-right.result c.add_root-2.new.self (small_empty c.new-right.result c.new-right.ensures) (ap (λ t. t.sites) c.add_root-2.ensures) in
     let one = small_added 0 30 c.add_root-2.new.self c.add-3.new.self 65535 _ start (small_thirty _ refl) c.in_ok-add-3.ensures.added in
     small_fits 30 30 (row_at c.add-3.new.self 2) _ (omega arith) (one 2) (small_thirty _ refl)
