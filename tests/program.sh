@@ -81,6 +81,9 @@ for trace in cilksort fib nqueens; do
         judge "rows of $trace in $parts parts" 0 '' 'survey *'
     done
 done
+"$printer" parts 3 < "$small" > "$folder/out" 2> "$folder/err"
+status=$?
+judge 'rows of the small trace in 3 parts' 0 "(root),1,7,1,17,13,1,17,13${lf}A,1,10,1,10,10,1,10,10$lf" 'survey *'
 expect 'a table of a part of a record' 1 '' "bad event 1: truncated$lf" <(head -c 60 "$small") profile
 printf 'func main\n' | "$spprof" encode > "$folder/empty"
 for parts in 1 16 65536; do
@@ -190,6 +193,8 @@ for trace in small fib nqueens cilksort; do
     "$printer" text < "$top/examples/$trace.sptrace" > "$folder/input"
     gives "the text of $trace brings its bytes back" "$top/examples/$trace.sptrace" "$spprof" encode
 done
+cp "$small" "$folder/input"
+gives 'the small trace as text' "$top/tests/small.printed.txt" "$printer" text
 cp "$top/tests/small.printed.txt" "$folder/input"
 gives 'the text of the small trace' "$small" "$spprof" encode
 cp "$top/examples/small.txt" "$folder/input"

@@ -13,7 +13,8 @@ use spp_summary::Summary;
 use std::alloc::{AllocError, Global};
 
 /// The open frames where the parts of a cut trace begin, and where it ends, from the summaries of its parts in order.
-/// Time, memory and the number of nodes are those of `entries`.
+/// Time, memory and the number of nodes are those of [`entries`](spp_stack::entries). With `entry(k)` of what it gives,
+/// [`run_part`](spp_pass::run_part) can pass over part `k` alone.
 ///
 /// # Errors
 ///
@@ -24,6 +25,7 @@ pub fn entries_of(alloc: Global, cut: &Cut<'_, '_>, each: &[Summary]) -> Result<
     ensures entries { IfOk result (λ r. AreEntriesOf cut.now r) }
     ensures nodes { IfOk result (λ r. length r.nodes ≤ 1 + length cut.now.parts + open_count each.now) }
 {
+    // For what they state: the limits, and that the parts hold all events.
     cut.trace().keeps_limits();
     let _parts = cut.parts();
     entries(alloc, cut.trace().root(), each)

@@ -36,6 +36,7 @@ reached_one s items new x o e node below is longer some alone enters node_is res
           are = outside_below below fs (rest f fs h) (none f fs h);
           frames = ap (λ l. l ++ entered_frames fs) more ∙ append_assoc (reverse items) (x ∷ []) (entered_frames fs) ∙ ap (λ y. reverse items ++ y ∷ entered_frames fs) held;
           two = λ l. omega arith;
-          none = λ l. absurd (let old = length-reverse items in omega arith);
+          one = let old = length-reverse items in omega arith;
+          stays = λ l. absurd (let old = length-reverse items in omega arith);
           others = refl;
         }

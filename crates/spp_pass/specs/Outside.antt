@@ -1,6 +1,6 @@
 -- What a pass over a part of a run has, besides the pass over the whole: frames that were open before it, of which
 -- those that it hasn't come to lie outside, and the strands of those that it leaves open.
-use Rattle.std.specs.Prelude.{◌≡◌, ℕ, ◌<◌, Bool, not, cond, List, [], ◌∷◌, ◌++◌, length, Option, Some, None}
+use Rattle.std.specs.Prelude.{◌≡◌, ℕ, suc, ◌<◌, ◌≤◌, Bool, not, cond, List, [], ◌∷◌, ◌++◌, length, Option, Some, None}
 use Rattle.std.specs.List.{AllByRecursion}
 use Rattle.spp_event.specs.declared.records.Event.{Event}
 use Rattle.spp_event.specs.Recordings.{Recording}
@@ -70,14 +70,15 @@ abbrev pub IsOutside : Option StackOf → List EntryFrame → Type 0
 IsOutside None fs = fs ≡ []
 IsOutside (Some stack) fs = HasFrames stack fs
 
--- The frames fs were outside, and those of `left` still are. The others were come to: if there are two frames in all then
--- two have been come to, and none where there were two before.
+-- The frames fs were outside, and those of `left` still are. The others were come to: one more at most, so that two have
+-- been come to if there are two in all, and no more where two had been.
 pub record IsReached (old new : Seen) (fs : List EntryFrame) (left : Option StackOf) : Type 0 where
   pub outside : List EntryFrame
   pub are : IsOutside left outside
   pub frames : new.frames ++ entered_frames outside ≡ old.frames ++ entered_frames fs
   pub two : 1 < length (old.frames ++ entered_frames fs) → 1 < length new.frames
-  pub none : 1 < length old.frames → new.frames ≡ old.frames
+  pub one : length new.frames ≤ suc (length old.frames)
+  pub stays : 1 < length old.frames → new.frames ≡ old.frames
   pub others : new ≡ record old { frames = new.frames }
 
 -- ---- the end of the part

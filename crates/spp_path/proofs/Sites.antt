@@ -1,4 +1,4 @@
--- The frames that are open before an event were entered by sites of the trace, or it is the root, whose site is 0.
+-- Each frame that is open before an event was entered by a site of the trace, or is the root, whose site is 0.
 use Rattle.std.proofs.Common.{◌≡◌, ℕ, zero, suc, ◌<◌, ◌≤◌, List, [], ◌∷◌, length, map, take, Option, Some, None, refl, sym, ap, subst, ◌∙◌, arith}
 use Rattle.std.specs.List.{AllByRecursion}
 use Rattle.spp_event.specs.declared.records.Event.{Event}

@@ -45,7 +45,7 @@ abbrev pub IsEntryOf : List Event → ℕ → List Account → Stacks → ℕ �
 IsEntryOf es root accounts s k = IsEntryAt es root s k (begin_of accounts k)
 
 -- The stacks are those of a cut of a well-formed trace: start k is the entry of the position where part k begins, and
--- one start more is that of the end.
+-- one start more is that of the end. So a pass over part k can begin with start k (spp_parts `proofs/Entries`).
 pub record AreEntriesOf (cut : CutOf) (s : Stacks) : Type 0 where
   pub events : List Event
   pub are_events : AreEvents cut.trace.records events

@@ -18,8 +18,9 @@ fn most_nodes(summaries: &[Summary]) -> usize {
     most
 }
 
-/// The open frames where each part of a trace begins, and where it ends, from the summaries of its parts in order, with
-/// these positions. The root frame runs the function `root`. The burdens of the summaries have no part in it.
+/// The open frames where each part of a trace begins, and where the trace ends, from the summaries of its parts in
+/// order; each with its position, which is the sum of the numbers of events of the summaries before, and the work before
+/// it. The root frame runs the function `root`. The burdens of the summaries have no part in it.
 ///
 /// It takes time and memory linear in the numbers of parts, of the frames that they leave open and of those that they
 /// close and don't open, and in the greatest numbers of their sites and functions. There are no more nodes than one,

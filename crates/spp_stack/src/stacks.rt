@@ -17,8 +17,7 @@ use std::marker::Model;
 pub(crate) struct Start {
     /// The number of the innermost open frame's node.
     pub(crate) top: u32,
-    /// The position of the part's first event, or, where it has none, of the event behind it; for the end the number
-    /// of events.
+    /// Its position: the number of events before it.
     pub(crate) at: u32,
     /// The work of the trace before, in instructions.
     pub(crate) work: u128,
@@ -66,7 +65,7 @@ impl<'e> Model for Entry<'e> {
 }
 
 impl<'e> Entry<'e> {
-    /// Its position: that of the first event behind it, and at the end of the trace the number of events.
+    /// Its position: the number of events before it.
     pub fn at(&self) -> u32
         ensures { result ≡ self.now.at }
     {

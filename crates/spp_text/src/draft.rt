@@ -244,7 +244,7 @@ impl<'t> Draft<'t> {
         trace_bytes(alloc, &contents)
     }
 
-    /// One line more.
+    /// One line more. One that is refused leaves what was said as it was.
     #[tactic(auto, unfolding(crate::specs::Reading::read_line))]
     pub(crate) fn add_line(&mut self, alloc: Global, line: &'t [u8]) -> Result<(), TextWhy>
         ensures said { Reads result (read_line self.old line.now) self.new }

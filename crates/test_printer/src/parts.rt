@@ -1,5 +1,5 @@
 //! The rows of a trace on its whole dag, as the shares of its parts make them: for the test that each number of even
-//! parts gives another program's rows. How long the two rounds took is told on standard error.
+//! parts gives the rows in examples/. How long the two rounds took is told on standard error.
 
 use spp_cut::{Parts, cut_even};
 use spp_dag::Row;
@@ -32,7 +32,7 @@ fn measured<R: Clock>(rt: &R, alloc: Global, trace: &Trace<'_>, parts: u32) -> O
     Some(Timed { told, first, both })
 }
 
-/// A row in the columns of the program's own tables.
+/// A row in the columns of `spprof profile --csv`.
 fn print_row(rt: &impl Print, name: &str, row: &Row) -> io::Result<()> {
     println!(rt;
         "{name},{},{},{},{},{},{},{},{}",
