@@ -1,0 +1,4 @@
+mod Runs
+mod Lists
+mod Meetings
+mod Joining

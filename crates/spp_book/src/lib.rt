@@ -1,0 +1,10 @@
+//! The book: the pieces of a job that come in any order, joined as they come.
+#![tactic(auto)]
+
+mod book;
+mod job;
+mod piece;
+
+pub use book::{Book, Front};
+pub use job::{Job, JoinRefused};
+pub use piece::{CloseFault, Piece, Refused, Why};
