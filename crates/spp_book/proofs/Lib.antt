@@ -2,3 +2,4 @@ mod Runs
 mod Lists
 mod Meetings
 mod Joining
+mod Worlds

@@ -4,7 +4,9 @@
 mod book;
 mod job;
 mod piece;
+mod world;
 
 pub use book::{Book, Front};
 pub use job::{Job, JoinRefused};
 pub use piece::{CloseFault, Piece, Refused, Why};
+pub use world::{Answer, Step, World};
