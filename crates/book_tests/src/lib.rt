@@ -4,5 +4,7 @@
 mod list_job;
 #[cfg(test)]
 mod rows;
+#[cfg(test)]
+mod steps;
 
 pub use list_job::{ListJob, Listed};
