@@ -1,3 +1,5 @@
 pub mod Jobs
 pub mod Books
+pub mod Counters
+pub mod Desks
 pub mod Worlds

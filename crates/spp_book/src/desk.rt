@@ -1,0 +1,321 @@
+//! The book of a job that several workers share: its numbers are drawn, each once, and its pieces are put.
+
+ghost use Rattle.std.specs.Prelude.{◌≡◌, ◌<◌, ◌≤◌, ◌+◌, ◌-◌, ◌^◌, ℕ, List, [], ◌∷◌, ◌++◌, IfOk, IfErr, OnOk, OnErr, MatchOption, length, is_none};
+ghost use Rattle.spp_book.specs.Books.{count_of};
+ghost use Rattle.spp_book.specs.Counters.{has_past, IsEachBelow};
+ghost use Rattle.spp_book.specs.Desks.{IsOf, IsOpen, IsStranger, IsShort, IsFrontOf};
+ghost use Rattle.spp_book.specs.Jobs.{IsOurs, IsPieceOf};
+
+use crate::book::{Book, Front};
+use crate::counter::{Counter, Holder};
+use crate::job::Job;
+use crate::piece::{CloseFault, Piece, Refused};
+use std::alloc::{AllocError, Global};
+use std::marker::{Brand, Model};
+use std::sync::ledger::{Blank, Ledger, Share};
+use std::sync::{Mutex, Wait, ledger};
+
+/// What a desk stands for: its ledger, and by its name the job. Contracts alone see it.
+pub trait Naming: Ledger {
+    ghost job: { List ℕ };
+}
+
+impl Naming for Brand {
+    ghost job = { [] };
+}
+
+/// What lies under the lock.
+#[derive(Drop)]
+struct Locked<'a, J: Job, N: Naming> {
+    book: Book<'a, J>,
+    total: ledger::Book<N>,
+    ghost named: { book.name ≡ N.job },
+    ghost flags: { length book.accepted ≡ J.parts_of N.job },
+    ghost counted: { count_of book.accepted ≡ total.total },
+}
+
+impl<'a, J: Job, N: Naming> Locked<'a, J, N> {
+    /// Puts a piece into the book, which raises the share by one, or hands it back.
+    fn put(
+        &mut self,
+        alloc: Global,
+        share: &mut Share<N>,
+        piece: Piece<J::Content>,
+    ) -> Result<(), Refused<J::Content>>
+        requires piece { IsPieceOf (J.parts_of N.job) (J.range_of N.job) (J.is_value N.job) piece.number piece.first piece.events piece.content }
+        requires part { 0 < share.old.parts }
+        ensures raised { OnOk result (share.new.amount ≡ share.old.amount + 1) }
+        ensures parts { share.new.parts ≡ share.old.parts }
+        ensures same { OnErr result (share.new.amount ≡ share.old.amount) }
+        ensures back { IfErr result (λ r. r.piece ≡ piece) }
+        ensures ours { OnOk result (IsOurs (J.parts_of N.job) (J.range_of N.job) piece.number piece.first piece.events) }
+        ensures why { IfErr result (λ r. IsStranger r.why (IsOurs (J.parts_of N.job) (J.range_of N.job) piece.number piece.first piece.events)) }
+    {
+        let Locked { book, total, .. } = self;
+        let taken = book.accept(alloc, piece);
+        if taken.is_ok() {
+            total.add(share, 1);
+        }
+        taken
+    }
+
+    /// What has been joined from the first part on, of at least as many accepted parts as the share has.
+    fn front(
+        &mut self,
+        alloc: Global,
+        share: &mut Share<N>,
+    ) -> Result<Front<J::Content>, AllocError>
+        ensures share { (share.new.amount ≡ share.old.amount) × (share.new.parts ≡ share.old.parts) }
+        ensures content { IfOk result (λ f. IsFrontOf (J.is_value N.job) f) }
+        ensures own { IfOk result (λ f. share.old.amount ≤ f.accepted) }
+        ensures within { IfOk result (λ f. f.parts ≤ f.accepted) }
+    {
+        self.total.audit(share);
+        self.book.front(alloc)
+    }
+
+    /// The value of all parts, where the share with all parts of the ledger has as many pieces as there are parts.
+    fn close(self, alloc: Global, share: Share<N>) -> Result<J::Content, CloseFault>
+        requires { share.parts ≡ N.parts }
+        ensures all { OnOk result (share.amount ≡ J.parts_of N.job) }
+        ensures value { IfOk result (λ c. J.is_value N.job 0 (J.parts_of N.job) c) }
+        ensures missing { IfErr result (λ f. IsShort f share.amount (J.parts_of N.job)) }
+    {
+        let Locked {
+            book,
+            mut total,
+            ..
+        } = self;
+        let mut share = share;
+        total.audit(&mut share);
+        book.close(alloc)
+    }
+}
+
+/// A book under a lock, and the counter of the numbers of its parts.
+///
+/// Contracts see the table of its counter and the number of parts. A draw, a split and a rejoin take neither the lock nor
+/// memory.
+#[derive(Drop)]
+pub struct Desk<'a, J: Job, N: Naming> {
+    counter: Counter,
+    locked: Mutex<Locked<'a, J, N>>,
+}
+
+impl<'a, J: Job, N: Naming> Model for Desk<'a, J, N> {
+    ghost use Rattle.std.specs.Prelude.{◌≡◌};
+    ghost use Rattle.spp_book.specs.Desks.{DeskView};
+
+    ghost Value = { DeskView };
+
+    ghost view = { λ d. record { table = d.counter.table.shared.table_id; parts = d.counter.parts } };
+
+    ghost invariant = { λ d. (d.counter.parts ≡ J.parts_of N.job) × (d.counter.table.shared.key.workers ≡ N.parts) };
+}
+
+/// A worker's token at a desk: its allowance of workers, the numbers that were drawn with it, and how many of the accepted
+/// pieces are its own.
+#[derive(Drop)]
+pub struct Pass<N: Naming> {
+    holder: Holder,
+    share: Share<N>,
+}
+
+impl<N: Naming> Model for Pass<N> {
+    ghost use Rattle.std.specs.Prelude.{◌≡◌, ◌<◌, ◌^◌};
+    ghost use Rattle.spp_book.specs.Desks.{PassView};
+
+    ghost Value = { PassView };
+
+    ghost view = { λ p. record {
+      table = p.holder.seat.table_id;
+      parts = p.holder.parts;
+      workers = p.holder.workers;
+      drawn = p.holder.seat.me.0.drawn;
+      share = p.share.amount;
+    } };
+
+    ghost invariant = { λ p. (p.share.parts ≡ p.holder.workers) × (0 < p.holder.workers) × (N.parts < 2 ^ 32) };
+}
+
+impl<N: Naming> Pass<N> {
+    /// Whether it holds a number that is not below the parts, that is, a draw with it gave None.
+    pub fn finished(&self) -> bool
+        ensures past { result ≡ has_past self.now.parts self.now.drawn }
+    {
+        self.holder.finished()
+    }
+
+    /// Its allowance of workers.
+    pub fn workers(&self) -> u32
+        ensures workers { result ≡ self.now.workers }
+        ensures some { 0 < result }
+    {
+        self.holder.workers()
+    }
+}
+
+impl<'a, J: Job, N: Naming> Desk<'a, J, N> {
+    /// A desk with nothing drawn or accepted, and the pass of all workers. It takes time and room for all parts.
+    ///
+    /// # Errors
+    ///
+    /// Where an allocation was refused.
+    pub fn new(
+        alloc: Global,
+        blank: Blank,
+        job: &'a J,
+        workers: u32,
+    ) -> Result<(Desk<'a, J, N>, Pass<N>), AllocError>
+        requires name { blank.name ≡ N.name }
+        requires parts { blank.parts ≡ N.parts }
+        requires job { J.name job.now ≡ N.job }
+        requires workers { workers ≡ N.parts }
+        requires some { 0 < workers }
+        requires most { workers ≤ 64 }
+        ensures of { IfOk result (λ r. IsOf r.1 r.0) }
+        ensures parts { IfOk result (λ r. r.0.parts ≡ J.parts_of N.job) }
+        ensures workers { IfOk result (λ r. r.1.workers ≡ workers) }
+        ensures drawn { IfOk result (λ r. r.1.drawn ≡ []) }
+        ensures share { IfOk result (λ r. r.1.share ≡ 0) }
+    {
+        let parts = job.parts();
+        let book = Book::new(alloc, job)?;
+        let (counter, holder) = Counter::new(alloc, parts, workers)?;
+        let (total, share) = blank.open::<N>();
+        let locked = Locked { book, total };
+        let desk = Desk {
+            counter,
+            locked: Mutex::new(locked),
+        };
+        Ok((desk, Pass { holder, share }))
+    }
+
+    /// The number of a part that no one drew before, or None where no such number is left; then the pass is finished.
+    /// It is one exchange, and takes no memory.
+    pub fn draw(&self, pass: &mut Pass<N>) -> Option<u32>
+        requires of { IsOf pass.old self.now }
+        requires open { IsOpen pass.old }
+        ensures kept { pass.new ≡ record pass.old { drawn = pass.new.drawn } }
+        ensures drawn { MatchOption result
+            ((n : ℕ) × (J.parts_of N.job ≤ n) × (pass.new.drawn ≡ pass.old.drawn ++ n ∷ []))
+            (λ n. (n < J.parts_of N.job) × (pass.new.drawn ≡ pass.old.drawn ++ n ∷ [])) }
+        ensures past { has_past pass.new.parts pass.new.drawn ≡ is_none result }
+    {
+        self.counter.draw(&mut pass.holder)
+    }
+
+    /// Gives so many workers of a pass to one of their own. The first pass keeps the pieces and the numbers.
+    /// It is one load, and takes no memory.
+    pub fn split(&self, pass: Pass<N>, workers: u32) -> (Pass<N>, Pass<N>)
+        requires of { IsOf pass self.now }
+        requires open { IsOpen pass }
+        requires some { 0 < workers }
+        requires rest { workers < pass.workers }
+        ensures first { result.0 ≡ record pass { workers = pass.workers - workers } }
+        ensures second { result.1 ≡ record pass { workers = workers; drawn = []; share = 0 } }
+    {
+        let Pass { holder, mut share } = pass;
+        let (first, second) = self.counter.split(holder, workers);
+        let other = share.split_off(workers as u64, 0);
+        (
+            Pass {
+                holder: first,
+                share,
+            },
+            Pass {
+                holder: second,
+                share: other,
+            },
+        )
+    }
+
+    /// Two passes as one, with the workers, the pieces and the numbers of both.
+    /// It is one load, and takes no memory.
+    pub fn rejoin(&self, pass: Pass<N>, other: Pass<N>) -> Pass<N>
+        requires one { IsOf pass self.now }
+        requires two { IsOf other self.now }
+        ensures { result ≡ record pass { workers = pass.workers + other.workers; drawn = pass.drawn ++ other.drawn; share = pass.share + other.share } }
+    {
+        let Pass { holder, mut share } = pass;
+        let Pass {
+            holder: second,
+            share: rest,
+        } = other;
+        share.merge(rest);
+        Pass {
+            holder: self.counter.rejoin(holder, second),
+            share,
+        }
+    }
+
+    /// Puts a piece into the book, as a piece of this pass. It waits for the lock, and takes constant time, besides the
+    /// joins of contents.
+    ///
+    /// # Errors
+    ///
+    /// A stranger or a double is handed back, and the pass is unchanged.
+    pub fn put(
+        &self,
+        rt: &impl Wait,
+        alloc: Global,
+        pass: &mut Pass<N>,
+        piece: Piece<J::Content>,
+    ) -> Result<(), Refused<J::Content>>
+        requires of { IsOf pass.old self.now }
+        requires piece { IsPieceOf (J.parts_of N.job) (J.range_of N.job) (J.is_value N.job) piece.number piece.first piece.events piece.content }
+        ensures kept { pass.new ≡ record pass.old { share = pass.new.share } }
+        ensures raised { OnOk result (pass.new.share ≡ pass.old.share + 1) }
+        ensures same { OnErr result (pass.new ≡ pass.old) }
+        ensures back { IfErr result (λ r. r.piece ≡ piece) }
+        ensures ours { OnOk result (IsOurs (J.parts_of N.job) (J.range_of N.job) piece.number piece.first piece.events) }
+        ensures why { IfErr result (λ r. IsStranger r.why (IsOurs (J.parts_of N.job) (J.range_of N.job) piece.number piece.first piece.events)) }
+    {
+        self.locked.lock(rt).put(alloc, &mut pass.share, piece)
+    }
+
+    /// What has been joined from the first part on, and how many parts were accepted in all: no fewer than are the pass's
+    /// own. It waits for the lock.
+    ///
+    /// # Errors
+    ///
+    /// Where an allocation of the copy was refused.
+    pub fn front(
+        &self,
+        rt: &impl Wait,
+        alloc: Global,
+        pass: &mut Pass<N>,
+    ) -> Result<Front<J::Content>, AllocError>
+        requires of { IsOf pass.old self.now }
+        ensures same { pass.new ≡ pass.old }
+        ensures content { IfOk result (λ f. IsFrontOf (J.is_value N.job) f) }
+        ensures own { IfOk result (λ f. pass.old.share ≤ f.accepted) }
+        ensures within { IfOk result (λ f. f.parts ≤ f.accepted) }
+    {
+        self.locked.lock(rt).front(alloc, &mut pass.share)
+    }
+
+    /// The value of all parts, where as many pieces were put as there are parts. Each number below one of them was drawn
+    /// once, and no other one was.
+    ///
+    /// # Errors
+    ///
+    /// `Missing` with a part of which no piece was accepted, or `Memory` where a growth was refused.
+    pub fn close(
+        alloc: Global,
+        desk: Desk<'a, J, N>,
+        pass: Pass<N>,
+    ) -> Result<J::Content, CloseFault>
+        requires of { IsOf pass desk }
+        requires whole { pass.workers ≡ N.parts }
+        ensures all { OnOk result (pass.share ≡ J.parts_of N.job) }
+        ensures value { IfOk result (λ c. J.is_value N.job 0 (J.parts_of N.job) c) }
+        ensures missing { IfErr result (λ f. IsShort f pass.share (J.parts_of N.job)) }
+        ensures drawn { (n : ℕ) × IsEachBelow n pass.drawn }
+    {
+        let Desk { counter, locked } = desk;
+        let Pass { holder, share } = pass;
+        counter.close(holder);
+        locked.into_inner().close(alloc, share)
+    }
+}
