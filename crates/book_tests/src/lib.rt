@@ -1,6 +1,8 @@
 //! Tests of the book, of steps on one, and the job that they run.
 #![tactic(auto)]
 
+#[cfg(test)]
+mod desk;
 mod list_job;
 #[cfg(test)]
 mod rows;
