@@ -30,7 +30,7 @@ fn put<N: Naming, R: Wait>(
 }
 
 /// Puts these pieces, by their numbers and first positions, one after the other: why each was refused, if it was.
-fn put_all<N: Naming, R: Wait>(
+pub(crate) fn put_all<N: Naming, R: Wait>(
     rt: &R,
     alloc: Global,
     desk: &Desk<'_, ListJob<'_>, N>,

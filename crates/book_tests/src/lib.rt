@@ -8,5 +8,7 @@ mod list_job;
 mod rows;
 #[cfg(test)]
 mod steps;
+#[cfg(test)]
+mod threads;
 
 pub use list_job::{ListJob, Listed};

@@ -4,6 +4,8 @@
 
 ghost use Rattle.std.specs.Prelude.{◌≡◌};
 
+mod book;
+
 use spp_cut::Parts;
 use spp_dag::Figures;
 use spp_event::{HeaderFault, Trace, open_trace};
@@ -16,7 +18,7 @@ use spp_shell::{InSource, ReadFault, read_all, read_within};
 use spp_site::{Profile, Table};
 use spp_summary::figures_in_parts;
 use spp_text::{PrintFault, TextFault, TextWhy, parse_text, print_text};
-use std::alloc::Global;
+use std::alloc::{AllocError, Global};
 use std::io;
 
 /// A trace with two events, the functions `main` and `f`, and the sites `A` and `B`.
@@ -88,6 +90,11 @@ fn first(answer: Result<Answer, Answer>) -> Answer {
     match answer {
         Ok(answer) | Err(answer) => answer,
     }
+}
+
+/// The answer of a call, or want of memory.
+fn or_memory(answer: Result<Answer, AllocError>) -> Answer {
+    answer.unwrap_or(Answer::Memory)
 }
 
 fn opened(alloc: Global) -> Answer {
@@ -253,6 +260,8 @@ fn main(rt: HostRuntime) -> io::Result<()> {
             "read_within: {:?}",
             of_reading(read_within(alloc, &mut InSource::new(TRACE), 100, 2))
         )?;
+        println!(rt; "a book: {:?}", or_memory(book::filled(alloc)))?;
+        println!(rt; "steps on a book: {:?}", or_memory(book::stepped(alloc)))?;
     }
     Ok(())
 }
