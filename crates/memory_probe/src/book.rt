@@ -1,11 +1,15 @@
-//! The calls of a book and of steps on one.
+//! The calls of a book, of steps on one, and of a desk.
 
 ghost use Rattle.std.specs.Prelude.{◌≡◌};
+ghost use Rattle.spp_book.specs.Desks.{IsOf};
 
 use super::Answer;
 use book_tests::{ListJob, Listed};
-use spp_book::{Book, CloseFault, Front, Step, World};
+use spp_book::{Book, CloseFault, Desk, Front, Naming, Pass, Step, World};
 use std::alloc::{AllocError, Global};
+use std::marker::Brand;
+use std::sync::Wait;
+use std::sync::ledger::Blank;
 
 /// The numbers of the job; each is a part.
 const NUMBERS: [u32; 3] = [5, 7, 9];
@@ -34,8 +38,8 @@ fn is_front(front: &Front<Listed>) -> bool {
     content && front.accepted == 3
 }
 
-fn closed(alloc: Global, book: Book<'_, ListJob<'_>>) -> Answer {
-    match book.close(alloc) {
+fn of_closing(closed: Result<Listed, CloseFault>) -> Answer {
+    match closed {
         Ok(listed) if listed.as_slice() == NUMBERS.as_slice() => Answer::Good,
         Err(CloseFault::Memory) => Answer::Memory,
         _ => Answer::Other,
@@ -52,7 +56,7 @@ pub fn filled(alloc: Global) -> Result<Answer, AllocError> {
     if !(zero && one && two && is_front(&book.front(alloc)?)) {
         return Ok(Answer::Other);
     }
-    Ok(closed(alloc, book))
+    Ok(of_closing(book.close(alloc)))
 }
 
 /// A world of one worker that does two steps; where no memory is left for the answers, they are handed back.
@@ -65,4 +69,48 @@ pub fn stepped(alloc: Global) -> Result<Answer, AllocError> {
         Err(steps) if steps.len() == 2 => Answer::Memory,
         _ => Answer::Other,
     })
+}
+
+/// Puts a part at the desk.
+fn put_at<N: Naming, R: Wait>(
+    rt: &R,
+    alloc: Global,
+    desk: &Desk<'_, ListJob<'_>, N>,
+    job: &ListJob<'_>,
+    pass: &mut Pass<N>,
+    number: u32,
+) -> Result<bool, AllocError>
+    requires of { IsOf pass.old desk.now }
+    requires job { job.now.numbers.now ≡ N.job }
+    ensures kept { pass.new ≡ record pass.old { share = pass.new.share } }
+{
+    let piece = job.piece(alloc, number, number)?;
+    Ok(desk.put(rt, alloc, pass, piece).is_ok())
+}
+
+/// A desk that gets all parts, shows its front and is closed.
+fn shared_as<N: Naming, R: Wait>(
+    rt: &R,
+    alloc: Global,
+    blank: Blank,
+    job: &ListJob<'_>,
+) -> Result<Answer, AllocError>
+    requires name { blank.name ≡ N.name }
+    requires parts { (blank.parts ≡ N.parts) × (N.parts ≡ 1) }
+    requires job { job.now.numbers.now ≡ N.job }
+{
+    let (desk, mut pass): (Desk<'_, ListJob<'_>, N>, Pass<N>) = Desk::new(alloc, blank, job, 1)?;
+    let one = put_at(rt, alloc, &desk, job, &mut pass, 1)?;
+    let two = put_at(rt, alloc, &desk, job, &mut pass, 2)?;
+    let zero = put_at(rt, alloc, &desk, job, &mut pass, 0)?;
+    let front = desk.front(rt, alloc, &mut pass)?;
+    if !(zero && one && two && is_front(&front)) {
+        return Ok(Answer::Other);
+    }
+    Ok(of_closing(Desk::close(alloc, desk, pass)))
+}
+
+/// The same at a desk of one worker.
+pub fn shared<R: Wait>(rt: &R, alloc: Global) -> Result<Answer, AllocError> {
+    shared_as::<Brand, R>(rt, alloc, Blank::new(1), &ListJob::new(&NUMBERS))
 }

@@ -262,6 +262,7 @@ fn main(rt: HostRuntime) -> io::Result<()> {
         )?;
         println!(rt; "a book: {:?}", or_memory(book::filled(alloc)))?;
         println!(rt; "steps on a book: {:?}", or_memory(book::stepped(alloc)))?;
+        println!(rt; "a desk: {:?}", or_memory(book::shared(&rt, alloc)))?;
     }
     Ok(())
 }

@@ -1,7 +1,7 @@
 //! The steps of workers that draw the parts of one job and put their pieces, one after the other.
 
-ghost use Rattle.std.specs.Prelude.{◌≡◌, List, [], false, None, IfOk, IfErr, OnErr, replicate};
-ghost use Rattle.spp_book.specs.Worlds.{WorldView, StepIs, MayStep, AreSteps, MayRun};
+ghost use Rattle.std.specs.Prelude.{◌≡◌, ◌<◌, List, [], false, None, IfOk, IfErr, OnErr, length, replicate};
+ghost use Rattle.spp_book.specs.Worlds.{WorldView, is_gone, StepIs, MayStep, AreSteps, MayRun};
 
 use crate::book::Book;
 use crate::job::Job;
@@ -123,12 +123,21 @@ impl<'a, J: Job> World<'a, J> {
         }
     }
 
+    /// Whether the worker has stopped, or there is none of this number.
+    fn is_gone(&self, worker: u32) -> bool
+        ensures gone { result ≡ is_gone self.now worker }
+        ensures within { result ≡ false → worker < length self.now.stopped }
+    {
+        let at = worker as usize;
+        at >= self.stopped.len() || self.stopped[at]
+    }
+
     /// The step of a worker that asks for the next part.
     fn draw(&mut self, worker: u32) -> Answer<J::Content>
         ensures { StepIs (J.parts_of self.old.book.name) (J.range_of self.old.book.name) self.old (Step.Draw worker) result self.new }
     {
         let at = worker as usize;
-        if at >= self.stopped.len() || self.stopped[at] || self.none[at] {
+        if self.is_gone(worker) || self.none[at] {
             return Answer::Ended;
         }
         let number = self.draws.len() as u32;
@@ -145,8 +154,7 @@ impl<'a, J: Job> World<'a, J> {
         requires { MayStep (J.parts_of self.old.book.name) (J.range_of self.old.book.name) (J.is_value self.old.book.name) (Step.Put worker piece) }
         ensures { StepIs (J.parts_of self.old.book.name) (J.range_of self.old.book.name) self.old (Step.Put worker piece) result self.new }
     {
-        let at = worker as usize;
-        if at >= self.stopped.len() || self.stopped[at] {
+        if self.is_gone(worker) {
             return Answer::Ended;
         }
         match self.book.accept(alloc, piece) {
@@ -159,11 +167,10 @@ impl<'a, J: Job> World<'a, J> {
     fn stop(&mut self, worker: u32) -> Answer<J::Content>
         ensures { StepIs (J.parts_of self.old.book.name) (J.range_of self.old.book.name) self.old (Step.Stop worker) result self.new }
     {
-        let at = worker as usize;
-        if at >= self.stopped.len() || self.stopped[at] {
+        if self.is_gone(worker) {
             return Answer::Ended;
         }
-        self.stopped[at] = true;
+        self.stopped[worker as usize] = true;
         Answer::Stopped
     }
 
