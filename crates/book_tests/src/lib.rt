@@ -1,14 +1,14 @@
-//! Tests of the book, of steps on one, and the job that they run.
+//! Tests of books, of worlds and of desks, and the job that they run.
 #![tactic(auto)]
 
+#[cfg(test)]
+mod book;
 #[cfg(test)]
 mod desk;
 mod list_job;
 #[cfg(test)]
-mod rows;
-#[cfg(test)]
-mod steps;
-#[cfg(test)]
 mod threads;
+#[cfg(test)]
+mod world;
 
 pub use list_job::{ListJob, Listed};

@@ -47,7 +47,7 @@ impl<'a> ListJob<'a> {
         }
     }
 
-    /// The same job, but that the first join of this part is refused.
+    /// The same job, except that the first join of this part is refused.
     pub fn with_stubborn(self, part: u32) -> ListJob<'a>
         ensures { result.numbers.now ≡ self.entry.numbers.now }
     {

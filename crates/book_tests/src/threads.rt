@@ -14,7 +14,7 @@ use std::sync::ledger::Blank;
 use std::test::Fail;
 use std::thread::{Threads, join};
 
-/// Draws until no number is left, 1,000 times at most: the numbers in the order of the draws.
+/// Draws until no number is left, at most 1,001 times: the numbers in the order of the draws.
 fn draw_all<N: Naming>(
     alloc: Global,
     desk: &Desk<'_, ListJob<'_>, N>,

@@ -8,7 +8,7 @@ use Rattle.spp_book.specs.Books.{IsRun, AreRuns}
 pub same_some : {X : Type 0} (a b : X) → Some a ≡ Some b → a ≡ b
 same_some a b e = cc
 
--- it isn't both
+-- nothing is both
 clash : {P : Type 0} (b : Bool) → b ≡ true → b ≡ false → P
 clash b t f = absurd cc
 

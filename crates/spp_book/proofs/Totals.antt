@@ -72,7 +72,7 @@ snoc_same parts xs x b e lt = let s = has_past_snoc parts xs x in let f : nat_le
 pub snoc_now : (parts : ℕ) (xs : List ℕ) (x : ℕ) → parts ≤ x → true ≡ has_past parts (xs ++ x ∷ [])
 snoc_now parts xs x le = let s = has_past_snoc parts xs x in let f : nat_le parts x ≡ true = grind (arith, nat_tests) in or_true (has_past parts xs) (nat_le parts x) f ∙ sym s
 
--- where what has nothing by one measure has nothing by the other, and all have nothing by the one
+-- where g is 0 wherever f is, and f is 0 of each, so is g
 total_zero : {A : Type 0} (f g : A → ℕ) (xs : List A) → ((i : ℕ) (v : A) → get_elem? xs i ≡ some v → f v ≡ 0 → g v ≡ 0) → total f xs ≡ 0 → total g xs ≡ 0
 total_zero f g [] nil z = refl
 total_zero f g (x ∷ xs) nil z =
@@ -88,7 +88,7 @@ total_at f [] i v e = absurd (some-ne-none v (sym e))
 total_at f (x ∷ xs) zero v e = let h : f x ≡ f v = ap f (some-injective x v e) in let r : f v ≤ f x + total f xs = omega (arith, h) in r
 total_at f (x ∷ xs) (suc i) v e = let h = total_at f xs i v e in let r : f v ≤ f x + total f xs = omega (arith, h) in r
 
--- where one has all by one measure, and what has nothing by that has nothing by the other, it has all by the other too
+-- where g is 0 wherever f is, and one element has all of f, it has all of g
 pub one_has_all : {A : Type 0} (f g : A → ℕ) (xs : List A) (i : ℕ) (v : A) → get_elem? xs i ≡ some v → ((k : ℕ) (u : A) → get_elem? xs k ≡ some u → f u ≡ 0 → g u ≡ 0) → total f xs ≡ f v → total g xs ≡ g v
 one_has_all f g [] i v e nil all = absurd (some-ne-none v (sym e))
 one_has_all f g (x ∷ xs) zero v e nil all =

@@ -9,7 +9,7 @@ use Rattle.spp_book.specs.declared.world.Answer.{Answer}
 use Rattle.spp_book.specs.declared.world.Answer.TheVariants as answer
 use Rattle.spp_book.specs.Worlds.{WorldView, is_gone, is_done, PutIs, StepIs, AreSteps}
 
--- in both cases
+-- what follows in either case
 either : {P Q R : Type 0} (b : Bool) → (P → R) → (Q → R) → MatchBool b P Q → R
 either true f g h = f h
 either false f g h = g h
@@ -32,7 +32,7 @@ step_name parts range s t (step.Draw w) a h =
 step_name parts range s t (step.Put w p) a h = either (is_gone s w) (λ e. same_name s t e.1) (λ e. put_name parts range s t p a e) h
 step_name parts range s t (step.Stop w) a h = either (is_gone s w) (λ e. same_name s t e.1) (λ e. ap (λ (v : WorldView). v.book.name) e.1) h
 
--- whatever is still to come, put behind what was answered it answers all
+-- the answers to the remaining steps, whatever they are, appended to those so far answer all steps
 abbrev pub AnswersAll : {C : Type 0} → ℕ → (ℕ → ℕ × ℕ) → WorldView → List (Step C) → List (Answer C) → WorldView → List (Step C) → Type 0
 AnswersAll {C} parts range start steps answers s rest =
     (more : List (Answer C)) (t : WorldView) → AreSteps parts range s rest more t → AreSteps parts range start steps (answers ++ more) t

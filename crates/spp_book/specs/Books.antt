@@ -3,7 +3,7 @@ use Rattle.std.specs.Prelude.{◌≡◌, ℕ, ◌+◌, ◌-◌, ◌<◌, ◌≤�
 use Rattle.spp_book.specs.declared.book.Front.{Front}
 use Rattle.spp_book.specs.declared.book.Run.{Run}
 use Rattle.spp_book.specs.declared.piece.Why.{Why}
-use Rattle.spp_book.specs.declared.piece.Why.TheVariants.{Stranger, Double, Memory}
+use Rattle.spp_book.specs.declared.piece.Why.TheVariants.{Stranger, Double}
 use Rattle.spp_book.specs.declared.piece.CloseFault.{CloseFault}
 use Rattle.spp_book.specs.declared.piece.CloseFault.TheVariants as close
 
@@ -30,7 +30,6 @@ end_at runs k = get_or runs k None
 abbrev pub WhyIs : Why → Type 0 → Bool → Type 0
 WhyIs Stranger ours taken = ¬ ours
 WhyIs Double ours taken = ours × (taken ≡ true)
-WhyIs Memory ours taken = ours × (taken ≡ false)
 
 -- a run begins at f and ends at p, and another begins there
 abbrev pub MeetAt : List (Option ℕ) → ℕ → ℕ → Type 0
@@ -44,7 +43,7 @@ AreMet runs p = (f : ℕ) × MeetAt runs f p
 abbrev pub IsLeftOf : List (Option ℕ) → ℕ → ℕ → Type 0
 IsLeftOf runs p f = MeetAt runs f p × ((g : ℕ) → MeetAt runs g p → g ≡ f)
 
--- the runs that begin at f and at p are one, or still two where no memory was left to join them
+-- the runs that begin at f and at p are one, or still two; that it was a refused join that left two isn't said
 abbrev pub IsOneOrBoth : ℕ → ℕ → List (Option ℕ) → List (Option ℕ) → Type 0
 IsOneOrBoth f p old new = (new ≡ set (set old p None) f (end_at old p)) ⊎ (new ≡ old)
 

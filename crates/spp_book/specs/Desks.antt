@@ -4,7 +4,7 @@ use Rattle.atomic_table.specs.Seated.{TableId}
 use Rattle.spp_book.specs.Counters.{has_past}
 use Rattle.spp_book.specs.declared.book.Front.{Front}
 use Rattle.spp_book.specs.declared.piece.Why.{Why}
-use Rattle.spp_book.specs.declared.piece.Why.TheVariants.{Stranger, Double, Memory}
+use Rattle.spp_book.specs.declared.piece.Why.TheVariants.{Stranger, Double}
 use Rattle.spp_book.specs.declared.piece.CloseFault.{CloseFault}
 use Rattle.spp_book.specs.declared.piece.CloseFault.TheVariants as close
 
@@ -34,7 +34,6 @@ IsOpen pass = has_past pass.parts pass.drawn ≡ false
 abbrev pub IsStranger : Why → Type 0 → Type 0
 IsStranger Stranger ours = ¬ ours
 IsStranger Double ours = ours
-IsStranger Memory ours = ours
 
 -- a part is missing only where fewer pieces were put than there are parts
 abbrev pub IsShort : CloseFault → ℕ → ℕ → Type 0

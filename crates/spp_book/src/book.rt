@@ -9,7 +9,7 @@ use crate::piece::{CloseFault, Piece, Refused, Why};
 use std::alloc::{AllocError, Global};
 use std::marker::Model;
 
-/// Neighbouring parts whose contents have been joined. It is kept by its first part.
+/// A run of neighbouring parts, joined into one content. It is stored at its first part.
 #[derive(Drop)]
 pub(crate) struct Run<C> {
     /// One past its last part.
@@ -30,14 +30,14 @@ pub struct Front<C> {
 
 /// The accepted pieces of a job. Neighbours are joined as they come, in whatever order.
 ///
-/// A book takes room for all parts when it is made: for each the size of a content and 16 bytes. Contracts see the name
-/// of the job, which parts were accepted, and the runs: where each begins and ends.
+/// A book takes room for all parts when it is made: for each the size of a content and at most 24 bytes. Contracts see the
+/// name of the job, which parts were accepted, and the runs of neighbouring parts: where each begins and ends.
 #[derive(Drop)]
 pub struct Book<'a, J: Job> {
     job: &'a J,
     /// The run that begins at each part.
     runs: Vec<Option<Run<J::Content>>>,
-    /// Of each accepted part some part; of the last part of a run where the run begins.
+    /// `Some` for each accepted part. For the last part of a run it is the first part of that run; elsewhere it may be old.
     notes: Vec<Option<u32>>,
     /// How many parts were accepted.
     count: u32,
@@ -147,8 +147,9 @@ impl<'a, J: Job> Book<'a, J> {
     }
 
     /// Takes a piece in, and joins it with the run that ends where it begins and with the one that begins where it ends.
-    /// A join for which no memory is left leaves both runs beside each other; the close tries it again. It takes constant
-    /// time, besides the joins of contents.
+    /// A join for which no memory is left leaves both runs beside each other; the close tries it again. Contracts let any
+    /// join be left to the close. It takes constant time, besides the job's `range` and at most two joins, and no memory but
+    /// theirs.
     ///
     /// # Errors
     ///
@@ -275,7 +276,7 @@ impl<'a, J: Job> Book<'a, J> {
         None
     }
 
-    /// What has been joined from the first part on, and how many parts were accepted.
+    /// A copy of what has been joined from the first part on, and how many parts were accepted.
     ///
     /// # Errors
     ///
@@ -299,7 +300,8 @@ impl<'a, J: Job> Book<'a, J> {
         }
     }
 
-    /// The value of all parts. Runs that lie beside each other are joined from the left.
+    /// The value of all parts. Runs that lie beside each other are joined from the left. It takes a time linear in the
+    /// parts, besides the joins.
     ///
     /// # Errors
     ///

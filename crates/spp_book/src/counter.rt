@@ -1,4 +1,4 @@
-//! Numbers that threads draw, each once, by one exchange each.
+//! Numbers that threads draw, each once, by one `fetch_add` each.
 
 ghost use Rattle.std.specs.Prelude.{◌≡◌, ◌<◌, ◌≤◌, ◌+◌, ◌-◌, ◌^◌, ℕ, [], ◌∷◌, ◌++◌, false, is_none, IfOk, MatchOption};
 ghost use Rattle.spp_book.specs.Counters.{hand, has_past, IsEachBelow};
@@ -8,7 +8,8 @@ use std::alloc::{AllocError, Global};
 use std::collections::LinkedList;
 use std::marker::{Brand, PhantomData};
 
-/// What a seat knows: its allowance, and the numbers it drew, in the order of the draws. No value of it is made.
+/// What a seat knows: its allowance, that is, for how many workers it stands, and the numbers it drew, in the order of
+/// the draws. No value of it is made.
 pub(crate) struct Hand {
     pub workers: u64,
     pub drawn: LinkedList<u64>,
@@ -44,24 +45,24 @@ impl Play<u8, Hand> for Draw {
 }
 
 /// How much of an allowance a split gives away. Each call picks it.
-pub(crate) trait Cutting {
+pub(crate) trait Giving {
     ghost given: { ℕ };
 }
 
-impl Cutting for Brand {
+impl Giving for Brand {
     ghost given = { 0 };
 }
 
 /// A split that gives away so much, and no numbers.
-pub(crate) struct Cut<C: Cutting>(PhantomData<C>);
+pub(crate) struct Give<G: Giving>(PhantomData<G>);
 
-impl<C: Cutting> Split<Hand> for Cut<C> {
+impl<G: Giving> Split<Hand> for Give<G> {
     ghost use Rattle.std.specs.Prelude.{◌-◌, []};
     ghost use Rattle.spp_book.specs.Counters.{hand};
 
-    ghost left = { λ v. hand (v.workers - C.given) v.drawn };
+    ghost left = { λ v. hand (v.workers - G.given) v.drawn };
 
-    ghost right = { λ v. hand C.given [] };
+    ghost right = { λ v. hand G.given [] };
 }
 
 /// Two hands in one.
@@ -165,7 +166,7 @@ impl Counter {
         }
     }
 
-    /// Gives so much of the allowance to a seat of its own. The first keeps the numbers.
+    /// Splits off a seat with so much of the allowance. The first keeps the numbers.
     pub(crate) fn split(&self, me: Holder, workers: u32) -> (Holder, Holder)
         requires table { (me.seat.table_id ≡ self.now.table.shared.table_id) × (me.parts ≡ self.now.parts) }
         requires open { has_past me.parts me.seat.me.0.drawn ≡ false }
@@ -224,8 +225,8 @@ impl Counter {
 }
 
 /// The split with its amount picked.
-fn split_as<C: Cutting>(counter: &Counter, me: Holder, workers: u32) -> (Holder, Holder)
-    requires given { workers ≡ C.given }
+fn split_as<G: Giving>(counter: &Counter, me: Holder, workers: u32) -> (Holder, Holder)
+    requires given { workers ≡ G.given }
     requires table { (me.seat.table_id ≡ counter.now.table.shared.table_id) × (me.parts ≡ counter.now.parts) }
     requires open { has_past me.parts me.seat.me.0.drawn ≡ false }
     requires some { 0 < workers }
@@ -242,7 +243,7 @@ fn split_as<C: Cutting>(counter: &Counter, me: Holder, workers: u32) -> (Holder,
         workers: all,
         finished: _,
     } = me;
-    let other = counter.table.shared.split_seat::<Cut<C>>(&mut seat);
+    let other = counter.table.shared.split_seat::<Give<G>>(&mut seat);
     (
         Holder {
             seat,

@@ -15,11 +15,14 @@ use std::marker::{Brand, Model};
 use std::sync::ledger::{Blank, Ledger, Share};
 use std::sync::{Mutex, Wait, ledger};
 
-/// What a desk stands for: its ledger, and by its name the job. Contracts alone see it.
+/// What a desk stands for: the ledger that counts the accepted pieces, and the job. Contracts alone see it. The ledger's
+/// parts, `N.parts`, are the workers, not the parts of the job.
 pub trait Naming: Ledger {
+    /// The name of the job.
     ghost job: { List ℕ };
 }
 
+/// Each call that names `Brand` picks its own job.
 impl Naming for Brand {
     ghost job = { [] };
 }
@@ -28,10 +31,11 @@ impl Naming for Brand {
 #[derive(Drop)]
 struct Locked<'a, J: Job, N: Naming> {
     book: Book<'a, J>,
-    total: ledger::Book<N>,
+    /// Counts the accepted pieces.
+    tally: ledger::Book<N>,
     ghost named: { book.name ≡ N.job },
     ghost flags: { length book.accepted ≡ J.parts_of N.job },
-    ghost counted: { count_of book.accepted ≡ total.total },
+    ghost counted: { count_of book.accepted ≡ tally.total },
 }
 
 impl<'a, J: Job, N: Naming> Locked<'a, J, N> {
@@ -51,10 +55,10 @@ impl<'a, J: Job, N: Naming> Locked<'a, J, N> {
         ensures ours { OnOk result (IsOurs (J.parts_of N.job) (J.range_of N.job) piece.number piece.first piece.events) }
         ensures why { IfErr result (λ r. IsStranger r.why (IsOurs (J.parts_of N.job) (J.range_of N.job) piece.number piece.first piece.events)) }
     {
-        let Locked { book, total, .. } = self;
+        let Locked { book, tally, .. } = self;
         let taken = book.accept(alloc, piece);
         if taken.is_ok() {
-            total.add(share, 1);
+            tally.add(share, 1);
         }
         taken
     }
@@ -70,11 +74,11 @@ impl<'a, J: Job, N: Naming> Locked<'a, J, N> {
         ensures own { IfOk result (λ f. share.old.amount ≤ f.accepted) }
         ensures within { IfOk result (λ f. f.parts ≤ f.accepted) }
     {
-        self.total.audit(share);
+        self.tally.audit(share);
         self.book.front(alloc)
     }
 
-    /// The value of all parts, where the share with all parts of the ledger has as many pieces as there are parts.
+    /// The value of all parts, where the share of all workers has as many pieces as the job has parts.
     fn close(self, alloc: Global, share: Share<N>) -> Result<J::Content, CloseFault>
         requires { share.parts ≡ N.parts }
         ensures all { OnOk result (share.amount ≡ J.parts_of N.job) }
@@ -83,11 +87,11 @@ impl<'a, J: Job, N: Naming> Locked<'a, J, N> {
     {
         let Locked {
             book,
-            mut total,
+            mut tally,
             ..
         } = self;
         let mut share = share;
-        total.audit(&mut share);
+        tally.audit(&mut share);
         book.close(alloc)
     }
 }
@@ -113,8 +117,8 @@ impl<'a, J: Job, N: Naming> Model for Desk<'a, J, N> {
     ghost invariant = { λ d. (d.counter.parts ≡ J.parts_of N.job) × (d.counter.table.shared.key.workers ≡ N.parts) };
 }
 
-/// A worker's token at a desk: its allowance of workers, the numbers that were drawn with it, and how many of the accepted
-/// pieces are its own.
+/// A worker's token at a desk. Contracts see for how many workers it stands, the numbers that were drawn with it, and how
+/// many of the accepted pieces were put with it.
 #[derive(Drop)]
 pub struct Pass<N: Naming> {
     holder: Holder,
@@ -139,14 +143,14 @@ impl<N: Naming> Model for Pass<N> {
 }
 
 impl<N: Naming> Pass<N> {
-    /// Whether it holds a number that is not below the parts, that is, a draw with it gave None.
+    /// Whether a draw with it gave `None`.
     pub fn finished(&self) -> bool
         ensures past { result ≡ has_past self.now.parts self.now.drawn }
     {
         self.holder.finished()
     }
 
-    /// Its allowance of workers.
+    /// For how many workers it stands: into how many passes it can be split.
     pub fn workers(&self) -> u32
         ensures workers { result ≡ self.now.workers }
         ensures some { 0 < result }
@@ -156,7 +160,8 @@ impl<N: Naming> Pass<N> {
 }
 
 impl<'a, J: Job, N: Naming> Desk<'a, J, N> {
-    /// A desk with nothing drawn or accepted, and the pass of all workers. It takes time and room for all parts.
+    /// A desk with nothing drawn or accepted, and the pass of all workers, 1 to 64. It takes time and room for all parts.
+    /// The blank has as many parts as there are workers.
     ///
     /// # Errors
     ///
@@ -182,8 +187,8 @@ impl<'a, J: Job, N: Naming> Desk<'a, J, N> {
         let parts = job.parts();
         let book = Book::new(alloc, job)?;
         let (counter, holder) = Counter::new(alloc, parts, workers)?;
-        let (total, share) = blank.open::<N>();
-        let locked = Locked { book, total };
+        let (tally, share) = blank.open::<N>();
+        let locked = Locked { book, tally };
         let desk = Desk {
             counter,
             locked: Mutex::new(locked),
@@ -191,8 +196,8 @@ impl<'a, J: Job, N: Naming> Desk<'a, J, N> {
         Ok((desk, Pass { holder, share }))
     }
 
-    /// The number of a part that no one drew before, or None where no such number is left; then the pass is finished.
-    /// It is one exchange, and takes no memory.
+    /// The next number, or `None` where it isn't below the parts; then the pass is finished, and draws no more. That no
+    /// two draws give the same number is told at the close. It is one `fetch_add`, and takes no memory.
     pub fn draw(&self, pass: &mut Pass<N>) -> Option<u32>
         requires of { IsOf pass.old self.now }
         requires open { IsOpen pass.old }
@@ -205,8 +210,8 @@ impl<'a, J: Job, N: Naming> Desk<'a, J, N> {
         self.counter.draw(&mut pass.holder)
     }
 
-    /// Gives so many workers of a pass to one of their own. The first pass keeps the pieces and the numbers.
-    /// It is one load, and takes no memory.
+    /// Splits off a pass for so many of the workers of one that isn't finished. The first pass keeps the pieces and the
+    /// numbers. It is one atomic load, and takes no memory.
     pub fn split(&self, pass: Pass<N>, workers: u32) -> (Pass<N>, Pass<N>)
         requires of { IsOf pass self.now }
         requires open { IsOpen pass }
@@ -230,8 +235,7 @@ impl<'a, J: Job, N: Naming> Desk<'a, J, N> {
         )
     }
 
-    /// Two passes as one, with the workers, the pieces and the numbers of both.
-    /// It is one load, and takes no memory.
+    /// Two passes as one, with the workers, the pieces and the numbers of both. It is one atomic load, and takes no memory.
     pub fn rejoin(&self, pass: Pass<N>, other: Pass<N>) -> Pass<N>
         requires one { IsOf pass self.now }
         requires two { IsOf other self.now }
@@ -249,8 +253,8 @@ impl<'a, J: Job, N: Naming> Desk<'a, J, N> {
         }
     }
 
-    /// Puts a piece into the book, as a piece of this pass. It waits for the lock, and takes constant time, besides the
-    /// joins of contents.
+    /// Puts a piece into the book, as a piece of this pass. It waits for the lock, and makes the joins under it; besides
+    /// these it takes constant time.
     ///
     /// # Errors
     ///
@@ -274,8 +278,8 @@ impl<'a, J: Job, N: Naming> Desk<'a, J, N> {
         self.locked.lock(rt).put(alloc, &mut pass.share, piece)
     }
 
-    /// What has been joined from the first part on, and how many parts were accepted in all: no fewer than are the pass's
-    /// own. It waits for the lock.
+    /// A copy of what has been joined from the first part on, and how many parts were accepted in all: no fewer than are
+    /// the pass's own. It waits for the lock, and copies under it.
     ///
     /// # Errors
     ///
@@ -295,12 +299,12 @@ impl<'a, J: Job, N: Naming> Desk<'a, J, N> {
         self.locked.lock(rt).front(alloc, &mut pass.share)
     }
 
-    /// The value of all parts, where as many pieces were put as there are parts. Each number below one of them was drawn
-    /// once, and no other one was.
+    /// The value of all parts, with the pass of all workers. The numbers that were drawn are 0 to n - 1, for some n, each
+    /// once. It takes a time linear in the parts, besides the joins.
     ///
     /// # Errors
     ///
-    /// `Missing` with a part of which no piece was accepted, or `Memory` where a growth was refused.
+    /// `Missing`, only where fewer pieces were accepted than there are parts, or `Memory` where a growth was refused.
     pub fn close(
         alloc: Global,
         desk: Desk<'a, J, N>,

@@ -11,6 +11,7 @@ pub trait Job {
     /// What comes of parts of the job.
     type Content: Drop + Send;
 
+    /// Its name.
     ghost name: { Self → List ℕ };
 
     /// How many parts a job of this name has; 0 for a name of no job.
@@ -33,7 +34,7 @@ pub trait Job {
         requires { number < parts_of (name self.now) }
         ensures { result ≡ range_of (name self.now) number };
 
-    /// The value of one part.
+    /// The value of one part: what a worker calls. A book calls it nowhere.
     ///
     /// # Errors
     ///

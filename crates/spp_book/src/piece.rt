@@ -2,7 +2,7 @@
 
 use thiserror::Error;
 
-/// What came of one part of a job.
+/// What came of one part of a job, as a worker hands it over.
 #[derive(Drop)]
 pub struct Piece<C> {
     /// The number of the part, from 0.
@@ -24,9 +24,6 @@ pub enum Why {
     /// A piece of this number was accepted before.
     #[error("a piece that was accepted before")]
     Double,
-    /// An allocation failed.
-    #[error("out of memory")]
-    Memory,
 }
 
 /// A piece that is handed back.
@@ -41,10 +38,10 @@ pub struct Refused<C> {
 /// Why a book gives no value of the whole job.
 #[derive(Clone, Copy, Debug, Error, PartialEq, Eq)]
 pub enum CloseFault {
-    /// A piece never came.
+    /// No piece of a part was accepted.
     #[error("part {number} is missing")]
     Missing {
-        /// The least number of a part that wasn't accepted.
+        /// The least number of such a part. Of a desk, contracts say only that it is one of the job's.
         number: u32,
     },
     /// An allocation failed.

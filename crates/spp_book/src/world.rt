@@ -43,11 +43,11 @@ pub enum Answer<C> {
     /// The worker has stopped.
     Stopped,
     /// Nothing was done: the worker had stopped, or there is none of this number, or it drew again after `None`. A piece
-    /// is let go.
+    /// is dropped.
     Ended,
 }
 
-/// A book and the workers that fill it. Each draw gives the next part, and each part is drawn once.
+/// A book and the workers that fill it. Each draw gives the next part, so each part is drawn at most once.
 ///
 /// A world takes room for all parts and workers when it is made: that of the book, 4 bytes for each part and 2 for each
 /// worker. Contracts see the book, the worker of each part that was drawn, which workers drew `None`, and which stopped.

@@ -28,7 +28,6 @@ returns-then-place-eq0 g c =
           absurd cc
     ])
 
--- src/book.rt:225:5
 pub returns : goal.returns
 returns g c =
     let name = g.J.Job.name c.self.inside.job.now in

@@ -2,7 +2,7 @@ use Rattle.std.proofs.Common.{List, sym, subst}
 use Rattle.spp_book.specs.Worlds.{MayRun}
 use Rattle.book_tests.specs.Lists.{list_parts, list_range, IsRange}
 use Rattle.book_tests.proofs.Runs.{may_push}
-use Rattle.book_tests.proofs.steps.steps_of.Goals as goal
+use Rattle.book_tests.proofs.world.steps_of.Goals as goal
 
 pub loop-next-preserved : goal.loop-next-preserved
 loop-next-preserved c =

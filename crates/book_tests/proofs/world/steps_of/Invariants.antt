@@ -1,6 +1,6 @@
 use Rattle.spp_book.specs.Worlds.{MayRun}
 use Rattle.book_tests.specs.Lists.{list_parts, list_range, IsRange}
-use Rattle.book_tests.proofs.steps.steps_of.Given as goal
+use Rattle.book_tests.proofs.world.steps_of.Given as goal
 
 abbrev pub invariant-loop-next : goal.invariant-loop-next
 invariant-loop-next l =

@@ -59,7 +59,7 @@ enum Told {
     Ended,
 }
 
-fn outcome(answer: &Answer<Listed>) -> Told {
+fn kind_of(answer: &Answer<Listed>) -> Told {
     match answer {
         Answer::Drawn(number) => Told::Drawn(*number),
         Answer::Accepted => Told::Accepted,
@@ -86,7 +86,7 @@ fn told_by(
     };
     let mut list = Vec::new(alloc);
     for answer in &answers {
-        list.push(outcome(answer))?;
+        list.push(kind_of(answer))?;
     }
     Ok(list)
 }
