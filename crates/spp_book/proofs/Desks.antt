@@ -1,5 +1,5 @@
 -- What is known of a desk when it is closed.
-use Rattle.std.proofs.Common.{◌≡◌, ℕ, ◌<◌, Bool, true, false, List, length, arith, set, IfErr, Ok, Err, Result}
+use Rattle.std.proofs.Common.{◌≡◌, ℕ, ◌<◌, ◌≤◌, ◌∙◌, Bool, true, false, List, length, arith, set, IfErr, Ok, Err, Result}
 use Rattle.std.proofs.lemmas.List.Sums.{count_by-le-length}
 use Rattle.std.proofs.Math.ListN.{length-set}
 use Rattle.spp_book.specs.Books.{count_of, is_accepted, MissingIs}
@@ -20,8 +20,12 @@ short_of : (f : CloseFault) (bs : List Bool) (share parts : ℕ) → length bs �
 short_of (close.Missing number) bs share parts long counted is =
     let below = flags_below bs number is.0 is.1 in
     (omega (arith, is.0, long), omega (arith, below, long, counted))
-short_of close.Memory bs share parts long counted is = tt
+short_of close.Memory bs share parts long counted is = counted ∙ is ∙ long
 
 pub shorts : {C : Type 0} (r : Result C CloseFault) (bs : List Bool) (share parts : ℕ) → length bs ≡ parts → share ≡ count_of bs → IfErr r (λ f. MissingIs f bs) → IfErr r (λ f. IsShort f share parts)
 shorts (Ok x) bs share parts long counted is = tt
 shorts (Err f) bs share parts long counted is = short_of f bs share parts long counted is
+
+-- no more parts are accepted than there are
+pub few_accepted : (bs : List Bool) (parts count : ℕ) → length bs ≡ parts → count ≡ count_of bs → count ≤ parts
+few_accepted bs parts count long counted = let t = count_by-le-length (λ (b : Bool). b) bs in omega (arith, t, long, counted)

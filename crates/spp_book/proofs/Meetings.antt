@@ -3,7 +3,7 @@ use Rattle.std.proofs.Common.{◌≡◌, ℕ, ◌-◌, ◌<◌, true, List, Opti
 use Rattle.std.specs.Prelude.{map, is_some, MatchOption}
 use Rattle.std.specs.Option.{option_map}
 use Rattle.spp_book.specs.declared.book.Run.{Run}
-use Rattle.spp_book.specs.Books.{AreRuns, entry, MeetAt, AreMet, IsLeftOf}
+use Rattle.spp_book.specs.Books.{AreRuns, end_at, entry, MeetAt, AreMet, IsLeftOf}
 use Rattle.spp_book.proofs.Lists.{ends_is}
 use Rattle.spp_book.proofs.Runs.{same_some, no_some}
 
@@ -67,3 +67,21 @@ module _ {C : Type 0} (parts : ℕ) (value : ℕ → ℕ → C → Type 0) (runs
   pub noted_or_not : (p : ℕ) → (note : Option ℕ) → 0 < p → is_some (entry runs p) ≡ true → entry notes (p - 1) ≡ note → MatchOption note (¬ (AreMet (ends_of runs) p)) (IsLeftOf (ends_of runs) p)
   noted_or_not p (Some f) lt here e = (meets f p lt here e, λ g m. one_left g f p m (meets f p lt here e))
   noted_or_not p None lt here e = λ m. no_some (entry notes (p - 1)) m.0 e (note_before m.0 p m.1).1
+
+  -- where a run has all parts there is no other
+  pub whole_is_alone : (p : ℕ) → end_at (ends_of runs) 0 ≡ Some parts → ¬ (AreMet (ends_of runs) p)
+  whole_is_alone p whole h =
+      let w = held (entry runs 0) parts (sym (ends_is runs 0) ∙ whole) in
+      let b = note_before h.0 p h.1 in
+      let s = right_run h.0 p h.1 in
+      let r = are.runs p s.0 s.1 in
+      let some = r.some in
+      let inside = r.inside in
+      let gap = are.apart 0 p w.0 s.0 w.1 s.1 b.0 in
+      absurd (omega (arith, w.2))
+
+  -- and each part has a note
+  pub whole_is_noted : (k : ℕ) → k < parts → end_at (ends_of runs) 0 ≡ Some parts → is_some (entry notes k) ≡ true
+  whole_is_noted k few whole =
+      let w = held (entry runs 0) parts (sym (ends_is runs 0) ∙ whole) in
+      (are.runs 0 w.0 w.1).taken k (omega arith) (omega (arith, w.2))

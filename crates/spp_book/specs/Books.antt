@@ -62,10 +62,10 @@ pub record IsPut (number : ℕ) (old new : List (Option ℕ)) : Type 0 where
 abbrev pub IsLeast : List Bool → ℕ → Type 0
 IsLeast accepted number = (number < length accepted) × (is_accepted accepted number ≡ false) × ((k : ℕ) → k < number → is_accepted accepted k ≡ true)
 
--- a part is missing, the least one is told
+-- a part is missing, and the least one is told; or none is, and memory was wanting
 abbrev pub MissingIs : CloseFault → List Bool → Type 0
 MissingIs (close.Missing number) accepted = IsLeast accepted number
-MissingIs close.Memory accepted = Unit {0}
+MissingIs close.Memory accepted = count_of accepted ≡ length accepted
 
 -- The run that begins at the first part, as far as it goes, and the number of accepted parts.
 pub record IsFront {C : Type 0} (value : ℕ → ℕ → C → Type 0) (book : BookView) (front : Front C) : Type 0 where

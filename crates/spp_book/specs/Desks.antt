@@ -35,10 +35,10 @@ abbrev pub IsStranger : Why → Type 0 → Type 0
 IsStranger Stranger ours = ¬ ours
 IsStranger Double ours = ours
 
--- a part is missing only where fewer pieces were put than there are parts
+-- a part is missing only where fewer pieces were put than there are parts, and memory was wanting only where as many were
 abbrev pub IsShort : CloseFault → ℕ → ℕ → Type 0
 IsShort (close.Missing number) share parts = (number < parts) × (share < parts)
-IsShort close.Memory share parts = Unit {0}
+IsShort close.Memory share parts = share ≡ parts
 
 -- the content is the value of the joined parts, and there is none where none are joined
 abbrev pub IsFrontOf : {C : Type 0} → (ℕ → ℕ → C → Type 0) → Front C → Type 0

@@ -16,7 +16,7 @@ IsJoined parts value left right both =
 abbrev pub IsCopied : {C : Type 0} → (List ℕ → ℕ → ℕ → C → Type 0) → C → C → Type 0
 IsCopied value content copy = (name : List ℕ) (i k : ℕ) → value name i k content → value name i k copy
 
--- both come back as they were
+-- both come back, each a value wherever it was one
 abbrev pub IsHandedBack : {C : Type 0} → (List ℕ → ℕ → ℕ → C → Type 0) → C → C → C → C → Type 0
 IsHandedBack value left right back_left back_right = IsCopied value left back_left × IsCopied value right back_right
 

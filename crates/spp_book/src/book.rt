@@ -1,6 +1,6 @@
 //! The pieces of one job that were accepted, joined as they come.
 
-ghost use Rattle.std.specs.Prelude.{◌≡◌, ◌<◌, ◌≤◌, ◌+◌, ℕ, List, true, false, None, Some, IfOk, IfErr, IfSome, OnOk, OnErr, MatchOption, length, replicate, set};
+ghost use Rattle.std.specs.Prelude.{◌≡◌, ◌<◌, ◌≤◌, ◌+◌, ℕ, List, true, false, None, Some, IfOk, IfErr, IfSome, IsOk, OnOk, OnErr, MatchOption, length, replicate, set};
 ghost use Rattle.spp_book.specs.Books.{BookView, count_of, is_accepted, end_at, WhyIs, IsPut, AreMet, MeetAt, IsLeftOf, IsOneOrBoth, IsJoinedAt, MissingIs, IsLeast, IsFront};
 ghost use Rattle.spp_book.specs.Jobs.{AreNeighbours, IsJoined, IsHandedBack, IsOurs, IsPieceOf};
 
@@ -224,6 +224,7 @@ impl<'a, J: Job> Book<'a, J> {
         ensures name { self.new.name ≡ self.old.name }
         ensures accepted { self.new.accepted ≡ self.old.accepted }
         ensures runs { IsJoinedAt at self.old.runs self.new.runs }
+        ensures whole { end_at self.old.runs 0 ≡ Some (J.parts_of self.old.name) → self.new.runs ≡ self.old.runs }
     {
         if let Some(first) = self.left_of(at) {
             self.join(alloc, first, at);
@@ -232,7 +233,8 @@ impl<'a, J: Job> Book<'a, J> {
 
     /// Where the run begins that ends at a part where another begins, if there are two such runs.
     fn left_of(&self, at: u32) -> Option<u32>
-        ensures { MatchOption result (¬ (AreMet self.now.runs at)) (IsLeftOf self.now.runs at) }
+        ensures left { MatchOption result (¬ (AreMet self.now.runs at)) (IsLeftOf self.now.runs at) }
+        ensures alone { end_at self.now.runs 0 ≡ Some (J.parts_of self.now.name) → ¬ (AreMet self.now.runs at) }
     {
         let place = at as usize;
         if place == 0 || place >= self.runs.len() || self.runs[place].is_none() {
@@ -305,9 +307,11 @@ impl<'a, J: Job> Book<'a, J> {
     ///
     /// # Errors
     ///
-    /// `Missing` with the least part that wasn't accepted, or `Memory` where a growth was refused.
+    /// `Missing` with the least part that wasn't accepted, or else `Memory` where a growth was refused. A book that is
+    /// joined whole needs none.
     pub fn close(self, alloc: Global) -> Result<J::Content, CloseFault>
         ensures all { OnOk result (count_of self.entry.accepted ≡ J.parts_of self.entry.name) }
+        ensures joined { end_at self.entry.runs 0 ≡ Some (J.parts_of self.entry.name) → IsOk result }
         ensures value { IfOk result (λ c. J.is_value self.entry.name 0 (J.parts_of self.entry.name) c) }
         ensures missing { IfErr result (λ f. MissingIs f self.entry.accepted) }
     {
@@ -329,6 +333,7 @@ impl<'a, J: Job> Book<'a, J> {
     fn join_all(&mut self, alloc: Global)
         ensures name { self.new.name ≡ self.old.name }
         ensures accepted { self.new.accepted ≡ self.old.accepted }
+        ensures whole { end_at self.old.runs 0 ≡ Some (J.parts_of self.old.name) → self.new.runs ≡ self.old.runs }
     {
         for at in 0..self.runs.len() {
             self.join_at(alloc, at as u32);

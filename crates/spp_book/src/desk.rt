@@ -1,7 +1,7 @@
 //! The book of a job that several workers share: its numbers are drawn, each once, and its pieces are put.
 
-ghost use Rattle.std.specs.Prelude.{◌≡◌, ◌<◌, ◌≤◌, ◌+◌, ◌-◌, ◌^◌, ℕ, List, [], ◌∷◌, ◌++◌, IfOk, IfErr, OnOk, OnErr, MatchOption, length, is_none};
-ghost use Rattle.spp_book.specs.Books.{count_of};
+ghost use Rattle.std.specs.Prelude.{◌≡◌, ◌<◌, ◌≤◌, ◌+◌, ◌-◌, ◌^◌, ℕ, List, [], ◌∷◌, ◌++◌, IfOk, IfErr, OnOk, OnErr, MatchOption, true, length, set, is_none};
+ghost use Rattle.spp_book.specs.Books.{count_of, IsPut};
 ghost use Rattle.spp_book.specs.Counters.{has_past, IsEachBelow};
 ghost use Rattle.spp_book.specs.Desks.{IsOf, IsOpen, IsStranger, IsShort, IsFrontOf};
 ghost use Rattle.spp_book.specs.Jobs.{IsOurs, IsPieceOf};
@@ -54,6 +54,9 @@ impl<'a, J: Job, N: Naming> Locked<'a, J, N> {
         ensures back { IfErr result (λ r. r.piece ≡ piece) }
         ensures ours { OnOk result (IsOurs (J.parts_of N.job) (J.range_of N.job) piece.number piece.first piece.events) }
         ensures why { IfErr result (λ r. IsStranger r.why (IsOurs (J.parts_of N.job) (J.range_of N.job) piece.number piece.first piece.events)) }
+        ensures accepted { OnOk result (self.new.book.accepted ≡ set self.old.book.accepted piece.number true) }
+        ensures runs { OnOk result (IsPut piece.number self.old.book.runs self.new.book.runs) }
+        ensures unchanged { OnErr result (self.new.book ≡ self.old.book) }
     {
         let Locked { book, tally, .. } = self;
         let taken = book.accept(alloc, piece);
@@ -70,9 +73,12 @@ impl<'a, J: Job, N: Naming> Locked<'a, J, N> {
         share: &mut Share<N>,
     ) -> Result<Front<J::Content>, AllocError>
         ensures share { (share.new.amount ≡ share.old.amount) × (share.new.parts ≡ share.old.parts) }
+        ensures book { self.new.book ≡ self.old.book }
         ensures content { IfOk result (λ f. IsFrontOf (J.is_value N.job) f) }
         ensures own { IfOk result (λ f. share.old.amount ≤ f.accepted) }
+        ensures whole { IfOk result (λ f. share.old.parts ≡ N.parts → f.accepted ≡ share.old.amount) }
         ensures within { IfOk result (λ f. f.parts ≤ f.accepted) }
+        ensures most { IfOk result (λ f. f.accepted ≤ J.parts_of N.job) }
     {
         self.tally.audit(share);
         self.book.front(alloc)
@@ -279,7 +285,7 @@ impl<'a, J: Job, N: Naming> Desk<'a, J, N> {
     }
 
     /// A copy of what has been joined from the first part on, and how many parts were accepted in all: no fewer than are
-    /// the pass's own. It waits for the lock, and copies under it.
+    /// the pass's own, and of the pass of all workers just these. It waits for the lock, and copies under it.
     ///
     /// # Errors
     ///
@@ -294,7 +300,9 @@ impl<'a, J: Job, N: Naming> Desk<'a, J, N> {
         ensures same { pass.new ≡ pass.old }
         ensures content { IfOk result (λ f. IsFrontOf (J.is_value N.job) f) }
         ensures own { IfOk result (λ f. pass.old.share ≤ f.accepted) }
+        ensures whole { IfOk result (λ f. pass.old.workers ≡ N.parts → f.accepted ≡ pass.old.share) }
         ensures within { IfOk result (λ f. f.parts ≤ f.accepted) }
+        ensures most { IfOk result (λ f. f.accepted ≤ J.parts_of N.job) }
     {
         self.locked.lock(rt).front(alloc, &mut pass.share)
     }
