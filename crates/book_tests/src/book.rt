@@ -109,11 +109,53 @@ fn the_front_is_what_is_joined_from_the_first_part_on(rt: HostRuntime) -> Result
 fn a_refused_join_is_tried_again_at_the_close(rt: HostRuntime) -> Result<(), Fail> {
     let alloc = rt.alloc();
     let numbers = [5, 7, 9];
-    let job = ListJob::new(&numbers).with_stubborn(2);
+    let job = ListJob::new(&numbers).with_refusals(&[2], 1);
     let mut book = Book::new(alloc, &job)?;
     assert!(rt; are_accepted(&mut book, alloc, &job, &[1, 2, 0])?);
     assert!(rt; is_front(&book.front(alloc)?, 3, &[5, 7]));
     assert!(rt; closes_with(book, alloc, &numbers));
+    Ok(())
+}
+
+#[test]
+fn the_close_tries_every_join(rt: HostRuntime) -> Result<(), Fail> {
+    let alloc = rt.alloc();
+    let numbers = [5, 7, 9, 11, 13];
+    // All joins of parts 1 and 3 are refused at first, so five runs lie beside each other.
+    let job = ListJob::new(&numbers).with_refusals(&[1, 3], 2);
+    let mut book = Book::new(alloc, &job)?;
+    assert!(rt; are_accepted(&mut book, alloc, &job, &[0, 2, 4, 1, 3])?);
+    assert!(rt; is_front(&book.front(alloc)?, 5, &[5]));
+    assert!(rt; closes_with(book, alloc, &numbers));
+    Ok(())
+}
+
+#[test]
+fn a_refused_join_on_the_left_leaves_the_one_on_the_right(rt: HostRuntime) -> Result<(), Fail> {
+    let alloc = rt.alloc();
+    let job = ListJob::new(&[5, 7, 9, 11]).with_refusals(&[1], 1);
+    let mut book = Book::new(alloc, &job)?;
+    assert!(rt; are_accepted(&mut book, alloc, &job, &[2, 3, 0, 1])?);
+    // Part 1 was joined with 2 and 3, so one join is left, which the close makes.
+    assert!(rt; is_front(&book.front(alloc)?, 4, &[5]));
+    assert!(rt; closes_with(book, alloc, &[5, 7, 9, 11]));
+    Ok(())
+}
+
+#[test]
+fn a_close_without_memory_says_so(rt: HostRuntime) -> Result<(), Fail> {
+    let alloc = rt.alloc();
+    let job = ListJob::new(&[5, 7, 9, 11]).with_refusals(&[1], 9);
+    let mut book = Book::new(alloc, &job)?;
+    assert!(rt; are_accepted(&mut book, alloc, &job, &[0, 1, 3])?);
+    // A missing part comes before want of memory.
+    assert_eq!(rt;
+        book.close(alloc).err(),
+        Some(CloseFault::Missing { number: 2 })
+    );
+    let mut book = Book::new(alloc, &job)?;
+    assert!(rt; are_accepted(&mut book, alloc, &job, &[0, 1, 2, 3])?);
+    assert_eq!(rt; book.close(alloc).err(), Some(CloseFault::Memory));
     Ok(())
 }
 
@@ -174,10 +216,9 @@ fn even_then_odd(alloc: Global, count: u32) -> Result<Vec<u32>, AllocError> {
 #[test]
 fn even_parts_and_then_odd_ones(rt: HostRuntime) -> Result<(), Fail> {
     let alloc = rt.alloc();
-    let mut numbers = vec![in alloc; 7; 65536]?;
-    numbers[0] = 5;
-    numbers[65535] = 9;
+    let numbers = even_then_odd(alloc, 65536)?;
     let order = even_then_odd(alloc, 65536)?;
+    assert!(rt; numbers.len() == 65536);
     let job = ListJob::new(numbers.as_slice());
     let mut book = Book::new(alloc, &job)?;
     assert!(rt; are_accepted(&mut book, alloc, &job, order.as_slice())?);

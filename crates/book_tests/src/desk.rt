@@ -135,7 +135,7 @@ fn the_front_of_a_desk(rt: HostRuntime) -> Result<(), Fail> {
     let told = at_desk(&rt, rt.alloc(), &job, &[(2, 2), (3, 3), (0, 0)])?;
     assert!(rt; told.front == (1, 3) && has_joined(&told, &[5]));
     assert!(rt; matches!(told.closed, Err(CloseFault::Missing { number: 1 })));
-    let job = ListJob::new(&[5, 7, 9]).with_stubborn(2);
+    let job = ListJob::new(&[5, 7, 9]).with_refusals(&[2], 1);
     let told = at_desk(&rt, rt.alloc(), &job, &[(1, 1), (2, 2), (0, 0)])?;
     assert!(rt; told.front == (2, 3) && has_joined(&told, &[5, 7]));
     assert!(rt; has_closed(&told, &[5, 7, 9]));
@@ -147,5 +147,11 @@ fn a_desk_tells_what_is_missing(rt: HostRuntime) -> Result<(), Fail> {
     let job = ListJob::new(&[5, 7]);
     let told = at_desk(&rt, rt.alloc(), &job, &[(1, 1)])?;
     assert!(rt; matches!(told.closed, Err(CloseFault::Missing { number: 0 })));
+    let job = ListJob::new(&[5, 7, 9, 11, 13]);
+    let told = at_desk(&rt, rt.alloc(), &job, &[(2, 2), (0, 0)])?;
+    assert!(rt; matches!(told.closed, Err(CloseFault::Missing { number: 1 })));
+    let job = ListJob::new(&[5, 7]).with_refusals(&[1], 9);
+    let told = at_desk(&rt, rt.alloc(), &job, &[(1, 1), (0, 0)])?;
+    assert!(rt; matches!(told.closed, Err(CloseFault::Memory)));
     Ok(())
 }

@@ -11,8 +11,8 @@ use std::alloc::{AllocError, Global};
 #[derive(Drop)]
 pub struct Listed {
     items: Vec<u32>,
-    /// Whether the next join is refused, as if no memory were left.
-    refuses: bool,
+    /// How many more joins are refused, as if no memory were left.
+    refusals: u32,
 }
 
 impl Listed {
@@ -28,8 +28,10 @@ impl Listed {
 #[derive(Drop)]
 pub struct ListJob<'a> {
     numbers: &'a [u32],
-    /// The part whose first join is refused.
-    stubborn: Option<u32>,
+    /// The parts whose first joins are refused.
+    stubborn: &'a [u32],
+    /// How many are, for each of them.
+    refusals: u32,
     ghost some: { 0 < length numbers.now },
     ghost most: { length numbers.now ≤ 65536 },
 }
@@ -43,18 +45,20 @@ impl<'a> ListJob<'a> {
     {
         ListJob {
             numbers,
-            stubborn: None,
+            stubborn: &[],
+            refusals: 0,
         }
     }
 
-    /// The same job, except that the first join of this part is refused.
-    pub fn with_stubborn(self, part: u32) -> ListJob<'a>
+    /// The same job, except that so many joins of each of these parts are refused.
+    pub fn with_refusals(self, stubborn: &'a [u32], refusals: u32) -> ListJob<'a>
         ensures { result.numbers.now ≡ self.entry.numbers.now }
     {
         let ListJob { numbers, .. } = self;
         ListJob {
             numbers,
-            stubborn: Some(part),
+            stubborn,
+            refusals,
         }
     }
 
@@ -71,7 +75,7 @@ impl<'a> ListJob<'a> {
         } else {
             Listed {
                 items: Vec::new(alloc),
-                refuses: false,
+                refusals: 0,
             }
         };
         Ok(Piece {
@@ -105,10 +109,12 @@ impl<'a> Job for ListJob<'a> {
     fn run(&self, alloc: Global, number: u32) -> Result<Listed, AllocError> {
         let at = number as usize;
         let items = Vec::from_slice(alloc, &self.numbers[at..at + 1])?;
-        Ok(Listed {
-            items,
-            refuses: self.stubborn == Some(number),
-        })
+        let refusals = if self.stubborn.contains(&number) {
+            self.refusals
+        } else {
+            0
+        };
+        Ok(Listed { items, refusals })
     }
 
     fn join(_alloc: Global, left: Listed, right: Listed) -> Result<Listed, JoinRefused<Listed>>
@@ -118,9 +124,9 @@ impl<'a> Job for ListJob<'a> {
     {
         let mut left = left;
         let mut right = right;
-        if left.refuses || right.refuses {
-            left.refuses = false;
-            right.refuses = false;
+        if left.refusals > 0 || right.refusals > 0 {
+            left.refusals = left.refusals.saturating_sub(1);
+            right.refusals = right.refusals.saturating_sub(1);
             return Err(JoinRefused { left, right });
         }
         match left.items.extend_from_slice(right.items.as_slice()) {
@@ -134,7 +140,7 @@ impl<'a> Job for ListJob<'a> {
     {
         Ok(Listed {
             items: Vec::from_slice(alloc, content.items.as_slice())?,
-            refuses: content.refuses,
+            refusals: content.refusals,
         })
     }
 }

@@ -196,6 +196,8 @@ fn both_put<N: Naming + Send + Sync, R: Threads + Wait + Sync>(
 struct Filled {
     mine: Vec<Option<Why>>,
     other: Vec<Option<Why>>,
+    /// How many parts the front had then, and how many were accepted.
+    front: (u32, u32),
     /// The numbers of all parts, or why there are none.
     closed: Result<Listed, CloseFault>,
 }
@@ -214,12 +216,14 @@ fn filled_at<N: Naming + Send + Sync, R: Threads + Wait + Sync>(
 {
     let (desk, pass): (Desk<'_, ListJob<'_>, N>, Pass<N>) = Desk::new(alloc, blank, job, 2)?;
     let passes = desk.split(pass, 1);
-    let (mine, other) = both_put(rt, alloc, &desk, job, passes, pieces);
-    let whole = desk.rejoin(mine.0, other.0);
+    let ((mut pass, mine), (second, other)) = both_put(rt, alloc, &desk, job, passes, pieces);
+    let front = desk.front(rt, alloc, &mut pass)?;
+    let whole = desk.rejoin(pass, second);
     let closed = Desk::close(alloc, desk, whole);
     Ok(Filled {
-        mine: mine.1?,
-        other: other.1?,
+        mine: mine?,
+        other: other?,
+        front: (front.parts, front.accepted),
         closed,
     })
 }
@@ -249,6 +253,7 @@ fn two_threads_put_doubles_and_strangers(rt: HostRuntime) -> Result<(), Fail> {
     let second = told.other.as_slice() == [double, stranger, stranger].as_slice()
         && told.mine.as_slice() == [None, None, None, None].as_slice();
     assert!(rt; first || second);
+    assert!(rt; told.front == (4, 4));
     assert!(rt;
         told.closed
             .is_ok_and(|listed| listed.as_slice() == numbers.as_slice())
