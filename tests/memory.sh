@@ -1,8 +1,8 @@
 #!/usr/bin/env bash
 # Refuses each request for memory in turn, over the built programs. Whatever is refused, spprof ends with status 4,
 # nothing on standard output and the line `out of memory`, or with the answer that it gives when nothing is refused.
-# The probe calls the functions that allocate and that commands stand on, each twice: one answer at most becomes
-# `Memory`, and no other changes. The table by way of parts, for which there is no command, is the right one or there is
+# The probe calls the functions that allocate and that commands stand on, and those of a book, each twice: one answer at
+# most becomes `Memory`, and no other changes. The table by way of parts, for which there is no command, is the right one or there is
 # none.
 # usage: tests/memory.sh SPPROF PROBE TEST_PRINTER
 set -u

@@ -1,5 +1,5 @@
-//! Calls the functions that allocate and that commands stand on, each twice, and prints what they answer: for the test
-//! that refuses one request for memory after the other.
+//! Calls the functions that allocate and that commands stand on, and those of a book, each twice, and prints what they
+//! answer: for the test that refuses one request for memory after the other.
 #![tactic(auto)]
 
 ghost use Rattle.std.specs.Prelude.{◌≡◌};
