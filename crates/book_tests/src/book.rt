@@ -91,6 +91,22 @@ fn doubles_and_strangers_are_handed_back(rt: HostRuntime) -> Result<(), Fail> {
 }
 
 #[test]
+fn a_piece_of_more_events_is_a_stranger(rt: HostRuntime) -> Result<(), Fail> {
+    let alloc = rt.alloc();
+    let job = ListJob::new(&[5, 7]);
+    let mut book = Book::new(alloc, &job)?;
+    let mut piece = job.piece(alloc, 1, 1)?;
+    piece.events = 2;
+    let Err(refused) = book.accept(alloc, piece) else {
+        panic!(rt; "it was accepted");
+    };
+    assert!(rt; refused.why == Why::Stranger && refused.piece.events == 2);
+    assert!(rt; refused.piece.content.as_slice() == [7].as_slice());
+    assert_eq!(rt; book.accepted(), 0);
+    Ok(())
+}
+
+#[test]
 fn the_front_is_what_is_joined_from_the_first_part_on(rt: HostRuntime) -> Result<(), Fail> {
     let alloc = rt.alloc();
     let job = ListJob::new(&[5, 7, 9, 11]);
