@@ -1,12 +1,14 @@
 -- Each step keeps the rule.
 use Rattle.std.proofs.Common.{◌≡◌, ℕ, refl, ◌∙◌, ap₂, ◌+◌, ◌-◌, ◌<◌, ◌≤◌, ◌^◌, ◌%◌, false, List, [], ◌∷◌, ◌++◌, ap, sym, subst, arith, set, slice_index, slice_set, ⊎_elim}
 use Rattle.std.proofs.Math.Nat.{mod-eq_of_lt}
+use Rattle.std.specs.Prelude.{cond, nat_lt}
+use Rattle.std.proofs.lemmas.Bool.Decides.{nat_tests}
 use mathlib.Core.Option.{some}
 use lib.ListN.{get_elem?}
 use Rattle.atomic_table.proofs.Lists.{at_set, at_snoc}
 use Rattle.spp_book.specs.declared.counter.Hand.{Hand}
 use Rattle.spp_book.specs.Counters.{hand, total, Kept, past, has_past, is_one, IsEachBelow}
-use Rattle.spp_book.proofs.Totals.{total_append, sum_set, sum_le, below_next, past_most, past_count, none_past, one_has_all, one_below}
+use Rattle.spp_book.proofs.Totals.{total_append, sum_set, sum_le, below_next, past_most, past_count, none_past, one_has_all, one_below, total_at}
 
 -- the word is at most the parts and the workers together
 pub word_bound : (parts all : ℕ) (words : List ℕ) (views : List Hand) (k : Kept parts all words views) → k.next ≤ parts + all
@@ -15,6 +17,15 @@ word_bound parts all words views k =
     let b = past_count parts k.next in
     let c = sum_le (λ (v : Hand). total (past parts) v.drawn) (λ (v : Hand). v.workers) views k.few in
     omega (arith, a, b, c, k.workers)
+
+-- the next number is none of those that a view holds
+pub draw_new : (parts all : ℕ) (words : List ℕ) (views : List Hand) (id : ℕ) (v : Hand) (k : Kept parts all words views) → get_elem? views id ≡ some v → total (is_one (slice_index words 0)) v.drawn ≡ 0
+draw_new parts all words views id v k at =
+    let n = k.next in
+    let none : ◌≡◌ {A = ℕ} (cond (nat_lt n n) 1 0) 0 = grind (arith, nat_tests) in
+    let own = total_at (λ (u : Hand). total (is_one n) u.drawn) views id v at in
+    let fresh : total (is_one n) v.drawn ≡ 0 = omega (arith, own, k.drawn (is_one n), one_below n n, none) in
+    subst (λ ws. total (is_one (slice_index ws 0)) v.drawn ≡ 0) (sym k.word) fresh
 
 -- a fact of each view
 abbrev Each : (Hand → Type 0) → List Hand → Type 0

@@ -83,7 +83,7 @@ total_zero f g (x ∷ xs) nil z =
     let r : g x + total g xs ≡ 0 = omega (arith, a, b) in r
 
 -- one has at most what all have
-total_at : {A : Type 0} (f : A → ℕ) (xs : List A) (i : ℕ) (v : A) → get_elem? xs i ≡ some v → f v ≤ total f xs
+pub total_at : {A : Type 0} (f : A → ℕ) (xs : List A) (i : ℕ) (v : A) → get_elem? xs i ≡ some v → f v ≤ total f xs
 total_at f [] i v e = absurd (some-ne-none v (sym e))
 total_at f (x ∷ xs) zero v e = let h : f x ≡ f v = ap f (some-injective x v e) in let r : f v ≤ f x + total f xs = omega (arith, h) in r
 total_at f (x ∷ xs) (suc i) v e = let h = total_at f xs i v e in let r : f v ≤ f x + total f xs = omega (arith, h) in r

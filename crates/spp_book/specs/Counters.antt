@@ -30,6 +30,10 @@ has_past parts (x ∷ xs) = nat_le parts x || has_past parts xs
 abbrev pub is_one : ℕ → ℕ → ℕ
 is_one x y = cond (nat_eq x y) 1 0
 
+-- the number is not among them
+abbrev pub IsNew : ℕ → List ℕ → Type 0
+IsNew x drawn = total (is_one x) drawn ≡ 0
+
 -- each number below n is among them once, and no other one is
 abbrev pub IsEachBelow : ℕ → List ℕ → Type 0
 IsEachBelow n drawn = (x : ℕ) → total (is_one x) drawn ≡ cond (nat_lt x n) 1 0

@@ -1,7 +1,7 @@
 //! Numbers that threads draw, each once, by one `fetch_add` each.
 
 ghost use Rattle.std.specs.Prelude.{◌≡◌, ◌<◌, ◌≤◌, ◌+◌, ◌-◌, ◌^◌, ℕ, [], ◌∷◌, ◌++◌, false, is_none, IfOk, MatchOption};
-ghost use Rattle.spp_book.specs.Counters.{hand, has_past, IsEachBelow};
+ghost use Rattle.spp_book.specs.Counters.{hand, has_past, IsNew, IsEachBelow};
 
 use atomic_table::{Join, Play, Seat, Split, Table, TableRule};
 use std::alloc::{AllocError, Global};
@@ -34,14 +34,17 @@ impl TableRule<u8, Hand, Bounds> for Law {
     ghost first = { λ k. hand k.workers [] };
 }
 
-/// One draw: the number that was found is appended.
+/// One draw: the number that was found is appended, and wasn't among those of the seat.
 pub(crate) struct Draw;
 
 impl Play<u8, Hand> for Draw {
     ghost use Rattle.std.specs.Prelude.{◌≡◌, [], ◌∷◌, ◌++◌};
-    ghost use Rattle.spp_book.specs.Counters.{hand};
+    ghost use Rattle.spp_book.specs.Counters.{hand, IsNew};
 
-    ghost then = { λ s v found w. w ≡ (hand v.0.workers (v.0.drawn ++ found ∷ []), v.1) };
+    ghost then = { λ s v found w. record {
+      new : w ≡ (hand v.0.workers (v.0.drawn ++ found ∷ []), v.1);
+      fresh : IsNew found v.0.drawn;
+    } };
 }
 
 /// How much of an allowance a split gives away. Each call picks it.
@@ -154,7 +157,7 @@ impl Counter {
         ensures kept { (me.new.parts ≡ me.old.parts) × (me.new.workers ≡ me.old.workers) }
         ensures drawn { MatchOption result
             ((n : ℕ) × (self.now.parts ≤ n) × (me.new.seat.me.0 ≡ hand me.old.workers (me.old.seat.me.0.drawn ++ n ∷ [])))
-            (λ n. (n < self.now.parts) × (me.new.seat.me.0 ≡ hand me.old.workers (me.old.seat.me.0.drawn ++ n ∷ []))) }
+            (λ n. (n < self.now.parts) × IsNew n me.old.seat.me.0.drawn × (me.new.seat.me.0 ≡ hand me.old.workers (me.old.seat.me.0.drawn ++ n ∷ []))) }
         ensures past { has_past me.new.parts me.new.seat.me.0.drawn ≡ is_none result }
     {
         let found = self.table.shared.fetch_add::<Draw>(&mut me.seat, 0, 1);

@@ -2,7 +2,7 @@
 
 ghost use Rattle.std.specs.Prelude.{◌≡◌, ◌<◌, ◌≤◌, ◌+◌, ◌-◌, ◌^◌, ℕ, List, [], ◌∷◌, ◌++◌, IfOk, IfErr, OnOk, OnErr, MatchOption, true, length, set, is_none};
 ghost use Rattle.spp_book.specs.Books.{count_of, IsPut};
-ghost use Rattle.spp_book.specs.Counters.{has_past, IsEachBelow};
+ghost use Rattle.spp_book.specs.Counters.{has_past, IsNew, IsEachBelow};
 ghost use Rattle.spp_book.specs.Desks.{IsOf, IsOpen, IsStranger, IsShort, IsFrontOf};
 ghost use Rattle.spp_book.specs.Jobs.{IsOurs, IsPieceOf};
 
@@ -202,15 +202,16 @@ impl<'a, J: Job, N: Naming> Desk<'a, J, N> {
         Ok((desk, Pass { holder, share }))
     }
 
-    /// The next number, or `None` where it isn't below the parts; then the pass is finished, and draws no more. That no
-    /// two draws give the same number is told at the close. It is one `fetch_add`, and takes no memory.
+    /// The next number, which this pass hasn't drawn before, or `None` where it isn't below the parts; then the pass is
+    /// finished, and draws no more. That no two passes draw the same number is told at the close. It is one `fetch_add`, and
+    /// takes no memory.
     pub fn draw(&self, pass: &mut Pass<N>) -> Option<u32>
         requires of { IsOf pass.old self.now }
         requires open { IsOpen pass.old }
         ensures kept { pass.new ≡ record pass.old { drawn = pass.new.drawn } }
         ensures drawn { MatchOption result
             ((n : ℕ) × (J.parts_of N.job ≤ n) × (pass.new.drawn ≡ pass.old.drawn ++ n ∷ []))
-            (λ n. (n < J.parts_of N.job) × (pass.new.drawn ≡ pass.old.drawn ++ n ∷ [])) }
+            (λ n. (n < J.parts_of N.job) × IsNew n pass.old.drawn × (pass.new.drawn ≡ pass.old.drawn ++ n ∷ [])) }
         ensures past { has_past pass.new.parts pass.new.drawn ≡ is_none result }
     {
         self.counter.draw(&mut pass.holder)

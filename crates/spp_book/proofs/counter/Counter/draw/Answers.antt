@@ -2,7 +2,7 @@ use Rattle.std.proofs.Common.{◌≡◌, ◌<◌, ◌≤◌, slice_index, ◌++�
 use Rattle.atomic_table.specs.Table.{keeps}
 use Rattle.spp_book.specs.Counters.{hand, has_past}
 use Rattle.spp_book.proofs.Totals.{snoc_same, snoc_now}
-use Rattle.spp_book.proofs.Counters.{draws_kept}
+use Rattle.spp_book.proofs.Counters.{draws_kept, draw_new}
 use Rattle.spp_book.proofs.counter.Counter.draw.Goals as goal
 
 pub fetch_add-found-requires : goal.fetch_add-found-requires
@@ -19,14 +19,14 @@ fetch_add-found-requires c =
         keeps,
         tt,
         draws_kept key.parts key.workers s.words s.views me.seat.id me.seat.me.0 kept at free some_worker,
-        refl,
+        record { new = refl; fresh = draw_new key.parts key.workers s.words s.views me.seat.id me.seat.me.0 kept at },
       ),
     )
 
 pub invariant_of-me : goal.invariant_of-me
 invariant_of-me c =
     let me = c.args.me.now in
-    let e = c.fetch_add-found.ensures.2 in
+    let e = c.fetch_add-found.ensures.2.new in
     let drawn = me.seat.me.0.drawn in
     let found = c.fetch_add-found.result in
     let lt : found < me.parts = omega (arith, c.if-found-self.true, c.requires.parts) in
@@ -40,7 +40,7 @@ invariant_of-me c =
 pub invariant_of-me-else-found-self : goal.invariant_of-me-else-found-self
 invariant_of-me-else-found-self c =
     let me = c.args.me.now in
-    let e = c.fetch_add-found.ensures.2 in
+    let e = c.fetch_add-found.ensures.2.new in
     let drawn = me.seat.me.0.drawn in
     let found = c.fetch_add-found.result in
     let le : me.parts ≤ found = omega (arith, c.if-found-self.false, c.requires.parts) in
