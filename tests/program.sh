@@ -70,6 +70,21 @@ for trace in cilksort fib nqueens; do
     report_of $trace $trace.report profile
     report_of $trace $trace.csv profile --csv
 done
+# The sample of README.md.
+sed -n '/^    \$ .*profile --burden 100 /,/^\*The first/p' "$top/README.md" | sed -e '1d' -e '/^\*/d' -e 's/^    //' | sed '$d' > "$folder/sample"
+"$spprof" profile --burden 100 "$top/examples/nqueens.sptrace" > "$folder/out" 2> "$folder/err"
+status=$?
+cmp -s "$folder/out" "$folder/sample" || status=125
+: > "$folder/out"
+judge 'the sample of README.md' 0 '' ''
+# Two runs as text, before and after a loop of spawns became a tree.
+for run in loop tree; do
+    "$spprof" encode "$top/examples/$run.txt" 2> "$folder/err" | "$spprof" profile > "$folder/out" 2>> "$folder/err"
+    status=$?
+    cmp -s "$folder/out" "$top/examples/$run.report" || status=125
+    : > "$folder/out"
+    judge "profile of the $run" 0 '' ''
+done
 # And the rows on the whole dag by way of parts, in the first nine columns.
 for trace in cilksort fib nqueens; do
     tail -n +2 "$top/examples/$trace.csv" | cut -d , -f 1-9 > "$folder/rows"
@@ -158,10 +173,10 @@ status=$?
 judge 'figures of a million children' 0 "work 5000000${lf}span 5${lf}burdened 1000005${lf}parallelism 1000000.00${lf}burdened parallelism 4.99$lf" ''
 timeout 30 "$spprof" profile --csv "$folder/nested" > "$folder/out" 2> "$folder/err"
 status=$?
-judge 'tables of a million nested calls' 0 "name,*${lf}(root),1,0,1,5,5,1,5,5,1,0,1,5,5,1,5,5${lf}A,1000000,5,1,5,5,1,5,5,1000000,5,1,5,5,1,5,5$lf" ''
+judge 'tables of a million nested calls' 0 "name,*${lf}(root),1,0,1,5,5,1,5,5,1,0,1,5,5,1,5,5,1,0,1,5,5,1,5,5${lf}A,1000000,5,1,5,5,1,5,5,1000000,5,1,5,5,1,5,5,1000000,5,1,5,5,1,5,5$lf" ''
 timeout 30 "$spprof" profile --csv "$folder/wide" > "$folder/out" 2> "$folder/err"
 status=$?
-judge 'tables of a million children' 0 "name,*${lf}(root),1,0,1,5000000,5,1,5000000,5,1,0,1,5000000,5,1,5000000,5${lf}A,1000000,5000000,1000000,5000000,5000000,1000000,5000000,5000000,1,5,1,5,5,1,5,5$lf" ''
+judge 'tables of a million children' 0 "name,*${lf}(root),1,0,1,5000000,5,1,5000000,5,1,0,1,5000000,5,1,5000000,5,1,0,1,5000000,5,1,5000000,5${lf}A,1000000,5000000,1000000,5000000,5000000,1000000,5000000,5000000,1,5,1,5,5,1,5,5,1,5,1,5,5,1,5,5$lf" ''
 # By way of 65,536 parts too, without a list of all open frames for each.
 (ulimit -v 500000 && timeout 30 "$printer" parts 65536 < "$folder/nested" > "$folder/out" 2> "$folder/err")
 status=$?
@@ -173,10 +188,11 @@ expect 'figures of frames left open' 1 '' "bad event *: truncated$lf" "$folder/o
 # Numbers above 64 bits, in each form of a report.
 printf 'func f\nstrand 18446744073709551615\nstrand 18446744073709551615\n' | "$spprof" encode > "$folder/great"
 great=36893488147419103230
+great_row=,1,$great,1,$great,$great,1,$great,$great
 expect 'a great work' 0 "work $great$lf" '' "$folder/great" check
 expect 'great figures' 0 "work $great${lf}span $great${lf}burdened $great${lf}parallelism 1.00*" '' "$folder/great" figures
-expect 'a great report' 0 "work $great$lf*1 $great *1 $great $great * (root)$lf*1 $great * (root)$lf" '' "$folder/great" profile
-expect 'great tables' 0 "name,*$lf(root),1,$great,1,$great,$great,1,$great,$great,1,$great,1,$great,$great,1,$great,$great$lf" '' \
+expect 'a great report' 0 "work $great$lf*1 $great *1 $great $great * (root)$lf*1 $great * (root)$lf*1 $great * (root)$lf" '' "$folder/great" profile
+expect 'great tables' 0 "name,*$lf(root)$great_row$great_row$great_row$lf" '' \
     "$folder/great" profile --csv
 
 # Texts and bytes, each made out of the other.
@@ -259,16 +275,23 @@ shown unknown_option 2 encode --nothing
 shown no_parts 2 figures --parts 0
 shown too_many_parts 2 figures --parts 65537
 shown parts_of_check 2 check --parts 3
+shown too_great_burden 2 figures --burden 4294967296
+shown too_great_join_burden 2 profile --join-burden 4294967296
 for word in chek encod --nothing ''; do
     expect "no command: '$word'" 2 '' 'error: *' "$small" "$word"
 done
 for word in 4294967296 -1 x ''; do
-    expect "no burden: '$word'" 2 '' 'error: *' "$small" figures --burden "$word"
+    for command in figures profile; do
+        expect "$command, no burden: '$word'" 2 '' 'error: *' "$small" $command --burden "$word"
+        expect "$command, no join burden: '$word'" 2 '' 'error: *' "$small" $command --join-burden "$word"
+    done
     expect "no number of parts: '$word'" 2 '' 'error: *' "$small" figures --parts "$word"
 done
 expect 'parts without a number' 2 '' 'error: *' "$small" figures --parts
+expect 'a join burden without a number' 2 '' 'error: *' "$small" figures --join-burden
 for command in check encode; do
     expect "$command with a burden" 2 '' 'error: *' "$small" $command --burden 3
+    expect "$command with a join burden" 2 '' 'error: *' "$small" $command --join-burden 3
 done
 for command in check profile encode; do
     expect "$command with parts" 2 '' 'error: *' "$small" $command --parts 3
@@ -283,6 +306,27 @@ expect 'the greatest burden' 0 "$of_small 4294967308$lf*" '' "$small" figures --
 expect 'a burden, parts and a file' 0 "$of_small 16$lf*" '' /dev/null figures --burden 3 --parts=7 "$small"
 expect 'a burden of a profile' 0 "$of_small 16$lf*" '' /dev/null profile --burden 3 "$small"
 expect 'tables alone with a burden' 0 "name,*" '' /dev/null profile --csv --burden 3 "$small"
+# What edges of each kind bear: --burden is for both, and --join-burden for those of returns in its place, wherever it
+# stands. The burdened path passes the child, or goes past it.
+of_dag=1,7,1,17,13,1,17,13 of_path=1,3,1,17,13,1,17,13 of_child=1,10,1,10,10,1,10,10
+by_child="(root),$of_dag,$of_path,$of_path${lf}A,$of_child,$of_child,$of_child$lf"
+past_child="(root),$of_dag,$of_path,$of_dag${lf}A,$of_child,$of_child,0,0,0,0,0,0,0,0$lf"
+burdens_give() { # BURDENED ROWS WORDS..: with these words the small trace has this burdened span and these tables
+    local figures="$of_small $1$lf*" rows=$2
+    shift 2
+    expect "figures $*" 0 "$figures" '' "$small" figures "$@"
+    expect "profile $*" 0 "$figures" '' "$small" profile "$@"
+    expect "profile --csv $*" 0 "name,*,burdened_path_caller_span$lf$rows" '' "$small" profile --csv "$@"
+}
+burdens_give 15013 "$by_child"
+burdens_give 16 "$by_child" --burden 3
+burdens_give 13 "$by_child" --burden 3 --join-burden 0
+burdens_give 16 "$by_child" --join-burden 3 --burden 0
+burdens_give 16 "$by_child" --burden 0 --join-burden 3
+burdens_give 14 "$past_child" --burden 7 --join-burden=0
+burdens_give 14 "$past_child" --join-burden=0 --burden 7
+burdens_give 15007 "$past_child" --join-burden 3
+burdens_give 4294967308 "$by_child" --join-burden 4294967295
 for command in check figures profile; do
     expect "$command of an input" 0 'work 17*' '' "$small" $command
     expect "$command of a file" 0 'work 17*' '' /dev/null $command "$folder/-a b"

@@ -47,9 +47,11 @@ burdened parallelism -
 /// The tables without rows, as comma-separated values.
 const NO_ROWS: &str =
     "name,count,local,site_count,site_work,site_span,caller_count,caller_work,caller_span,\
-path_count,path_local,path_site_count,path_site_work,path_site_span,path_caller_count,path_caller_work,path_caller_span
-(root),0,0,0,0,0,0,0,0,0,0,0,0,0,0,0,0
-A,0,0,0,0,0,0,0,0,0,0,0,0,0,0,0,0
+path_count,path_local,path_site_count,path_site_work,path_site_span,path_caller_count,path_caller_work,path_caller_span,\
+burdened_path_count,burdened_path_local,burdened_path_site_count,burdened_path_site_work,burdened_path_site_span,\
+burdened_path_caller_count,burdened_path_caller_work,burdened_path_caller_span
+(root),0,0,0,0,0,0,0,0,0,0,0,0,0,0,0,0,0,0,0,0,0,0,0,0
+A,0,0,0,0,0,0,0,0,0,0,0,0,0,0,0,0,0,0,0,0,0,0,0,0
 ";
 
 /// The figures, and the tables without rows.
@@ -64,6 +66,10 @@ whole dag
            0            0            0            0            0            0            0            0 (root)
 
 first greatest path
+       count        local   site_count    site_work    site_span caller_count  caller_work  caller_span name
+           0            0            0            0            0            0            0            0 (root)
+
+first greatest burdened path
        count        local   site_count    site_work    site_span caller_count  caller_work  caller_span name
            0            0            0            0            0            0            0            0 (root)
 ";
@@ -148,6 +154,7 @@ fn without_rows(alloc: Global) -> Profile
         },
         dag: Table::new(alloc),
         path: Table::new(alloc),
+        burdened_path: Table::new(alloc),
     }
 }
 

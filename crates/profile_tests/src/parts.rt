@@ -70,7 +70,8 @@ fn along(spine: u128) -> State {
     State { spine, child: None }
 }
 
-fn root(state: State) -> EntryFrame {
+/// The root frame in these states, without burdens and with them.
+fn root(state: State, burdened: State) -> EntryFrame {
     EntryFrame {
         kind: FrameKind::Root,
         at: 0,
@@ -78,12 +79,13 @@ fn root(state: State) -> EntryFrame {
         func: 0,
         before: 0,
         state,
+        burdened,
         top_site: true,
         top_caller: true,
     }
 }
 
-/// A frame of the site `A`.
+/// A frame of the site `A`, with no child.
 fn inner(
     kind: FrameKind,
     at: u32,
@@ -99,6 +101,7 @@ fn inner(
         func: 1,
         before,
         state: along(spine),
+        burdened: along(spine),
         top_site,
         top_caller,
     }
@@ -130,7 +133,7 @@ fn marks_are_judged_on_the_whole_trace(rt: HostRuntime) -> Result<(), Fail> {
         inner(FrameKind::Called, 4, 2, 0, false, false),
         inner(FrameKind::Called, 2, 1, 1, false, true),
         inner(FrameKind::Called, 0, 0, 1, true, true),
-        root(along(0)),
+        root(along(0), along(0)),
     ];
     assert!(rt; begins_with(alloc, &stacks, 5, &frames, 3, 2));
     Ok(())
@@ -146,12 +149,16 @@ fn a_frame_lives_on_in_later_parts(rt: HostRuntime) -> Result<(), Fail> {
         spine: 1,
         child: Some((11, 1)),
     };
-    assert!(rt; begins_with(alloc, &stacks, 0, &[root(along(0))], 0, 0));
+    let burdened = State {
+        spine: 4,
+        child: Some((14, 1)),
+    };
+    assert!(rt; begins_with(alloc, &stacks, 0, &[root(along(0), along(0))], 0, 0));
     let child = inner(FrameKind::Spawned, 1, 1, 0, true, true);
-    assert!(rt; begins_with(alloc, &stacks, 1, &[child, root(along(1))], 1, 1));
-    assert!(rt; begins_with(alloc, &stacks, 2, &[root(waiting)], 0, 11));
-    assert!(rt; begins_with(alloc, &stacks, 3, &[root(along(11))], 0, 15));
-    assert!(rt; begins_with(alloc, &stacks, 4, &[root(along(13))], 0, 17));
+    assert!(rt; begins_with(alloc, &stacks, 1, &[child, root(along(1), along(1))], 1, 1));
+    assert!(rt; begins_with(alloc, &stacks, 2, &[root(waiting, burdened)], 0, 11));
+    assert!(rt; begins_with(alloc, &stacks, 3, &[root(along(11), along(14))], 0, 15));
+    assert!(rt; begins_with(alloc, &stacks, 4, &[root(along(13), along(16))], 0, 17));
     Ok(())
 }
 
@@ -259,13 +266,14 @@ fn of_all_parts_the_first_bad_event_is_told(rt: HostRuntime) -> Result<(), Fail>
     Ok(())
 }
 
-/// What a run of these events comes to in parts of one event; none where it isn't well-formed or no memory was left.
+/// What a run of these events comes to in parts of one event, with a burden of 3; none where it isn't well-formed or no
+/// memory was left.
 fn told_in_parts(alloc: Global, events: &[Event]) -> Option<Tabled> {
     let bytes = trace_of(alloc, events).ok()?;
     let trace = open_trace(alloc, &bytes).ok()?;
     let parts = Parts::new(trace.count().clamp(1, Parts::MOST))?;
     let cut = cut_even(alloc, &trace, parts).ok()?;
-    table_in_parts(alloc, &cut).ok()
+    table_in_parts(alloc, &cut, Burdens::equal(3)).ok()
 }
 
 /// The rows of the root and of the site `A` of a run of these events, in parts of one event.
@@ -347,25 +355,37 @@ fn parts_come_to_the_table_of_the_whole(rt: HostRuntime) -> Result<(), Fail> {
     Ok(())
 }
 
+/// The choices of a run: its ends, its joins, and those with a burden of 3.
+#[derive(Clone, Copy)]
+struct Wanted<'a> {
+    ends: &'a [End],
+    joins: &'a [Choice],
+    burdened: &'a [Choice],
+}
+
 /// Whether the choices at this position are these alone.
-fn are_at(told: &Choices, at: usize, ends: &[End], joins: &[Choice]) -> bool {
-    let mut more_ends = ends.iter().filter(|end| end.at as usize == at);
-    let mut more_joins = joins.iter().filter(|join| join.at as usize == at);
+fn are_at(told: &Choices, at: usize, wanted: &Wanted<'_>) -> bool {
+    let mut more_ends = wanted.ends.iter().filter(|end| end.at as usize == at);
     let same_ends = told.ends.iter().all(|end| more_ends.next() == Some(end));
-    let same_joins = told
-        .joins
-        .iter()
-        .all(|join| more_joins.next() == Some(join));
-    same_ends && same_joins && more_ends.next().is_none() && more_joins.next().is_none()
+    same_ends
+        && more_ends.next().is_none()
+        && joins_are_at(&told.joins, at, wanted.joins)
+        && joins_are_at(&told.burdened_joins, at, wanted.burdened)
+}
+
+/// Whether of these joins those at this position are told alone.
+fn joins_are_at(told: &[Choice], at: usize, joins: &[Choice]) -> bool {
+    let mut more = joins.iter().filter(|join| join.at as usize == at);
+    told.iter().all(|join| more.next() == Some(join)) && more.next().is_none()
 }
 
 /// Whether the choices of a run of these events, in parts of one event, are these, each in the part of its position.
-fn has_choices(alloc: Global, events: &[Event], ends: &[End], joins: &[Choice]) -> bool {
+fn has_choices(alloc: Global, events: &[Event], wanted: &Wanted<'_>) -> bool {
     let Some(told) = told_in_parts(alloc, events) else {
         return false;
     };
     let mut parts = told.choices.iter().enumerate();
-    told.choices.len() == events.len() && parts.all(|(at, part)| are_at(part, at, ends, joins))
+    told.choices.len() == events.len() && parts.all(|(at, part)| are_at(part, at, wanted))
 }
 
 #[test]
@@ -377,18 +397,28 @@ fn of_equal_children_the_first_is_taken(rt: HostRuntime) -> Result<(), Fail> {
         at: 6,
         taken: Some(0),
     }];
-    assert!(rt; has_choices(alloc, &events, &ends, &joins));
-    assert!(rt;
-        !has_choices(
-            alloc,
-            &events,
-            &ends,
-            &[Choice {
-                at: 6,
-                taken: Some(3)
-            }]
-        )
-    );
+    // The second child's way bears the burden of a continuation edge more.
+    let burdened = [Choice {
+        at: 6,
+        taken: Some(3),
+    }];
+    let wanted = Wanted {
+        ends: &ends,
+        joins: &joins,
+        burdened: &burdened,
+    };
+    assert!(rt; has_choices(alloc, &events, &wanted));
+    let without = Wanted {
+        burdened: &joins,
+        ..wanted
+    };
+    assert!(rt; !has_choices(alloc, &events, &without));
+    let exchanged = Wanted {
+        ends: &ends,
+        joins: &burdened,
+        burdened: &joins,
+    };
+    assert!(rt; !has_choices(alloc, &events, &exchanged));
     Ok(())
 }
 
@@ -404,8 +434,17 @@ fn a_child_that_weighs_less_is_not_taken(rt: HostRuntime) -> Result<(), Fail> {
         },
         Choice { at: 9, taken: None },
     ];
-    assert!(rt; has_choices(alloc, &events, &ends, &joins));
-    assert!(rt; !has_choices(alloc, &events, &ends, &joins[..1]));
+    let wanted = Wanted {
+        ends: &ends,
+        joins: &joins,
+        burdened: &joins,
+    };
+    assert!(rt; has_choices(alloc, &events, &wanted));
+    let fewer = Wanted {
+        joins: &joins[..1],
+        ..wanted
+    };
+    assert!(rt; !has_choices(alloc, &events, &fewer));
     Ok(())
 }
 
@@ -413,7 +452,12 @@ fn a_child_that_weighs_less_is_not_taken(rt: HostRuntime) -> Result<(), Fail> {
 fn a_child_still_waits_at_the_end(rt: HostRuntime) -> Result<(), Fail> {
     let alloc = rt.alloc();
     let events = [SPAWN, S7, RET, S2];
-    assert!(rt; has_choices(alloc, &events, &[End { at: 2, spawn: 0 }], &[]));
+    let wanted = Wanted {
+        ends: &[End { at: 2, spawn: 0 }],
+        joins: &[],
+        burdened: &[],
+    };
+    assert!(rt; has_choices(alloc, &events, &wanted));
     let Some(stacks) = stacks_at(alloc, &events, &[1, 2, 3]) else {
         return Err(AllocError.into());
     };
@@ -421,6 +465,10 @@ fn a_child_still_waits_at_the_end(rt: HostRuntime) -> Result<(), Fail> {
         spine: 2,
         child: Some((7, 0)),
     };
-    assert!(rt; begins_with(alloc, &stacks, 4, &[root(waiting)], 0, 9));
+    let burdened = State {
+        spine: 5,
+        child: Some((10, 0)),
+    };
+    assert!(rt; begins_with(alloc, &stacks, 4, &[root(waiting, burdened)], 0, 9));
     Ok(())
 }

@@ -7,11 +7,13 @@ use spp_pass::first_pass;
 use std::alloc::{AllocError, Global};
 use std::test::Fail;
 
-/// A run with what its first pass notes: of each spawned child the return, and each join of a child.
+/// A run with what its first pass notes: of each spawned child the return, and each join of a child, without burdens
+/// and with 3 on continuation edges alone.
 struct Noted {
     events: &'static [Event],
     ends: &'static [End],
     joins: &'static [Choice],
+    burdened: &'static [Choice],
 }
 
 const NOTED: &[Noted] = &[
@@ -22,11 +24,13 @@ const NOTED: &[Noted] = &[
             at: 4,
             taken: Some(0),
         }],
+        burdened: &[Choice { at: 4, taken: None }],
     },
     Noted {
         events: &[SPAWN, S5, RET, S6, SYNC],
         ends: &[End { at: 2, spawn: 0 }],
         joins: &[Choice { at: 4, taken: None }],
+        burdened: &[Choice { at: 4, taken: None }],
     },
     Noted {
         events: &[SPAWN, S5, RET, SPAWN, S5, RET, SYNC],
@@ -34,6 +38,10 @@ const NOTED: &[Noted] = &[
         joins: &[Choice {
             at: 6,
             taken: Some(0),
+        }],
+        burdened: &[Choice {
+            at: 6,
+            taken: Some(3),
         }],
     },
     Noted {
@@ -43,11 +51,16 @@ const NOTED: &[Noted] = &[
             at: 4,
             taken: Some(0),
         }],
+        burdened: &[Choice {
+            at: 4,
+            taken: Some(0),
+        }],
     },
     Noted {
         events: &[CALL, S5, RET],
         ends: &[],
         joins: &[],
+        burdened: &[],
     },
     Noted {
         events: &[SPAWN, SPAWN, S3, RET, S1, RET, S2, SYNC, S1],
@@ -62,23 +75,25 @@ const NOTED: &[Noted] = &[
                 taken: Some(0),
             },
         ],
+        burdened: &[Choice { at: 5, taken: None }, Choice { at: 7, taken: None }],
     },
 ];
 
-/// Whether the first pass over a run of these events notes these choices; none where it has no profile.
-fn has_choices(
-    alloc: Global,
-    events: &[Event],
-    ends: &[End],
-    joins: &[Choice],
-) -> Result<Option<bool>, AllocError> {
-    let bytes = trace_of(alloc, events)?;
+/// Whether the first pass over a run notes its choices; none where it has no profile.
+fn has_choices(alloc: Global, run: &Noted) -> Result<Option<bool>, AllocError> {
+    let burdens = Burdens {
+        continuation: 3,
+        join: 0,
+    };
+    let bytes = trace_of(alloc, run.events)?;
     let Ok(trace) = open_trace(alloc, bytes.as_slice()) else {
         return Ok(None);
     };
-    match first_pass(alloc, &trace, Burdens::equal(3)) {
+    match first_pass(alloc, &trace, burdens) {
         Ok(pass) => Ok(Some(
-            pass.choices.ends.as_slice() == ends && pass.choices.joins.as_slice() == joins,
+            pass.choices.ends.as_slice() == run.ends
+                && pass.choices.joins.as_slice() == run.joins
+                && pass.choices.burdened_joins.as_slice() == run.burdened,
         )),
         Err(ProfileFault::Bad(_)) => Ok(None),
         Err(ProfileFault::Memory) => Err(AllocError),
@@ -88,7 +103,7 @@ fn has_choices(
 #[test]
 fn a_run_has_its_choices(rt: HostRuntime) -> Result<(), Fail> {
     for (i, run) in NOTED.iter().enumerate() {
-        let noted = has_choices(rt.alloc(), run.events, run.ends, run.joins)?;
+        let noted = has_choices(rt.alloc(), run)?;
         assert_eq!(rt; noted, Some(true), "run {i}");
     }
     Ok(())

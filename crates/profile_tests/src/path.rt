@@ -1,43 +1,56 @@
-use spp_dag::{Choice, Choices, End};
+use spp_dag::{Choice, End};
 use spp_path::settle;
 use std::alloc::{AllocError, Global};
 use std::test::Fail;
 
-/// The choices of a run, each a position and that of a spawn; of a join none where no child is taken.
-fn choices_of(
-    alloc: Global,
-    ends: &[(u32, u32)],
-    joins: &[(u32, Option<u32>)],
-) -> Result<Choices, AllocError> {
-    let mut choices = Choices {
-        ends: Vec::new(alloc),
-        joins: Vec::new(alloc),
-    };
+/// The returns of spawned children, each a position and that of the spawn.
+fn ends_of(alloc: Global, ends: &[(u32, u32)]) -> Result<Vec<End>, AllocError> {
+    let mut told = Vec::new(alloc);
     for (at, spawn) in ends {
-        choices.ends.push(End {
+        told.push(End {
             at: *at,
             spawn: *spawn,
         })?;
     }
+    Ok(told)
+}
+
+/// The joins of a run, each a position and that of the spawn of the child that is taken, if one is.
+fn joins_of(alloc: Global, joins: &[(u32, Option<u32>)]) -> Result<Vec<Choice>, AllocError> {
+    let mut told = Vec::new(alloc);
     for (at, taken) in joins {
-        choices.joins.push(Choice {
+        told.push(Choice {
             at: *at,
             taken: *taken,
         })?;
     }
-    Ok(choices)
+    Ok(told)
 }
 
-/// The spawns of the children that the path of a run with so many events enters.
+/// The marks of the children that the path of a run with so many events enters.
+fn marks_of(
+    alloc: Global,
+    count: u32,
+    ends: &[(u32, u32)],
+    joins: &[(u32, Option<u32>)],
+) -> Result<Vec<bool>, AllocError> {
+    settle(
+        alloc,
+        count,
+        &ends_of(alloc, ends)?,
+        &joins_of(alloc, joins)?,
+    )
+}
+
+/// The spawns of those children.
 fn entered(
     alloc: Global,
     count: u32,
     ends: &[(u32, u32)],
     joins: &[(u32, Option<u32>)],
 ) -> Result<Vec<usize>, AllocError> {
-    let marks = settle(alloc, count, &choices_of(alloc, ends, joins)?)?;
     let mut spawns = Vec::new(alloc);
-    for (at, mark) in marks.iter().enumerate() {
+    for (at, mark) in marks_of(alloc, count, ends, joins)?.iter().enumerate() {
         if *mark {
             spawns.push(at)?;
         }
@@ -47,14 +60,12 @@ fn entered(
 
 #[test]
 fn each_event_has_a_mark(rt: HostRuntime) -> Result<(), Fail> {
-    let choices = choices_of(rt.alloc(), &[(2, 0)], &[(4, Some(0))])?;
-    let marks = settle(rt.alloc(), 6, &choices)?;
+    let marks = marks_of(rt.alloc(), 6, &[(2, 0)], &[(4, Some(0))])?;
     assert_eq!(rt;
         marks.as_slice(),
         [true, false, false, false, false, false].as_slice()
     );
-    let none = choices_of(rt.alloc(), &[], &[])?;
-    assert_eq!(rt; settle(rt.alloc(), 0, &none)?.len(), 0);
+    assert_eq!(rt; marks_of(rt.alloc(), 0, &[], &[])?.len(), 0);
     Ok(())
 }
 

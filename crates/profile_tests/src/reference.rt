@@ -42,6 +42,7 @@ fn a_child_beside_its_continuation(rt: HostRuntime) -> Result<(), Fail> {
         caller_span: 13,
     };
     assert_eq!(rt; told.path_rows.root, root);
+    assert_eq!(rt; told.burdened_path_rows.root, root);
     assert_eq!(rt; told.dag_rows.root, Row { local: 7, ..root });
     Ok(())
 }

@@ -1,4 +1,4 @@
-use crate::worked::{BAD, CALLS, FORK, GOOD, S1};
+use crate::worked::{BAD, CALLS, FORK, GOOD, RET, S1, S4, S5, SPAWN, SYNC};
 use spp_dag::Figures;
 use spp_event::{Event, EventFault, open_trace, trace_of};
 use spp_frame::{Fault, ProfileFault, Why};
@@ -47,6 +47,29 @@ fn row(count: u64, local: u128, site: (u64, u128, u128), caller: (u64, u128, u12
         caller_count: caller.0,
         caller_work: caller.1,
         caller_span: caller.2,
+    }
+}
+
+/// The burdened span of a run under these burdens, and the rows of the root and of the site `A` on the path under them;
+/// none where it has no profile.
+fn under(
+    alloc: Global,
+    events: &[Event],
+    continuation: u32,
+    join: u32,
+) -> Result<Option<(u128, Row, Row)>, AllocError> {
+    let bytes = trace_of(alloc, events)?;
+    let Ok(trace) = open_trace(alloc, bytes.as_slice()) else {
+        return Ok(None);
+    };
+    match profile_serial(alloc, &trace, Burdens { continuation, join }) {
+        Ok(profile) => Ok(Some((
+            profile.figures.burdened,
+            profile.burdened_path.root_row(),
+            profile.burdened_path.row(0),
+        ))),
+        Err(ProfileFault::Bad(_)) => Ok(None),
+        Err(ProfileFault::Memory) => Err(AllocError),
     }
 }
 
@@ -106,6 +129,39 @@ fn a_run_has_its_rows(rt: HostRuntime) -> Result<(), Fail> {
             row(1, 0, (1, 3, 3), (1, 3, 3)),
             row(3, 3, (1, 3, 3), (2, 5, 5))
         ))
+    );
+    Ok(())
+}
+
+#[test]
+fn burdens_decide_between_equal_children(rt: HostRuntime) -> Result<(), Fail> {
+    let events = [SPAWN, S5, RET, SPAWN, S5, RET, SYNC];
+    let root = row(1, 0, (1, 10, 5), (1, 10, 5));
+    let one = row(1, 5, (1, 5, 5), (1, 5, 5));
+    assert_eq!(rt; under(rt.alloc(), &events, 3, 3)?, Some((11, root, one)));
+    assert_eq!(rt; under(rt.alloc(), &events, 3, 0)?, Some((8, root, one)));
+    assert_eq!(rt; under(rt.alloc(), &events, 0, 3)?, Some((8, root, one)));
+    assert_eq!(rt; under(rt.alloc(), &events, 0, 0)?, Some((5, root, one)));
+    Ok(())
+}
+
+#[test]
+fn a_burden_on_one_edge_leads_the_path_along_the_other(rt: HostRuntime) -> Result<(), Fail> {
+    let events = [SPAWN, S4, RET, S4, SYNC];
+    let child = row(1, 4, (1, 4, 4), (1, 4, 4));
+    let through = row(1, 0, (1, 8, 4), (1, 8, 4));
+    let beside = row(1, 4, (1, 8, 4), (1, 8, 4));
+    assert_eq!(rt;
+        under(rt.alloc(), &events, 3, 0)?,
+        Some((7, beside, Row::default()))
+    );
+    assert_eq!(rt;
+        under(rt.alloc(), &events, 0, 3)?,
+        Some((7, through, child))
+    );
+    assert_eq!(rt;
+        under(rt.alloc(), &events, 3, 3)?,
+        Some((7, through, child))
     );
     Ok(())
 }

@@ -60,7 +60,12 @@ fn table_of(alloc: Global, local: u128) -> Result<Table, AllocError> {
 }
 
 /// A profile with such tables, whose roots have that many instructions of their own.
-fn profile_of(alloc: Global, on_dag: u128, on_path: u128) -> Result<Profile, AllocError>
+fn profile_of(
+    alloc: Global,
+    on_dag: u128,
+    on_path: u128,
+    on_burdened_path: u128,
+) -> Result<Profile, AllocError>
     ensures { IfOk result (λ p. p.figures.work ≡ 17) }
 {
     let figures = Figures {
@@ -70,37 +75,44 @@ fn profile_of(alloc: Global, on_dag: u128, on_path: u128) -> Result<Profile, All
     };
     let dag = table_of(alloc, on_dag)?;
     let path = table_of(alloc, on_path)?;
-    Ok(Profile { figures, dag, path })
+    let burdened_path = table_of(alloc, on_burdened_path)?;
+    Ok(Profile {
+        figures,
+        dag,
+        path,
+        burdened_path,
+    })
 }
 
 #[test]
-fn a_record_has_the_rows_of_both_tables(rt: HostRuntime) -> Result<(), Fail> {
+fn a_record_has_the_rows_of_each_table(rt: HostRuntime) -> Result<(), Fail> {
     let Ok(trace) = open_trace(rt.alloc(), TWO_SITES) else {
         return Err("it opens".into());
     };
     let named = Named {
         trace: &trace,
-        profile: &profile_of(rt.alloc(), 7, 3)?,
+        profile: &profile_of(rt.alloc(), 7, 3, 5)?,
     };
     let text = csv_text(rt.alloc(), &named)?;
     let wanted =
         "name,count,local,site_count,site_work,site_span,caller_count,caller_work,caller_span,\
-path_count,path_local,path_site_count,path_site_work,path_site_span,path_caller_count,path_caller_work,path_caller_span\n\
-(root),1,7,1,17,13,1,17,13,1,3,1,17,13,1,17,13\n\
-A,1,10,1,10,10,1,10,10,1,10,1,10,10,1,10,10\n\
-\"a,\"\"b\",0,0,0,0,0,0,0,0,0,0,0,0,0,0,0,0\n";
+path_count,path_local,path_site_count,path_site_work,path_site_span,path_caller_count,path_caller_work,path_caller_span,\
+burdened_path_count,burdened_path_local,burdened_path_site_count,burdened_path_site_work,burdened_path_site_span,burdened_path_caller_count,burdened_path_caller_work,burdened_path_caller_span\n\
+(root),1,7,1,17,13,1,17,13,1,3,1,17,13,1,17,13,1,5,1,17,13,1,17,13\n\
+A,1,10,1,10,10,1,10,10,1,10,1,10,10,1,10,10,1,10,1,10,10,1,10,10\n\
+\"a,\"\"b\",0,0,0,0,0,0,0,0,0,0,0,0,0,0,0,0,0,0,0,0,0,0,0,0\n";
     assert_eq!(rt; text.as_slice(), wanted.as_bytes());
     Ok(())
 }
 
 #[test]
-fn a_report_has_both_tables(rt: HostRuntime) -> Result<(), Fail> {
+fn a_report_has_each_table(rt: HostRuntime) -> Result<(), Fail> {
     let Ok(trace) = open_trace(rt.alloc(), TWO_SITES) else {
         return Err("it opens".into());
     };
     let named = Named {
         trace: &trace,
-        profile: &profile_of(rt.alloc(), 7, 1_234_567_890_123)?,
+        profile: &profile_of(rt.alloc(), 7, 1_234_567_890_123, 12_345_678_901_234)?,
     };
     let text = plain_text(rt.alloc(), &named)?;
     let wanted = "work 17
@@ -117,6 +129,11 @@ whole dag
 first greatest path
        count        local   site_count    site_work    site_span caller_count  caller_work  caller_span name
            1 1234567890123            1           17           13            1           17           13 (root)
+           1           10            1           10           10            1           10           10 A
+
+first greatest burdened path
+       count        local   site_count    site_work    site_span caller_count  caller_work  caller_span name
+           1 12345678901234            1           17           13            1           17           13 (root)
            1           10            1           10           10            1           10           10 A
 ";
     assert_eq!(rt; text.as_slice(), wanted.as_bytes());
@@ -139,6 +156,7 @@ fn the_root_has_a_line_without_frames(rt: HostRuntime) -> Result<(), Fail> {
             figures,
             dag: Table::new(rt.alloc()),
             path: Table::new(rt.alloc()),
+            burdened_path: Table::new(rt.alloc()),
         },
     };
     let text = plain_text(rt.alloc(), &named)?;
@@ -153,6 +171,10 @@ whole dag
            0            0            0            0            0            0            0            0 (root)
 
 first greatest path
+       count        local   site_count    site_work    site_span caller_count  caller_work  caller_span name
+           0            0            0            0            0            0            0            0 (root)
+
+first greatest burdened path
        count        local   site_count    site_work    site_span caller_count  caller_work  caller_span name
            0            0            0            0            0            0            0            0 (root)
 ";

@@ -85,14 +85,14 @@ command_named words name rows e =
     entered_is_command (stop_after (built spprof).top.rules (names_of (built spprof)) (argument_words spprof words)) name rows e
 
 -- the number that `get_one` reads, or the one that goes without saying
-pub burden_read : {E : Type 0} (G : List ℕ → Result ℕ E → Type 0) (text : Option Text) (r : Option ℕ)
+pub burden_read : {E : Type 0} (G : List ℕ → Result ℕ E → Type 0) (fallback : ℕ) (text : Option Text) (r : Option ℕ)
     → ((t : Text) (x : Result ℕ E) → G t x → ParsesUnsigned 32 10 t x)
     → (text ≡ None → r ≡ None) → ((t : Text) → text ≡ Some t → ReadsOne G t r)
-    → IsNumberOr 0 4294967295 15000 text (unwrap_or r 15000)
-burden_read G None r parses none value = ap (λ o. unwrap_or o 15000) (none refl)
-burden_read {E} G (Some t) r parses none value = go r (value t refl)
+    → IsNumberOr 0 4294967295 fallback text (unwrap_or r fallback)
+burden_read G fallback None r parses none value = ap (λ o. unwrap_or o fallback) (none refl)
+burden_read {E} G fallback (Some t) r parses none value = go r (value t refl)
   where
-    go : (o : Option ℕ) → ReadsOne G t o → IsNumberOr 0 4294967295 15000 (Some t) (unwrap_or o 15000)
+    go : (o : Option ℕ) → ReadsOne G t o → IsNumberOr 0 4294967295 fallback (Some t) (unwrap_or o fallback)
     go (Some v) h =
         let read = parses t (Ok v) h in
         ((λ fits. read.1), (λ bad. absurd (bad (read.0.0, omega arith, omega (arith, read.0.1)))))

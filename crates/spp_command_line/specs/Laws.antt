@@ -9,15 +9,18 @@ use Rattle.clap.specs.declared.error.kind.ErrorKind.TheVariants.{DisplayHelp, Di
 use Rattle.spp_request.specs.declared.request.Command.{Command}
 use Rattle.spp_request.specs.declared.request.Command.TheVariants.{Check, Figures, Profile, Encode}
 use Rattle.spp_request.specs.declared.request.Request.{Request}
+use Rattle.spp_maxplus.specs.declared.state.Burdens.{Burdens}
+use Rattle.spp_maxplus.specs.State.{equal}
 use Rattle.spp_command_line.specs.Spprof.{spprof}
-use Rattle.spp_command_line.specs.Usage.{IsRequestOf}
+use Rattle.spp_command_line.specs.Usage.{Gives, IsRequestOf}
 
--- the words have no fault, and a request of them is this one
-abbrev pub Ask : List Text → Command → List Text → ℕ → ℕ → Bool → Type 0
-Ask words command files burden parts csv =
+-- the words have no fault, they give a request these values, and no request of them has others
+abbrev pub Ask : List Text → Command → List Text → Burdens → ℕ → Bool → Type 0
+Ask words command files burdens parts csv =
     (fault_of spprof (codes "spprof" ∷ words) ≡ [])
     × ((r : Request) → IsRequestOf (subcommand_of spprof (codes "spprof" ∷ words)) r
-    → (r.command ≡ command) × (map string_bytes r.files.items ≡ files) × (r.burden ≡ burden) × (r.parts ≡ parts) × (r.csv ≡ csv))
+    → (r.command ≡ command) × (map string_bytes r.files.items ≡ files) × (r.burdens ≡ burdens) × (r.parts ≡ parts) × (r.csv ≡ csv))
+    × Gives (subcommand_of spprof (codes "spprof" ∷ words)) command files burdens parts csv
 
 -- the words have just this fault
 abbrev pub Fail : List Text → ErrorKind → Type 0
@@ -31,16 +34,16 @@ name_of Encode = codes "encode"
 
 -- a command alone asks for itself, over standard input, with the defaults
 abbrev pub CommandAlone : Type 0
-CommandAlone = (command : Command) → Ask (name_of command ∷ []) command [] 15000 16 false
+CommandAlone = (command : Command) → Ask (name_of command ∷ []) command [] (equal 15000) 16 false
 
 -- and so with `-`
 abbrev pub Dash : Type 0
-Dash = (command : Command) → Ask (name_of command ∷ codes "-" ∷ []) command [] 15000 16 false
+Dash = (command : Command) → Ask (name_of command ∷ codes "-" ∷ []) command [] (equal 15000) 16 false
 
 -- one word more, if it doesn't begin with `-` (45), is the file
 abbrev pub OneWord : Type 0
 OneWord = (command : Command) (first : ℕ) (rest : Text) → (first == 45) ≡ false
-    → Ask (name_of command ∷ (first ∷ rest) ∷ []) command ((first ∷ rest) ∷ []) 15000 16 false
+    → Ask (name_of command ∷ (first ∷ rest) ∷ []) command ((first ∷ rest) ∷ []) (equal 15000) 16 false
 
 -- a second such word is a fault
 abbrev pub TwoWords : Type 0
@@ -49,10 +52,29 @@ TwoWords = (command : Command) (first second : ℕ) (rest more : Text) → (firs
 
 abbrev pub FiguresInParts : Type 0
 FiguresInParts =
-    Ask (codes "figures" ∷ codes "--burden" ∷ codes "7" ∷ codes "--parts=4" ∷ codes "a" ∷ []) Figures (codes "a" ∷ []) 7 4 false
+    Ask (codes "figures" ∷ codes "--burden" ∷ codes "7" ∷ codes "--parts=4" ∷ codes "a" ∷ []) Figures (codes "a" ∷ []) (equal 7) 4 false
 
 abbrev pub ProfileAsCsv : Type 0
-ProfileAsCsv = Ask (codes "profile" ∷ codes "--csv" ∷ codes "-" ∷ []) Profile [] 15000 16 true
+ProfileAsCsv = Ask (codes "profile" ∷ codes "--csv" ∷ codes "-" ∷ []) Profile [] (equal 15000) 16 true
+
+-- --join-burden alone leaves the burden of continuation edges as it is
+abbrev pub JoinBurden : Type 0
+JoinBurden =
+    Ask (codes "figures" ∷ codes "--join-burden" ∷ codes "3" ∷ []) Figures [] (record { continuation = 15000; join = 3 }) 16 false
+
+-- beside --burden it wins, before it as behind it
+abbrev pub TwoBurdens : Type 0
+TwoBurdens =
+    Ask (codes "profile" ∷ codes "--burden" ∷ codes "3" ∷ codes "--join-burden=0" ∷ []) Profile [] (record { continuation = 3; join = 0 }) 16 false
+    × Ask (codes "profile" ∷ codes "--join-burden=0" ∷ codes "--burden" ∷ codes "3" ∷ []) Profile [] (record { continuation = 3; join = 0 }) 16 false
+
+-- the greatest burdens, and one more
+abbrev pub GreatBurdens : Type 0
+GreatBurdens =
+    Ask (codes "figures" ∷ codes "--burden=4294967295" ∷ []) Figures [] (equal 4294967295) 16 false
+    × Ask (codes "figures" ∷ codes "--burden=0" ∷ codes "--join-burden=4294967295" ∷ []) Figures [] (record { continuation = 0; join = 4294967295 }) 16 false
+    × Fail (codes "figures" ∷ codes "--burden=4294967296" ∷ []) ValueValidation
+    × Fail (codes "figures" ∷ codes "--join-burden=4294967296" ∷ []) ValueValidation
 
 abbrev pub NoCommand : Type 0
 NoCommand = Fail [] MissingSubcommand

@@ -20,6 +20,14 @@ burden_rule = record (new_rule (codes "burden")) {
   parser = Some (Signed (pos 0) (pos 4294967295));
 }
 
+-- --join-burden N, a number of 32 bits
+abbrev pub join_burden_rule : Rule
+join_burden_rule = record (new_rule (codes "join-burden")) {
+  long = Some (codes "join-burden");
+  value_names = 1;
+  parser = Some (Signed (pos 0) (pos 4294967295));
+}
+
 -- --parts N, 1 to 65536; 16 where it isn't given
 abbrev pub parts_rule : Rule
 parts_rule = record (new_rule (codes "parts")) {
@@ -39,8 +47,8 @@ over_file name options = record (new_shape name) { rules = file_rule ∷ options
 
 abbrev pub commands : List Shape
 commands = over_file (codes "check") []
-    ∷ over_file (codes "figures") (burden_rule ∷ parts_rule ∷ [])
-    ∷ over_file (codes "profile") (burden_rule ∷ csv_rule ∷ [])
+    ∷ over_file (codes "figures") (burden_rule ∷ join_burden_rule ∷ parts_rule ∷ [])
+    ∷ over_file (codes "profile") (burden_rule ∷ join_burden_rule ∷ csv_rule ∷ [])
     ∷ over_file (codes "encode") []
     ∷ []
 

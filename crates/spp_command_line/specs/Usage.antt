@@ -8,6 +8,7 @@ use Rattle.clap.specs.Walk.{Row, Text, first_of, one_of}
 use Rattle.clap.specs.Kinds.{IsAmong, Kinds}
 use Rattle.clap.specs.declared.error.kind.ErrorKind.{ErrorKind}
 use Rattle.clap.specs.declared.error.kind.ErrorKind.TheVariants.{DisplayHelp, DisplayVersion}
+use Rattle.spp_maxplus.specs.declared.state.Burdens.{Burdens}
 use Rattle.spp_request.specs.declared.request.Command.{Command}
 use Rattle.spp_request.specs.declared.request.Command.TheVariants.{Check, Figures, Profile, Encode}
 use Rattle.spp_request.specs.declared.request.Request.{Request}
@@ -57,13 +58,24 @@ IsNumberOr least most fallback (Some text) n =
 abbrev pub IsFlag : Option Text → Bool → Type 0
 IsFlag text b = (text ≡ None → b ≡ false) × (text ≡ Some (codes "false") → b ≡ false) × (text ≡ Some (codes "true") → b ≡ true)
 
--- the request is what `clap` found: a command's name, and the texts of its arguments; an argument that the command hasn't
--- got, as --parts has none at `check`, has no text
+-- what edges bear: --burden is for both kinds, and 15000 without it; --join-burden, where it is given, is for the edges
+-- of returns in its place
+abbrev pub AreBurdens : List Row → Burdens → Type 0
+AreBurdens rows b =
+    IsNumberOr 0 4294967295 15000 (one_of (codes "burden") rows) b.continuation
+    × IsNumberOr 0 4294967295 b.continuation (one_of (codes "join-burden") rows) b.join
+
+-- what `clap` found, a command's name and the texts of its arguments, gives a request these values; an argument that the
+-- command hasn't got, as --parts has none at `check`, has no text
+abbrev pub Gives : Option (Text × List Row) → Command → List Text → Burdens → ℕ → Bool → Type 0
+Gives None command files burdens parts csv = ⊥
+Gives (Some (name, rows)) command files burdens parts csv =
+    IsNamed name command
+    × (files ≡ paths_of (first_of (codes "FILE") rows))
+    × AreBurdens rows burdens
+    × IsNumberOr 1 65536 16 (one_of (codes "parts") rows) parts
+    × IsFlag (one_of (codes "csv") rows) csv
+
+-- the request is what `clap` found
 abbrev pub IsRequestOf : Option (Text × List Row) → Request → Type 0
-IsRequestOf None r = ⊥
-IsRequestOf (Some (name, rows)) r =
-    IsNamed name r.command
-    × (map string_bytes r.files.items ≡ paths_of (first_of (codes "FILE") rows))
-    × IsNumberOr 0 4294967295 15000 (one_of (codes "burden") rows) r.burden
-    × IsNumberOr 1 65536 16 (one_of (codes "parts") rows) r.parts
-    × IsFlag (one_of (codes "csv") rows) r.csv
+IsRequestOf found r = Gives found r.command (map string_bytes r.files.items) r.burdens r.parts r.csv

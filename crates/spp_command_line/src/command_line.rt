@@ -2,7 +2,7 @@
 
 ghost use Rattle.std.specs.Prelude.{◌≡◌, ◌∷◌, [], IfOk, false, codes};
 ghost use Rattle.clap.specs.Words.{app_of, rule_of};
-ghost use Rattle.spp_command_line.specs.Spprof.{IsAt, burden_rule, csv_rule, file_rule, over_file, parts_rule, spprof};
+ghost use Rattle.spp_command_line.specs.Spprof.{IsAt, burden_rule, csv_rule, file_rule, join_burden_rule, over_file, parts_rule, spprof};
 
 use clap::{Arg, ArgAction, Command, value_parser};
 use spp_cut::Parts;
@@ -12,7 +12,7 @@ const ABOUT: &str = "A call-site profiler for recorded fork-join runs";
 
 const VERSION: &str = "0.1.0";
 
-/// The burden where none is given, in instructions.
+/// What edges of both kinds bear where no burden is given, in instructions.
 pub(crate) const DEFAULT_BURDEN: u32 = 15000;
 
 /// The same as a word.
@@ -47,7 +47,7 @@ fn command_over<'a>(
         .arg(file)
 }
 
-/// The burden of an edge where a thief may take over.
+/// What each edge past a spawned child bears, and each edge of its return.
 fn burden<'a>(alloc: Global) -> Arg<'a>
     ensures rule { rule_of result ≡ burden_rule }
     ensures local { result.global ≡ false }
@@ -58,6 +58,20 @@ fn burden<'a>(alloc: Global) -> Arg<'a>
         .value_parser(value_parser!(u32))
         .default_value(DEFAULT_BURDEN_WORD)
         .help("Instructions that each edge past a spawned child and each edge of its return bears")
+}
+
+/// The burden of the edges of returns alone. It has no default, since `--burden` decides where it isn't given.
+fn join_burden<'a>(alloc: Global) -> Arg<'a>
+    ensures rule { rule_of result ≡ join_burden_rule }
+    ensures local { result.global ≡ false }
+{
+    Arg::new(alloc, "join-burden")
+        .long("join-burden")
+        .value_name("N")
+        .value_parser(value_parser!(u32))
+        .help(
+            "Instructions that each edge of a spawned child's return bears; without it, what --burden says",
+        )
 }
 
 /// Into how many parts the trace is cut.
@@ -99,7 +113,7 @@ fn check<'a>(alloc: Global) -> Result<Command<'a>, AllocError>
 }
 
 fn figures<'a>(alloc: Global) -> Result<Command<'a>, AllocError>
-    ensures { IfOk result (IsAt (over_file (codes "figures") (burden_rule ∷ parts_rule ∷ []))) }
+    ensures { IfOk result (IsAt (over_file (codes "figures") (burden_rule ∷ join_burden_rule ∷ parts_rule ∷ []))) }
 {
     command_over(
         alloc,
@@ -108,19 +122,21 @@ fn figures<'a>(alloc: Global) -> Result<Command<'a>, AllocError>
         THE_TRACE,
     )?
     .arg(burden(alloc))?
+    .arg(join_burden(alloc))?
     .arg(parts(alloc))
 }
 
 fn profile<'a>(alloc: Global) -> Result<Command<'a>, AllocError>
-    ensures { IfOk result (IsAt (over_file (codes "profile") (burden_rule ∷ csv_rule ∷ []))) }
+    ensures { IfOk result (IsAt (over_file (codes "profile") (burden_rule ∷ join_burden_rule ∷ csv_rule ∷ []))) }
 {
     command_over(
         alloc,
         "profile",
-        "Print the figures of a run and two tables of its call sites",
+        "Print the figures of a run and three tables of its call sites",
         THE_TRACE,
     )?
     .arg(burden(alloc))?
+    .arg(join_burden(alloc))?
     .arg(csv(alloc))
 }
 

@@ -13,6 +13,7 @@ use crate::command_line::{DEFAULT_BURDEN, command_line};
 use clap::Error;
 use clap::error::ErrorKind;
 use spp_cut::Parts;
+use spp_maxplus::Burdens;
 use spp_request::{Command, Request, UsageFault};
 use std::alloc::{AllocError, Global};
 use std::convert::AsStr;
@@ -65,13 +66,13 @@ fn request_of(
     alloc: Global,
     command: Command,
     file: Option<&str>,
-    burden: u32,
+    burdens: Burdens,
     parts: Parts,
     csv: bool,
 ) -> Result<Request, AllocError>
     ensures command { IfOk result (λ r. r.command ≡ command) }
     ensures files { IfOk result (λ r. map string_bytes r.files.items ≡ paths_of (option_map (λ f. f.now) file.entry)) }
-    ensures burden { IfOk result (λ r. r.burden ≡ burden) }
+    ensures burdens { IfOk result (λ r. r.burdens ≡ burdens) }
     ensures parts { IfOk result (λ r. r.parts ≡ parts) }
     ensures csv { IfOk result (λ r. r.csv ≡ csv) }
 {
@@ -84,7 +85,7 @@ fn request_of(
     Ok(Request {
         command,
         files,
-        burden,
+        burdens,
         parts,
         csv,
     })
@@ -115,12 +116,17 @@ pub fn read_request<S: AsStr>(alloc: Global, words: &[S]) -> Result<Request, Usa
         return Err(no_command(alloc));
     };
     let burden = given.get_one::<u32>("burden").unwrap_or(DEFAULT_BURDEN);
+    let join_burden = given.get_one::<u32>("join-burden").unwrap_or(burden);
+    let burdens = Burdens {
+        continuation: burden,
+        join: join_burden,
+    };
     let parts = given.get_one::<u32>("parts").and_then(Parts::new);
     Ok(request_of(
         alloc,
         command,
         given.get_str("FILE"),
-        burden,
+        burdens,
         parts.unwrap_or_default(),
         given.get_flag("csv"),
     )?)

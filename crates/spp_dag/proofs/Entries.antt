@@ -16,8 +16,8 @@ same_some : {A : Type 0} (a b : List A) → Some a ≡ Some b → a ≡ b
 same_some a b e = cc
 
 pub entry_is_one : EntryIsOne
-entry_is_one es wf root i l =
-    let s = stack_stands es wf unburdened root i l in (
+entry_is_one es wf burdens root i l =
+    let s = stack_stands es wf burdens root i l in (
       (map (entry_frame es root) (s.0 ∷ s.1), nesting.work (take i (records es)), (s.0 ∷ s.1, s.2, refl, refl)),
       λ fs gs v w a b. (a.2 ∙ (ap (λ (hs : List OpenFrame). map (entry_frame es root) hs) (same_some a.0 b.0 (sym a.1 ∙ b.1)) ∙ sym b.2), a.3 ∙ sym b.3),
     )

@@ -1,18 +1,20 @@
 -- The events that the records of a trace spell.
-use Rattle.std.proofs.Common.{◌≡◌, ℕ, ◌<◌, ◌^◌, List, [], ◌∷◌, length, map, Option, Some, None, Ok, Err, refl, sym, ap, ◌∙◌, arith}
+use Rattle.std.proofs.Common.{◌≡◌, ℕ, zero, suc, ◌<◌, ◌≤◌, ◌^◌, List, [], ◌∷◌, length, map, Option, Some, None, Ok, Err, IfOk, refl, sym, ap, subst, ◌∙◌, arith}
 use Rattle.std.specs.Option.{option_map}
 use Rattle.std.specs.List.{slice_get}
+use Rattle.std.proofs.lemmas.List.{length-map}
 use Rattle.std.proofs.lemmas.Option.{slice_get-map, slice_get-get_or}
 use Rattle.spp_event.specs.declared.records.Event.{Event}
 use Rattle.spp_event.specs.declared.records.Event.TheVariants.{Strand, Call, Spawn, Ret, Sync}
 use Rattle.spp_event.specs.declared.records.EventFault.{EventFault}
 use Rattle.spp_event.specs.declared.records.EventFault.TheVariants.{Truncated}
 use Rattle.spp_event.specs.Records.{IsEventOf}
-use Rattle.spp_event.specs.Recordings.{Record, Recording, record_at}
+use Rattle.spp_event.specs.Recordings.{Record, Recording, AreEventsOf, record_at}
 use Rattle.spp_frame.specs.Nesting as nesting
 use Rattle.spp_frame.specs.Nesting.{AreEvents}
 use Rattle.spp_frame.proofs.Laws.{well_formed_are_events}
-use Rattle.spp_dag.specs.Trace.{event_at, weight_of}
+use Rattle.spp_dag.specs.Trace.{records, event_at, weight, weight_of}
+use Rattle.spp_dag.specs.Limits.{IsSmall}
 
 -- records spell one list of events
 pub same_events : (es fs : List Event) → map {A = Event} {B = Record} (λ e. Ok e) es ≡ map (λ e. Ok e) fs → es ≡ fs
@@ -57,3 +59,20 @@ weight_small sites funcs (Call s f) h = omega arith
 weight_small sites funcs (Spawn s f) h = omega arith
 weight_small sites funcs Ret h = omega arith
 weight_small sites funcs Sync h = omega arith
+
+weights_small : (sites funcs : ℕ) (es : List Event) (k : ℕ) → (k < length es → IfOk (record_at (records es) k) (IsEventOf sites funcs))
+    → weight es k < 2 ^ 64
+weights_small sites funcs [] zero h = omega arith
+weights_small sites funcs [] (suc k) h = omega arith
+weights_small sites funcs (e ∷ es) zero h = weight_small sites funcs e (h (omega arith))
+weights_small sites funcs (e ∷ es) (suc k) h = weights_small sites funcs es k (λ l. h (omega arith))
+
+pub known_small : (rs : List Record) (sites funcs : ℕ) (es : List Event) → length rs ≤ 2 ^ 28 → rs ≡ records es
+    → AreEventsOf sites funcs rs → IsSmall es
+known_small rs sites funcs es few are h =
+    let long : length rs ≡ length (records es) = ap (λ (l : List Record). length l) are in
+    let same : length (records es) ≡ length es = length-map es (λ e. Ok e) in
+    record {
+      events = omega arith;
+      strands = λ k. weights_small sites funcs es k (λ l. subst (λ x. IfOk (record_at x k) (IsEventOf sites funcs)) are (h k (omega arith)));
+    }

@@ -51,8 +51,8 @@ abbrev pub greatest_walk : List Event → Burdens → ℕ → ℕ → List ℕ �
 greatest_walk es b x y = first_best (all_walks es b y (suc (length es)) x)
 
 -- the path, and the spans
-abbrev pub path : List Event → List ℕ
-path es = 0 ∷ (greatest_walk es unburdened 0 (length es)).0
+abbrev pub path : List Event → Burdens → List ℕ
+path es b = 0 ∷ (greatest_walk es b 0 (length es)).0
 
 abbrev pub span : List Event → Burdens → ℕ
 span es b = (greatest_walk es b 0 (length es)).1
@@ -342,7 +342,7 @@ listed_span es wf b =
     let p = (path_exists es wf b 0 refl).1 in
     (listed es b 0 (length es) p.0 _ (let z : length es ≤ length es = omega arith in z) p.1).0
 
-pub listed_path : (es : List Event) → IsWellFormed es → IsPath es unburdened 0 (length es) (greatest_walk es unburdened 0 (length es)).0
-listed_path es wf =
-    let p = (path_exists es wf unburdened 0 refl).1 in
-    (listed es unburdened 0 (length es) p.0 _ (let z : length es ≤ length es = omega arith in z) p.1).1
+pub listed_path : (es : List Event) → IsWellFormed es → (b : Burdens) → IsPath es b 0 (length es) (greatest_walk es b 0 (length es)).0
+listed_path es wf b =
+    let p = (path_exists es wf b 0 refl).1 in
+    (listed es b 0 (length es) p.0 _ (let z : length es ≤ length es = omega arith in z) p.1).1

@@ -18,7 +18,7 @@ open_more v w l (f ∷ g ∷ fs) h =
     let b : f.before ≤ v = h.1 in
     (h.0, omega arith, open_more v w l (g ∷ fs) h.2)
 
--- another state of the innermost frame
-pub open_state : (w : ℕ) (f : EntryFrame) (s : State) (fs : List EntryFrame) → AreOpen w (f ∷ fs) → AreOpen w (record f { state = s } ∷ fs)
-open_state w f s [] h = h
-open_state w f s (g ∷ fs) h = h
+-- other states of the innermost frame
+pub open_state : (w : ℕ) (f : EntryFrame) (s t : State) (fs : List EntryFrame) → AreOpen w (f ∷ fs) → AreOpen w (record f { state = s; burdened = t } ∷ fs)
+open_state w f s t [] h = h
+open_state w f s t (g ∷ fs) h = h

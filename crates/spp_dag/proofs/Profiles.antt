@@ -118,6 +118,7 @@ contains_passed x (u ∷ ps) i =
 pub has_profile : HasProfile
 has_profile es wf root burdens =
     let path = path_exists es wf unburdened 0 refl in
+    let way = path_exists es wf burdens 0 refl in
     let l : length es ≤ length es = omega arith in
     let h = shape es 1 (λ _. burdens.continuation) (λ _. burdens.join) wf (length es) l in (
       record {
@@ -126,6 +127,7 @@ has_profile es wf root burdens =
         burdened_span = close h.top.state;
         dag = row es root (spans_of es) everywhere;
         path = row es root (spans_of es) (contains (0 ∷ path.0));
+        burdened_path = row es root (spans_of es) (contains (0 ∷ way.0));
       },
       record {
         well_formed = wf;
@@ -138,12 +140,16 @@ has_profile es wf root burdens =
         is_path = path.1;
         dag = λ key. refl;
         path = λ key. refl;
+        burdened_rest = way.0;
+        is_burdened_path = way.1;
+        burdened_path = λ key. refl;
       },
     )
 
 pub profile_is_one : ProfileIsOne
 profile_is_one es root burdens p q a b =
-    let same : a.rest ≡ b.rest = path_unique es unburdened 0 (length es) a.rest b.rest a.is_path b.is_path in (
+    let same : a.rest ≡ b.rest = path_unique es unburdened 0 (length es) a.rest b.rest a.is_path b.is_path in
+    let way : a.burdened_rest ≡ b.burdened_rest = path_unique es burdens 0 (length es) a.burdened_rest b.burdened_rest a.is_burdened_path b.is_burdened_path in (
       a.work ∙ sym b.work,
       greatest_one es unburdened 0 (length es) p.span q.span a.span b.span,
       greatest_one es burdens 0 (length es) p.burdened_span q.burdened_span a.burdened_span b.burdened_span,
@@ -151,5 +157,7 @@ profile_is_one es root burdens p q a b =
         a.dag key ∙ rows_one es root everywhere a.spans b.spans key a.are_spans b.are_spans ∙ sym (b.dag key),
         a.path key ∙ rows_one es root (contains (0 ∷ a.rest)) a.spans b.spans key a.are_spans b.are_spans
             ∙ ap (λ ps. row es root b.spans (contains (0 ∷ ps)) key) same ∙ sym (b.path key),
+        a.burdened_path key ∙ rows_one es root (contains (0 ∷ a.burdened_rest)) a.spans b.spans key a.are_spans b.are_spans
+            ∙ ap (λ ps. row es root b.spans (contains (0 ∷ ps)) key) way ∙ sym (b.burdened_path key),
       ),
     )

@@ -2,7 +2,8 @@
 use Rattle.std.proofs.Common.{◌≡◌, ℕ, suc, ◌+◌, ◌<◌, true, not, ◌||◌, refl, arith, sym, ◌∙◌, ap, ap₂, subst, List, [], ◌∷◌, length, map, Option, Some, None, nat_eq}
 use Rattle.spp_event.specs.declared.records.Event.{Event}
 use Rattle.spp_event.specs.declared.records.Event.TheVariants.{Strand, Call, Spawn, Ret, Sync}
-use Rattle.spp_maxplus.specs.State.{unburdened, start}
+use Rattle.spp_maxplus.specs.declared.state.Burdens.{Burdens}
+use Rattle.spp_maxplus.specs.State.{start}
 use Rattle.spp_dag.specs.declared.stack.OpenFrame.{OpenFrame}
 use Rattle.spp_dag.specs.declared.stack.FrameKind.TheVariants.{Called, Spawned}
 use Rattle.spp_dag.specs.Trace.{event_at, weight, weight_of, opens, owner, IsWellFormed}
@@ -72,43 +73,43 @@ module _ (es : List Event) (wf : IsWellFormed es) (root i : ℕ) (f : OpenFrame)
       ∙ ap (is_outermost es root) (sym (owner_is es 1 (λ _. 0) (λ _. 0) wf i h))
 
 -- what the machine makes of the frames has the entries that follow
-abbrev Follows : List Event → ℕ → ℕ → Event → List OpenFrame → Option (List OpenFrame) → Type 0
-Follows es root i e fs None = ⊥
-Follows es root i e fs (Some gs) = entry_after i e (work_to es i) (map (entry_frame es root) fs) ≡ map (entry_frame es root) gs
+abbrev Follows : List Event → Burdens → ℕ → ℕ → Event → List OpenFrame → Option (List OpenFrame) → Type 0
+Follows es burdens root i e fs None = ⊥
+Follows es burdens root i e fs (Some gs) = entry_after burdens i e (work_to es i) (map (entry_frame es root) fs) ≡ map (entry_frame es root) gs
 
-follows : (es : List Event) (wf : IsWellFormed es) (root i : ℕ) (e : Event) → event_at es i ≡ Some e → (fs : List OpenFrame) → AllTraced es root fs → map plain_frame fs ≡ frames_at es wf i
-    → (gs : List OpenFrame) → advance unburdened i e fs ≡ Some gs → Follows es root i e fs (advance unburdened i e fs)
-follows es wf root i e q [] t s gs n = let z : None ≡ Some gs = n in cc
-follows es wf root i (Strand c) q (f ∷ fs) t s gs n = refl
-follows es wf root i (Call site func) q (f ∷ fs) t s gs n =
+follows : (es : List Event) (wf : IsWellFormed es) (burdens : Burdens) (root i : ℕ) (e : Event) → event_at es i ≡ Some e → (fs : List OpenFrame) → AllTraced es root fs → map plain_frame fs ≡ frames_at es wf i
+    → (gs : List OpenFrame) → advance burdens i e fs ≡ Some gs → Follows es burdens root i e fs (advance burdens i e fs)
+follows es wf burdens root i e q [] t s gs n = let z : None ≡ Some gs = n in cc
+follows es wf burdens root i (Strand c) q (f ∷ fs) t s gs n = refl
+follows es wf burdens root i (Call site func) q (f ∷ fs) t s gs n =
     let l = inside es i (Call site func) q in
     let a = marks_site es wf root i f fs t s l site (ap opens q) (ap site_of q) in
     let b = marks_caller es wf root i f fs t s l in
     let c = work_before es i (ap weight_of q) in
-    λ j. record { kind = Called; at = i; site = site; func = func; before = c j; state = start; top_site = a j; top_caller = b j } ∷ map (entry_frame es root) (f ∷ fs)
-follows es wf root i (Spawn site func) q (f ∷ fs) t s gs n =
+    λ j. record { kind = Called; at = i; site = site; func = func; before = c j; state = start; burdened = start; top_site = a j; top_caller = b j } ∷ map (entry_frame es root) (f ∷ fs)
+follows es wf burdens root i (Spawn site func) q (f ∷ fs) t s gs n =
     let l = inside es i (Spawn site func) q in
     let a = marks_site es wf root i f fs t s l site (ap opens q) (ap site_of q) in
     let b = marks_caller es wf root i f fs t s l in
     let c = work_before es i (ap weight_of q) in
-    λ j. record { kind = Spawned; at = i; site = site; func = func; before = c j; state = start; top_site = a j; top_caller = b j } ∷ map (entry_frame es root) (f ∷ fs)
-follows es wf root i Sync q (f ∷ fs) t s gs n = refl
-follows es wf root i Ret q (f ∷ []) t s gs n = let z : None ≡ Some gs = n in cc
-follows es wf root i Ret q (f ∷ g ∷ fs) t s gs n = refl
+    λ j. record { kind = Spawned; at = i; site = site; func = func; before = c j; state = start; burdened = start; top_site = a j; top_caller = b j } ∷ map (entry_frame es root) (f ∷ fs)
+follows es wf burdens root i Sync q (f ∷ fs) t s gs n = refl
+follows es wf burdens root i Ret q (f ∷ []) t s gs n = let z : None ≡ Some gs = n in cc
+follows es wf burdens root i Ret q (f ∷ g ∷ fs) t s gs n = refl
 
 pub entry_follows : EntryFollows
-entry_follows es wf root i e q fs work entry =
+entry_follows es wf burdens root i e q fs work entry =
     let l = inside es i e q in
-    let r = run_next es root i e q entry.0 entry.1 in
-    let s = stack_stands es wf unburdened root (suc i) l in
-    let n : advance unburdened i e entry.0 ≡ Some (s.0 ∷ s.1) = sym r ∙ s.2 in
-    let t = all_traced es wf root i (omega arith) entry.0 entry.1 in
-    let same : Same es wf unburdened i entry.0 = same_stack es wf unburdened i (omega arith) entry.0 (root, entry.1) in
-    let f : entry_after i e (work_to es i) (map (entry_frame es root) entry.0) ≡ map (entry_frame es root) (s.0 ∷ s.1) =
-    subst (λ o. Follows es root i e entry.0 o) n (follows es wf root i e q entry.0 t same.plain (s.0 ∷ s.1) n) in
+    let r = run_next es burdens root i e q entry.0 entry.1 in
+    let s = stack_stands es wf burdens root (suc i) l in
+    let n : advance burdens i e entry.0 ≡ Some (s.0 ∷ s.1) = sym r ∙ s.2 in
+    let t = all_traced es wf burdens root i (omega arith) entry.0 entry.1 in
+    let same : Same es wf burdens i entry.0 = same_stack es wf burdens i (omega arith) entry.0 (root, entry.1) in
+    let f : entry_after burdens i e (work_to es i) (map (entry_frame es root) entry.0) ≡ map (entry_frame es root) (s.0 ∷ s.1) =
+    subst (λ o. Follows es burdens root i e entry.0 o) n (follows es wf burdens root i e q entry.0 t same.plain (s.0 ∷ s.1) n) in
     let w : work ≡ work_to es i = entry.3 in (
       s.0 ∷ s.1,
       s.2,
-      ap₂ (λ k hs. entry_after i e k hs) w entry.2 ∙ f,
+      ap₂ (λ k hs. entry_after burdens i e k hs) w entry.2 ∙ f,
       ap (λ k. k + weight es i) w ∙ sym (work_next es i),
     )

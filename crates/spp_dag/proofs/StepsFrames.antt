@@ -8,7 +8,7 @@ use Rattle.spp_event.specs.declared.records.Event.{Event}
 use Rattle.spp_event.specs.declared.records.Event.TheVariants.{Strand, Call, Spawn, Ret, Sync}
 use Rattle.spp_event.specs.Recordings.{Record}
 use Rattle.spp_frame.specs.Nesting as nesting
-use Rattle.spp_maxplus.specs.State.{unburdened}
+use Rattle.spp_maxplus.specs.declared.state.Burdens.{Burdens}
 use Rattle.spp_dag.specs.declared.stack.OpenFrame.{OpenFrame}
 use Rattle.spp_dag.specs.declared.stack.FrameKind.{FrameKind}
 use Rattle.spp_dag.specs.declared.stack.FrameKind.TheVariants.{Root, Called, Spawned}
@@ -54,14 +54,14 @@ traced_frame es root Root at site func t = refl
 traced_frame es root Called at site func t = ap opens t
 traced_frame es root Spawned at site func t = ap opens t
 
-advance_traced : (es : List Event) (root i : ℕ) (e : Event) → event_at es i ≡ Some e → (fs : List OpenFrame) → AllTraced es root fs → AllSome es root (advance unburdened i e fs)
-advance_traced es root i e q [] t = tt
-advance_traced es root i (Strand n) q (f ∷ fs) t = t
-advance_traced es root i (Call s u) q (f ∷ fs) t = (q, t)
-advance_traced es root i (Spawn s u) q (f ∷ fs) t = (q, t)
-advance_traced es root i Sync q (f ∷ fs) t = t
-advance_traced es root i Ret q (f ∷ []) t = tt
-advance_traced es root i Ret q (f ∷ g ∷ fs) t = t.1
+advance_traced : (es : List Event) (burdens : Burdens) (root i : ℕ) (e : Event) → event_at es i ≡ Some e → (fs : List OpenFrame) → AllTraced es root fs → AllSome es root (advance burdens i e fs)
+advance_traced es burdens root i e q [] t = tt
+advance_traced es burdens root i (Strand n) q (f ∷ fs) t = t
+advance_traced es burdens root i (Call s u) q (f ∷ fs) t = (q, t)
+advance_traced es burdens root i (Spawn s u) q (f ∷ fs) t = (q, t)
+advance_traced es burdens root i Sync q (f ∷ fs) t = t
+advance_traced es burdens root i Ret q (f ∷ []) t = tt
+advance_traced es burdens root i Ret q (f ∷ g ∷ fs) t = t.1
 
 -- ---- one event further
 
@@ -70,31 +70,31 @@ take_next [] i e q = absurd (let z = inside [] i e q in omega arith)
 take_next (x ∷ es) zero e q = ap (λ y. y ∷ []) (let z : Some x ≡ Some e = q in let r : x ≡ e = cc in r)
 take_next (x ∷ es) (suc i) e q = ap (λ l. x ∷ l) (take_next es i e q)
 
-pub run_next : (es : List Event) (root i : ℕ) (e : Event) → event_at es i ≡ Some e → (fs : List OpenFrame)
-    → run unburdened 0 (take i es) (root_frame root ∷ []) ≡ Some fs → run unburdened 0 (take (suc i) es) (root_frame root ∷ []) ≡ advance unburdened i e fs
-run_next es root i e q fs r =
+pub run_next : (es : List Event) (burdens : Burdens) (root i : ℕ) (e : Event) → event_at es i ≡ Some e → (fs : List OpenFrame)
+    → run burdens 0 (take i es) (root_frame root ∷ []) ≡ Some fs → run burdens 0 (take (suc i) es) (root_frame root ∷ []) ≡ advance burdens i e fs
+run_next es burdens root i e q fs r =
     let l = inside es i e q in
     let len : 0 + length (take i es) ≡ i = simp length-take (omega arith) in
-    ap (λ part. run unburdened 0 part (root_frame root ∷ [])) (take_next es i e q)
-    ∙ run-append unburdened 0 (take i es) (e ∷ []) (root_frame root ∷ [])
-    ∙ ap₂ (λ k o. run_on unburdened k (e ∷ []) o) len r
-    ∙ one (advance unburdened i e fs)
+    ap (λ part. run burdens 0 part (root_frame root ∷ [])) (take_next es i e q)
+    ∙ run-append burdens 0 (take i es) (e ∷ []) (root_frame root ∷ [])
+    ∙ ap₂ (λ k o. run_on burdens k (e ∷ []) o) len r
+    ∙ one (advance burdens i e fs)
   where
     one : (o : Option (List OpenFrame)) → elim o [ None ↦ None | Some gs ↦ Some gs ] ≡ o
     one None = refl
     one (Some gs) = refl
 
 -- each open frame is that of the trace
-pub all_traced : (es : List Event) → IsWellFormed es → (root i : ℕ) → i ≤ length es → (fs : List OpenFrame)
-    → run unburdened 0 (take i es) (root_frame root ∷ []) ≡ Some fs → AllTraced es root fs
-all_traced es wf root zero l fs r = subst (λ o. AllSome es root o) r (refl, tt)
-all_traced es wf root (suc i) l fs r = by (event_at es i) refl (λ gs t. all_traced es wf root i (omega arith) gs t)
+pub all_traced : (es : List Event) → IsWellFormed es → (burdens : Burdens) (root i : ℕ) → i ≤ length es → (fs : List OpenFrame)
+    → run burdens 0 (take i es) (root_frame root ∷ []) ≡ Some fs → AllTraced es root fs
+all_traced es wf burdens root zero l fs r = subst (λ o. AllSome es root o) r (refl, tt)
+all_traced es wf burdens root (suc i) l fs r = by (event_at es i) refl (λ gs t. all_traced es wf burdens root i (omega arith) gs t)
   where
-    by : (o : Option Event) → event_at es i ≡ o → ((gs : List OpenFrame) → run unburdened 0 (take i es) (root_frame root ∷ []) ≡ Some gs → AllTraced es root gs) → AllTraced es root fs
+    by : (o : Option Event) → event_at es i ≡ o → ((gs : List OpenFrame) → run burdens 0 (take i es) (root_frame root ∷ []) ≡ Some gs → AllTraced es root gs) → AllTraced es root fs
     by None q before = absurd (slice_get_no es i l q)
     by (Some e) q before =
-        let s = stack_stands es wf unburdened root i (omega arith) in
-        subst (λ o. AllSome es root o) (sym (run_next es root i e q (s.0 ∷ s.1) s.2) ∙ r) (advance_traced es root i e q (s.0 ∷ s.1) (before (s.0 ∷ s.1) s.2))
+        let s = stack_stands es wf burdens root i (omega arith) in
+        subst (λ o. AllSome es root o) (sym (run_next es burdens root i e q (s.0 ∷ s.1) s.2) ∙ r) (advance_traced es burdens root i e q (s.0 ∷ s.1) (before (s.0 ∷ s.1) s.2))
 
 -- ---- the work as far as a position
 

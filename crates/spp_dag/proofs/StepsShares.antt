@@ -3,6 +3,7 @@ use Rattle.std.proofs.Common.{◌≡◌, ℕ, zero, suc, ◌+◌, ◌-◌, ◌�
 use Rattle.std.proofs.lemmas.Bool.{cases_eq, both_ways, and_parts, and_left, and_right, false_from_ne_true, ne_eqb}
 use Rattle.spp_event.specs.declared.records.Event.{Event}
 use Rattle.spp_event.specs.declared.records.Event.TheVariants.{Strand, Call, Spawn, Ret, Sync}
+use Rattle.spp_maxplus.specs.declared.state.Burdens.{Burdens}
 use Rattle.spp_maxplus.specs.State.{unburdened, close}
 use Rattle.spp_dag.specs.declared.row.Row.{Row}
 use Rattle.spp_dag.specs.declared.stack.EntryFrame.{EntryFrame}
@@ -169,8 +170,8 @@ module _ (es : List Event) (wf : IsWellFormed es) (root : ℕ) (span : ℕ → �
         (sum_is (is_top_caller es root) (work es) (work_to es i - work_to es g) work_is)
         (sum_is (is_top_caller es root) span s e)
 
-module _ (es : List Event) (wf : IsWellFormed es) (root : ℕ) (span : ℕ → ℕ) (spans : AreSpans es span) (on : ℕ → Bool) (key : Option ℕ) (i : ℕ) (f : OpenFrame) (fs : List OpenFrame)
-    (stands : run unburdened 0 (take i es) (root_frame root ∷ []) ≡ Some (f ∷ fs)) (l : i < length es) where
+module _ (es : List Event) (wf : IsWellFormed es) (burdens : Burdens) (root : ℕ) (span : ℕ → ℕ) (spans : AreSpans es span) (on : ℕ → Bool) (key : Option ℕ) (i : ℕ) (f : OpenFrame) (fs : List OpenFrame)
+    (stands : run burdens 0 (take i es) (root_frame root ∷ []) ≡ Some (f ∷ fs)) (l : i < length es) where
   abbrev first : ℕ
   first = first_of f.kind f.at
 
@@ -178,13 +179,13 @@ module _ (es : List Event) (wf : IsWellFormed es) (root : ℕ) (span : ℕ → �
   upto = omega arith
 
   traced : TracedBy es root f.kind f.at f.site f.func
-  traced = (all_traced es wf root i upto (f ∷ fs) stands).0
+  traced = (all_traced es wf burdens root i upto (f ∷ fs) stands).0
 
   shape : ShapeAt es wf i
   shape = shape_at es wf i upto
 
   top_is : shape.top.first ≡ first
-  top_is = sym (ap (λ t. t.first) (plain_top es wf unburdened i upto f (fs, (root, stands)) shape))
+  top_is = sym (ap (λ t. t.first) (plain_top es wf burdens i upto f (fs, (root, stands)) shape))
 
   owner_first : owner es i ≡ first
   owner_first = owner_is es 1 (λ _. 0) (λ _. 0) wf i shape ∙ top_is
@@ -211,9 +212,9 @@ module _ (es : List Event) (wf : IsWellFormed es) (root : ℕ) (span : ℕ → �
       let at : closing es first ≡ i = ap (closing es) is ∙ r.2 in
       let after : r.0 < i = r.1.after in
       let frame = traced_frame es root f.kind f.at f.site f.func traced in
-      let top : HasTop es unburdened (closing es first) f = subst (λ k. HasTop es unburdened k f) (sym at) (fs, (root, stands)) in
+      let top : HasTop es burdens (closing es first) f = subst (λ k. HasTop es burdens k f) (sym at) (fs, (root, stands)) in
       let s : span first ≡ close f.plain =
-      greatest_one es unburdened first (closing es first) (span first) (close f.plain) (spans first frame) (frames_give_spans es wf unburdened first frame f top).0 in
+      greatest_one es unburdened first (closing es first) (span first) (close f.plain) (spans first frame) (frames_give_spans es wf burdens first frame f top).0 in
       closing_share es wf root span on key i l first at owner_first (omega arith) (ap weight_of q) (close f.plain) s
       ∙ whole (on first && is_of es key first)
       ∙ ap (λ b. cond (on first && b) (closed_row (entry_frame es root f) (work_to es i)) zero_row) (keyed first refl)
@@ -222,11 +223,11 @@ heads : (f g : EntryFrame) (fs gs : List EntryFrame) → f ∷ fs ≡ g ∷ gs �
 heads f g fs gs e = cc
 
 pub share_follows : ShareFollows
-share_follows es wf root span spans on key i e q f fs work entry = by entry.0 entry.1 entry.2
+share_follows es wf burdens root span spans on key i e q f fs work entry = by entry.0 entry.1 entry.2
   where
-    by : (hs : List OpenFrame) → run unburdened 0 (take i es) (root_frame root ∷ []) ≡ Some hs → f ∷ fs ≡ map (entry_frame es root) hs
+    by : (hs : List OpenFrame) → run burdens 0 (take i es) (root_frame root ∷ []) ≡ Some hs → f ∷ fs ≡ map (entry_frame es root) hs
         → share es root span on key i (suc i) ≡ gain on key i e f work
     by [] r s = cc
     by (h ∷ hs) r s =
-        share_is es wf root span spans on key i h hs r (inside es i e q) e q
+        share_is es wf burdens root span spans on key i h hs r (inside es i e q) e q
         ∙ sym (ap₂ (λ g w. gain on key i e g w) (heads f (entry_frame es root h) fs (map (entry_frame es root) hs) s) entry.3)

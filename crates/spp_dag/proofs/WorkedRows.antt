@@ -9,7 +9,9 @@ use Rattle.spp_frame.specs.Nesting as nesting
 use Rattle.spp_maxplus.specs.State.{unburdened}
 use Rattle.spp_dag.specs.Trace.{records, IsWellFormed}
 use Rattle.spp_dag.specs.Rows.{row, everywhere, contains}
-use Rattle.spp_dag.specs.WorkedRows.{Answer, IsWorked, both, Empty, LargeStrands, OneChild, EqualWays, EmptyChild, EqualChildren, NoSync, RecursiveCalls, RecursiveRoot, NestedChildren, TwoSyncs, CallBetween, ChildNotEntered}
+use Rattle.spp_maxplus.specs.declared.state.Burdens.{Burdens}
+use Rattle.spp_dag.specs.Dag.{IsPath}
+use Rattle.spp_dag.specs.WorkedRows.{Under, Answer, IsUnder, IsWorked, both, Empty, LargeStrands, OneChild, EqualWays, EmptyChild, EqualChildren, NoSync, RecursiveCalls, RecursiveRoot, NestedChildren, TwoSyncs, CallBetween, ChildNotEntered}
 use Rattle.spp_dag.proofs.Ties.{path_unique}
 use Rattle.spp_dag.proofs.Profiles.{greatest_one, rows_one}
 use Rattle.spp_dag.proofs.Listing.{path, span, span_of, greatest_walk, listed_span, listed_spans, listed_path}
@@ -36,15 +38,25 @@ good_from rs (suc n) e i l =
     none_is None h = refl
     none_is (Some w) h = cc
 
--- what the list of all walks gives
+-- what the list of all walks gives, for these burdens and without any
+abbrev answer_under : ℕ → List Event → Burdens → Under
+answer_under root es b = record {
+  span = span es b;
+  path = path es b;
+  root = row es root (span_of es) (contains (path es b)) None;
+  site = row es root (span_of es) (contains (path es b)) (Some 0);
+}
+
 abbrev answer : ℕ → List Event → Answer
 answer root es =
     let spans : ℕ → ℕ = span_of es in
-    let ps : List ℕ = path es in
+    let ps : List ℕ = path es unburdened in
     record {
       work = nesting.work (records es);
       span = span es unburdened;
-      burdened = (span es (both 3 3), span es (both 5 0), span es (both 0 5));
+      equal = answer_under root es (both 3 3);
+      on_continuation = answer_under root es (both 3 0);
+      on_return = answer_under root es (both 0 3);
       path = ps;
       dag_root = row es root spans everywhere None;
       dag_site = row es root spans everywhere (Some 0);
@@ -52,15 +64,29 @@ answer root es =
       path_site = row es root spans (contains ps) (Some 0);
     }
 
+-- the path is the one that the list gives
+same_path : (es : List Event) → IsWellFormed es → (b : Burdens) (rest : List ℕ) → IsPath es b 0 (length es) rest → rest ≡ (greatest_walk es b 0 (length es)).0
+same_path es wf b rest p = path_unique es b 0 (length es) rest (greatest_walk es b 0 (length es)).0 p (listed_path es wf b)
+
+answered_under : (root : ℕ) (es : List Event) → IsWellFormed es → (b : Burdens) → IsUnder root es b (answer_under root es b)
+answered_under root es wf b = record {
+  span = listed_span es wf b;
+  path = λ rest p. ap (λ l. 0 ∷ l) (same_path es wf b rest p);
+  profile = λ p h.
+      let on = λ (key : Option ℕ). h.burdened_path key ∙ (rows_one es root (contains (0 ∷ h.burdened_rest)) h.spans (span_of es) key h.are_spans (listed_spans es wf)
+      ∙ ap (λ ps. row es root (span_of es) (contains (0 ∷ ps)) key) (same_path es wf b h.burdened_rest h.is_burdened_path)) in
+      (greatest_one es b 0 (length es) p.burdened_span (span es b) h.burdened_span (listed_span es wf b), on None, on (Some 0));
+}
+
 answered : (root : ℕ) (es : List Event) → IsWellFormed es → IsWorked root es (answer root es)
 answered root es wf = record {
   well_formed = wf;
-  burdened = listed_span es wf (both 3 3);
-  on_continuation = listed_span es wf (both 5 0);
-  on_return = listed_span es wf (both 0 5);
-  path = λ rest p. ap (λ l. 0 ∷ l) (path_unique es unburdened 0 (length es) rest (greatest_walk es unburdened 0 (length es)).0 p (listed_path es wf));
+  equal = answered_under root es wf (both 3 3);
+  on_continuation = answered_under root es wf (both 3 0);
+  on_return = answered_under root es wf (both 0 3);
+  path = λ rest p. ap (λ l. 0 ∷ l) (same_path es wf unburdened rest p);
   profile = λ burdens p h.
-      let same = path_unique es unburdened 0 (length es) h.rest (greatest_walk es unburdened 0 (length es)).0 h.is_path (listed_path es wf) in
+      let same = same_path es wf unburdened h.rest h.is_path in
       let dag = λ (key : Option ℕ). h.dag key ∙ rows_one es root everywhere h.spans (span_of es) key h.are_spans (listed_spans es wf) in
       let on = λ (key : Option ℕ). h.path key ∙ (rows_one es root (contains (0 ∷ h.rest)) h.spans (span_of es) key h.are_spans (listed_spans es wf) ∙ ap (λ ps. row es root (span_of es) (contains (0 ∷ ps)) key) same) in (
         h.work,

@@ -1,6 +1,7 @@
 -- The choices of a run, and those of a range of its positions, as lists.
 use Rattle.std.specs.Prelude.{◌≡◌, ℕ, ◌≤◌, ◌<◌, ◌↔◌, true, List, [], ◌∷◌, length, map, Contains}
 use Rattle.spp_event.specs.declared.records.Event.{Event}
+use Rattle.spp_maxplus.specs.declared.state.Burdens.{Burdens}
 use Rattle.spp_maxplus.specs.State.{unburdened}
 use Rattle.spp_dag.specs.Trace.{event_at, spawns, partner}
 use Rattle.spp_dag.specs.Choices as choices
@@ -19,15 +20,24 @@ abbrev pub IsEnd : List Event → End → Type 0
 IsEnd es e = (spawns (event_at es e.spawn) ≡ true) × (partner es e.spawn ≡ e.at)
 
 -- some child joins there, and the path through its parent to there comes from the child that is taken, or from none
-abbrev pub IsJoin : List Event → Choice → Type 0
-IsJoin es j = (j.at ≤ length es) × choices.HasChoice es j.at × choices.IsChoice es unburdened j.at j.taken
+abbrev pub IsJoin : List Event → Burdens → Choice → Type 0
+IsJoin es burdens j = (j.at ≤ length es) × choices.HasChoice es j.at × choices.IsChoice es burdens j.at j.taken
 
--- all ends and all joins, each once and in order
-pub record AreChoices (es : List Event) (c : Choices) : Type 0 where
-  pub ends_rise : AreRising (map (λ e. e.at) c.ends.items)
-  pub ends : (e : End) → Contains c.ends.items e ↔ IsEnd es e
-  pub joins_rise : AreRising (map (λ j. j.at) c.joins.items)
-  pub joins : (j : Choice) → Contains c.joins.items j ↔ IsJoin es j
+-- all ends, each once and in order
+pub record AreEnds (es : List Event) (ends : List End) : Type 0 where
+  pub rise : AreRising (map (λ e. e.at) ends)
+  pub are : (e : End) → Contains ends e ↔ IsEnd es e
+
+-- all joins, each once and in order
+pub record AreJoins (es : List Event) (burdens : Burdens) (joins : List Choice) : Type 0 where
+  pub rise : AreRising (map (λ j. j.at) joins)
+  pub are : (j : Choice) → Contains joins j ↔ IsJoin es burdens j
+
+-- the choices of both paths: without burdens, and under these
+pub record AreChoices (es : List Event) (burdens : Burdens) (c : Choices) : Type 0 where
+  pub ends : AreEnds es c.ends.items
+  pub joins : AreJoins es unburdened c.joins.items
+  pub burdened_joins : AreJoins es burdens c.burdened_joins.items
 
 -- ---- of a range of positions
 
@@ -35,9 +45,18 @@ pub record AreChoices (es : List Event) (c : Choices) : Type 0 where
 abbrev pub IsWithin : ℕ → ℕ → ℕ → Type 0
 IsWithin from end at = (from ≤ at) × (at < end)
 
--- all ends and all joins at positions of the range, each once and in order
-pub record AreChoicesIn (es : List Event) (from end : ℕ) (c : Choices) : Type 0 where
-  pub ends_rise : AreRising (map (λ e. e.at) c.ends.items)
-  pub ends : (e : End) → Contains c.ends.items e ↔ (IsEnd es e × IsWithin from end e.at)
-  pub joins_rise : AreRising (map (λ j. j.at) c.joins.items)
-  pub joins : (j : Choice) → Contains c.joins.items j ↔ (IsJoin es j × IsWithin from end j.at)
+-- all ends at positions of the range, each once and in order
+pub record AreEndsIn (es : List Event) (from end : ℕ) (ends : List End) : Type 0 where
+  pub rise : AreRising (map (λ e. e.at) ends)
+  pub are : (e : End) → Contains ends e ↔ (IsEnd es e × IsWithin from end e.at)
+
+-- all joins at positions of the range, each once and in order
+pub record AreJoinsIn (es : List Event) (burdens : Burdens) (from end : ℕ) (joins : List Choice) : Type 0 where
+  pub rise : AreRising (map (λ j. j.at) joins)
+  pub are : (j : Choice) → Contains joins j ↔ (IsJoin es burdens j × IsWithin from end j.at)
+
+-- the choices of both paths at positions of the range: without burdens, and under these
+pub record AreChoicesIn (es : List Event) (burdens : Burdens) (from end : ℕ) (c : Choices) : Type 0 where
+  pub ends : AreEndsIn es from end c.ends.items
+  pub joins : AreJoinsIn es unburdened from end c.joins.items
+  pub burdened_joins : AreJoinsIn es burdens from end c.burdened_joins.items

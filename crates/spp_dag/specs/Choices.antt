@@ -32,13 +32,14 @@ entry_frame es root f = record {
   func = f.func;
   before = nesting.work (take (first_of f.kind f.at) (records es));
   state = f.plain;
+  burdened = f.burdened;
   top_site = is_top_site es (first_of f.kind f.at);
   top_caller = is_top_caller es root (first_of f.kind f.at);
 }
 
 -- before the event at i these frames are open, the innermost first, and this is the work so far
-abbrev pub IsEntry : List Event → ℕ → ℕ → List EntryFrame → ℕ → Type 0
-IsEntry es root i frames work = (fs : List OpenFrame) × (run unburdened 0 (take i es) (root_frame root ∷ []) ≡ Some fs)
+abbrev pub IsEntry : List Event → Burdens → ℕ → ℕ → List EntryFrame → ℕ → Type 0
+IsEntry es burdens root i frames work = (fs : List OpenFrame) × (run burdens 0 (take i es) (root_frame root ∷ []) ≡ Some fs)
     × (frames ≡ map (entry_frame es root) fs) × (work ≡ nesting.work (take i (records es)))
 
 -- ---- choices
@@ -63,11 +64,11 @@ IsRunning es ps f i = On 0 ps f
 
 -- ---- their laws
 
--- a well-formed trace has one entry at each position
+-- a well-formed trace has one entry at each position, for given burdens
 abbrev pub EntryIsOne : Type 0
-EntryIsOne = (es : List Event) → IsWellFormed es → (root i : ℕ) → i ≤ length es
-    → ((frames : List EntryFrame) × (work : ℕ) × IsEntry es root i frames work)
-    × ((fs gs : List EntryFrame) (v w : ℕ) → IsEntry es root i fs v → IsEntry es root i gs w → (fs ≡ gs) × (v ≡ w))
+EntryIsOne = (es : List Event) → IsWellFormed es → (burdens : Burdens) (root i : ℕ) → i ≤ length es
+    → ((frames : List EntryFrame) × (work : ℕ) × IsEntry es burdens root i frames work)
+    × ((fs gs : List EntryFrame) (v w : ℕ) → IsEntry es burdens root i fs v → IsEntry es burdens root i gs w → (fs ≡ gs) × (v ≡ w))
 
 -- where no frame waits, an event is on the path exactly where its frame runs on there
 abbrev pub RunningPasses : Type 0

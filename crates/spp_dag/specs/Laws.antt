@@ -206,4 +206,4 @@ HasProfile = (es : List Event) → IsWellFormed es → (root : ℕ) (burdens : B
 abbrev pub ProfileIsOne : Type 0
 ProfileIsOne = (es : List Event) (root : ℕ) (burdens : Burdens) (p q : Profile) → IsProfile es root burdens p → IsProfile es root burdens q
     → (p.work ≡ q.work) × (p.span ≡ q.span) × (p.burdened_span ≡ q.burdened_span)
-    × ((key : Option ℕ) → (p.dag key ≡ q.dag key) × (p.path key ≡ q.path key))
+    × ((key : Option ℕ) → (p.dag key ≡ q.dag key) × (p.path key ≡ q.path key) × (p.burdened_path key ≡ q.burdened_path key))

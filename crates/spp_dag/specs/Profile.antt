@@ -1,5 +1,5 @@
--- What the profile of a run says: work and spans, and a row for the root and for each site, on the whole dag and
--- on the path.
+-- What the profile of a run says: work and spans, and a row for the root and for each site, on the whole dag, on the
+-- path, and on the path that is greatest under the burdens.
 use Rattle.std.specs.Prelude.{◌≡◌, ℕ, List, ◌∷◌, length, Option}
 use Rattle.spp_event.specs.declared.records.Event.{Event}
 use Rattle.spp_maxplus.specs.declared.state.Burdens.{Burdens}
@@ -17,6 +17,7 @@ pub record Profile : Type 0 where
   pub burdened_span : ℕ
   pub dag : Option ℕ → Row
   pub path : Option ℕ → Row
+  pub burdened_path : Option ℕ → Row
 
 -- the profile that the dag of a well-formed trace defines; `root` is the function of the root frame
 pub record IsProfile (es : List Event) (root : ℕ) (burdens : Burdens) (p : Profile) : Type 0 where
@@ -30,3 +31,6 @@ pub record IsProfile (es : List Event) (root : ℕ) (burdens : Burdens) (p : Pro
   pub is_path : IsPath es unburdened 0 (length es) rest
   pub dag : (key : Option ℕ) → p.dag key ≡ row es root spans everywhere key
   pub path : (key : Option ℕ) → p.path key ≡ row es root spans (contains (0 ∷ rest)) key
+  pub burdened_rest : List ℕ
+  pub is_burdened_path : IsPath es burdens 0 (length es) burdened_rest
+  pub burdened_path : (key : Option ℕ) → p.burdened_path key ≡ row es root spans (contains (0 ∷ burdened_rest)) key

@@ -3,6 +3,7 @@
 use Rattle.std.specs.Prelude.{◌≡◌, ℕ, suc, ◌+◌, ◌-◌, Bool, true, false, cond, not, ◌&&◌, ◌||◌, nat_eq, List, [], ◌∷◌, Option, Some, None}
 use Rattle.spp_event.specs.declared.records.Event.{Event}
 use Rattle.spp_event.specs.declared.records.Event.TheVariants.{Strand, Call, Spawn, Ret, Sync}
+use Rattle.spp_maxplus.specs.declared.state.Burdens.{Burdens}
 use Rattle.spp_maxplus.specs.State.{unburdened, start, close, after_strand, after_sync}
 use Rattle.spp_dag.specs.declared.row.Row.{Row}
 use Rattle.spp_dag.specs.declared.stack.EntryFrame.{EntryFrame}
@@ -50,19 +51,35 @@ opened kind i site func work f fs = record {
   func = func;
   before = work;
   state = start;
+  burdened = start;
   top_site = not (has_site (f ∷ fs) site);
   top_caller = not (has_func fs f.func);
 }
 
+-- the frame, after a strand in it
+abbrev pub stranded : ℕ → EntryFrame → EntryFrame
+stranded count f = record f { state = after_strand count f.state; burdened = after_strand count f.burdened }
+
+-- the frame, after a sync
+abbrev pub waited : EntryFrame → EntryFrame
+waited f = record f { state = after_sync f.state; burdened = after_sync f.burdened }
+
+-- the frame g, after the return of the frame f that it opened
+abbrev pub returned : Burdens → EntryFrame → EntryFrame → EntryFrame
+returned burdens f g = record g {
+  state = after_child unburdened f.kind f.at (close f.state) g.state;
+  burdened = after_child burdens f.kind f.at (close f.burdened) g.burdened;
+}
+
 -- what the event at i makes of the open frames, innermost first; a return of the last one makes none
-abbrev pub entry_after : ℕ → Event → ℕ → List EntryFrame → List EntryFrame
-entry_after i e work [] = []
-entry_after i (Strand count) work (f ∷ fs) = record f { state = after_strand count f.state } ∷ fs
-entry_after i (Call site func) work (f ∷ fs) = opened Called i site func work f fs ∷ f ∷ fs
-entry_after i (Spawn site func) work (f ∷ fs) = opened Spawned i site func work f fs ∷ f ∷ fs
-entry_after i Sync work (f ∷ fs) = record f { state = after_sync f.state } ∷ fs
-entry_after i Ret work (f ∷ []) = []
-entry_after i Ret work (f ∷ g ∷ fs) = record g { state = after_child unburdened f.kind f.at (close f.state) g.state } ∷ fs
+abbrev pub entry_after : Burdens → ℕ → Event → ℕ → List EntryFrame → List EntryFrame
+entry_after burdens i e work [] = []
+entry_after burdens i (Strand count) work (f ∷ fs) = stranded count f ∷ fs
+entry_after burdens i (Call site func) work (f ∷ fs) = opened Called i site func work f fs ∷ f ∷ fs
+entry_after burdens i (Spawn site func) work (f ∷ fs) = opened Spawned i site func work f fs ∷ f ∷ fs
+entry_after burdens i Sync work (f ∷ fs) = waited f ∷ fs
+entry_after burdens i Ret work (f ∷ []) = []
+entry_after burdens i Ret work (f ∷ g ∷ fs) = returned burdens f g ∷ fs
 
 -- what a frame's close adds besides its strands, where `work` is the work so far
 abbrev pub closed_row : EntryFrame → ℕ → Row
@@ -91,12 +108,12 @@ gain on key i e f work = zero_row
 
 -- an event makes the entry of its position that of the next
 abbrev pub EntryFollows : Type 0
-EntryFollows = (es : List Event) → IsWellFormed es → (root i : ℕ) (e : Event) → event_at es i ≡ Some e
-    → (fs : List EntryFrame) (work : ℕ) → IsEntry es root i fs work
-    → IsEntry es root (suc i) (entry_after i e work fs) (work + weight es i)
+EntryFollows = (es : List Event) → IsWellFormed es → (burdens : Burdens) (root i : ℕ) (e : Event) → event_at es i ≡ Some e
+    → (fs : List EntryFrame) (work : ℕ) → IsEntry es burdens root i fs work
+    → IsEntry es burdens root (suc i) (entry_after burdens i e work fs) (work + weight es i)
 
 -- and adds to each row its gain
 abbrev pub ShareFollows : Type 0
-ShareFollows = (es : List Event) → IsWellFormed es → (root : ℕ) (span : ℕ → ℕ) → AreSpans es span → (on : ℕ → Bool) (key : Option ℕ)
-    → (i : ℕ) (e : Event) → event_at es i ≡ Some e → (f : EntryFrame) (fs : List EntryFrame) (work : ℕ) → IsEntry es root i (f ∷ fs) work
+ShareFollows = (es : List Event) → IsWellFormed es → (burdens : Burdens) (root : ℕ) (span : ℕ → ℕ) → AreSpans es span → (on : ℕ → Bool) (key : Option ℕ)
+    → (i : ℕ) (e : Event) → event_at es i ≡ Some e → (f : EntryFrame) (fs : List EntryFrame) (work : ℕ) → IsEntry es burdens root i (f ∷ fs) work
     → share es root span on key i (suc i) ≡ gain on key i e f work

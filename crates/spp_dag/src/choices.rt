@@ -1,4 +1,4 @@
-//! What the stack machine notes of a run on its way, from which the path is settled.
+//! What the stack machine notes of a run on its way, from which its paths are settled.
 
 /// The return of a spawned child.
 #[derive(Clone, Copy, Debug, PartialEq, Eq)]
@@ -19,11 +19,14 @@ pub struct Choice {
     pub taken: Option<u32>,
 }
 
-/// The choices of a run, or of a part of it: what decides which children its path enters.
+/// The choices of a run, or of a part of it: what decides which children its paths enter, the one without burdens and
+/// the one under the burdens.
 #[derive(Debug, Drop)]
 pub struct Choices {
     /// The returns of all spawned children, in order.
     pub ends: Vec<End>,
     /// What the path comes from at each place where a child joins, in order.
     pub joins: Vec<Choice>,
+    /// The same of the path that is greatest under the burdens, at the same places.
+    pub burdened_joins: Vec<Choice>,
 }

@@ -1,5 +1,5 @@
-//! The dag of a recorded run: what spans, the path and rows by call site mean, and the laws that make two numbers for
-//! each open frame enough to find the spans and the path.
+//! The dag of a recorded run: what spans, paths and rows by call site mean, and the laws that make two numbers for each
+//! open frame enough to find the spans and the paths.
 #![tactic(auto)]
 
 mod choices;

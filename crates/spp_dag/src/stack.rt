@@ -45,6 +45,8 @@ pub struct EntryFrame {
     pub before: u128,
     /// What is known of its weights without burdens.
     pub state: State,
+    /// What is known of its weights with the burdens.
+    pub burdened: State,
     /// No frame of the same site encloses it.
     pub top_site: bool,
     /// Its caller is enclosed by no frame of the caller's function.

@@ -1,1 +1,2 @@
 pub mod SegLaws
+pub mod WeightsOf

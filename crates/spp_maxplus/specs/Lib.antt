@@ -1,3 +1,4 @@
 pub mod Candidate
 pub mod State
 pub mod Seg
+pub mod Weights

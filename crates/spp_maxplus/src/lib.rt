@@ -7,8 +7,10 @@ mod child;
 mod laws;
 mod seg;
 mod state;
+mod weights;
 
 pub use child::ChildKind;
 pub use laws::seg_laws;
 pub use seg::Seg;
 pub use state::{Burdens, State};
+pub use weights::Weights;

@@ -49,7 +49,7 @@ accounts_all b ps i xs some le so_far =
 
 -- parts that cover the records from a position on have their accounts
 pub cover_accounts : (t : Recording) (b : Burdens) (number from : ℕ) (ps : List PartOf) → Cover t number from ps (length t.records)
-    → AreAccounts from (drop from t.records) (map (account_in b) ps)
+    → AreAccounts b from (drop from t.records) (map (account_in b) ps)
 cover_accounts t b number from [] h = drop_all from t.records (let e : from ≡ length t.records = h in omega arith)
 cover_accounts t b number from (p ∷ ps) h =
     let rs = drop from t.records in
@@ -59,17 +59,17 @@ cover_accounts t b number from (p ∷ ps) h =
     let count : length (records_in p) ≡ p.count = ap length same ∙ long in
     let next : from + p.count ≡ from + length (records_in p) = omega arith in (
       ap (λ n. account_of b n (records_in p)) h.2 ∙ ap (account_of b from) (same ∙ ap (λ n. take n rs) (sym count)),
-      subst (λ l. AreAccounts (from + length (records_in p)) l (map (account_in b) ps)) (sym (drop-drop (length (records_in p)) from t.records))
-          (subst (λ n. AreAccounts n (drop n t.records) (map (account_in b) ps)) next (cover_accounts t b (suc number) (from + p.count) ps h.3)),
+      subst (λ l. AreAccounts b (from + length (records_in p)) l (map (account_in b) ps)) (sym (drop-drop (length (records_in p)) from t.records))
+          (subst (λ n. AreAccounts b n (drop n t.records) (map (account_in b) ps)) next (cover_accounts t b (suc number) (from + p.count) ps h.3)),
     )
 
 -- the accounts of all parts are those of a well-formed trace
 pub are_of_parts : (t : Recording) (b : Burdens) (ps : List PartOf) (xs : List Account) (es : List Event) → Cover t 0 0 ps (length t.records)
-    → xs ≡ map (account_in b) ps → nesting.IsWellFormed t.records → t.records ≡ records es → IsSmall es → AreOfParts es xs
+    → xs ≡ map (account_in b) ps → nesting.IsWellFormed t.records → t.records ≡ records es → IsSmall es → AreOfParts es b xs
 are_of_parts t b ps xs es cover is wf events small = record {
   well_formed = subst (λ rs. nesting.IsWellFormed rs) events wf;
   small = small;
-  are = subst (λ rs. AreAccounts 0 rs xs) events (subst (λ l. AreAccounts 0 t.records l) (sym is) (cover_accounts t b 0 0 ps cover));
+  are = subst (λ rs. AreAccounts b 0 rs xs) events (subst (λ l. AreAccounts b 0 t.records l) (sym is) (cover_accounts t b 0 0 ps cover));
 }
 
 -- each has the burdens

@@ -18,7 +18,7 @@ use Rattle.spp_stack.specs.Chain.{Stacks, StackOf, IsStart, HasFrames}
 use Rattle.spp_stack.specs.Parts.{begin_of, AreOfParts, IsEntryAt, IsEntryOf, AreEntriesOf}
 use Rattle.spp_pass.specs.Outside.{StandsAt}
 use Rattle.spp_parts.proofs.Accounts.{account_in, are_of_parts}
-use Rattle.spp_parts.proofs.Known.{known_small}
+use Rattle.spp_dag.proofs.EventsOfRecords.{known_small}
 use Rattle.spp_parts.proofs.Begins.{begin_in, PartAt, part_at, all_parts, begin_is}
 
 -- a part of a cut
@@ -32,13 +32,13 @@ part_of_cut cut whole k p is =
 -- ---- where the stacks are told by the accounts of the parts
 
 -- the accounts are those of the parts of these events
-pub record OfCut (cut : CutOf) (accounts : List Account) : Type 0 where
+pub record OfCut (cut : CutOf) (burdens : Burdens) (accounts : List Account) : Type 0 where
   pub events : List Event
   pub are_events : AreEvents cut.trace.records events
-  pub are : AreOfParts events accounts
+  pub are : AreOfParts events burdens accounts
 
 pub of_cut : (cut : CutOf) (u : Recording) (b : Burdens) (accounts : List Account) → IsCut cut → accounts ≡ map (account_in b) cut.parts → nesting.IsWellFormed cut.trace.records
-    → u ≡ cut.trace → length u.records ≤ 2 ^ 28 → AreEventsOf (length u.sites) (length u.funcs) u.records → OfCut cut accounts
+    → u ≡ cut.trace → length u.records ≤ 2 ^ 28 → AreEventsOf (length u.sites) (length u.funcs) u.records → OfCut cut b accounts
 of_cut cut u b accounts whole are_of wf same few good =
     let all = well_formed_are_events cut.trace.records wf in
     let small = known_small u.records (length u.sites) (length u.funcs) all.0 few (ap (λ (v : Recording). v.records) same ∙ all.1) good in
@@ -49,29 +49,29 @@ of_cut cut u b accounts whole are_of wf same few good =
     }
 
 module _ (cut : CutOf) (whole : IsCut cut) (b : Burdens) (accounts : List Account) (are_of : accounts ≡ map (account_in b) cut.parts) (es : List Event) (are : AreEvents cut.trace.records es) (s : Stacks)
-    (told : (k : ℕ) → k ≤ length accounts → IsEntryOf es cut.trace.root accounts s k) where
+    (told : (k : ℕ) → k ≤ length accounts → IsEntryOf es b cut.trace.root accounts s k) where
   long : length accounts ≡ length cut.parts
   long = ap (λ (l : List Account). length l) are_of ∙ length-map cut.parts (account_in b)
 
   begin : (k : ℕ) → begin_of accounts k ≡ begin_in cut.parts k
   begin k = ap (λ (l : List Account). begin_of l k) are_of ∙ begin_is cut.trace b 0 0 cut.parts whole k
 
-  entry_of : (k : ℕ) (p : PartOf) → slice_get cut.parts k ≡ Some p → IsEntryAt es cut.trace.root s k p.first
+  entry_of : (k : ℕ) (p : PartOf) → slice_get cut.parts k ≡ Some p → IsEntryAt es b cut.trace.root s k p.first
   entry_of k p is =
       let lt = slice_get_within cut.parts k p is in
       let at = part_of_cut cut whole k p is in
       let first = at.first in
       let here : begin_of accounts k ≡ p.first = begin k ∙ (let z : begin_in cut.parts k ≡ p.first = omega arith in z) in
-      subst (λ n. IsEntryAt es cut.trace.root s k n) here (told k (omega (arith, long)))
+      subst (λ n. IsEntryAt es b cut.trace.root s k n) here (told k (omega (arith, long)))
 
-  entry_of_end : IsEntryAt es cut.trace.root s (length cut.parts) (length es)
+  entry_of_end : IsEntryAt es b cut.trace.root s (length cut.parts) (length es)
   entry_of_end =
       let all = all_parts cut.trace 0 0 (length cut.trace.records) cut.parts whole in
       let last : length cut.trace.records ≡ length es = ap (λ (l : List Record). length l) are ∙ length-map es (λ e. Ok e) in
       let here : begin_of accounts (length cut.parts) ≡ length es = begin (length cut.parts) ∙ (let z : begin_in cut.parts (length cut.parts) ≡ length es = omega arith in z) in
-      subst (λ n. IsEntryAt es cut.trace.root s (length cut.parts) n) here (told (length cut.parts) (omega (arith, long)))
+      subst (λ n. IsEntryAt es b cut.trace.root s (length cut.parts) n) here (told (length cut.parts) (omega (arith, long)))
 
-  pub are_entries : IsWellFormed es → length s.starts ≡ length accounts + 1 → AreEntriesOf cut s
+  pub are_entries : IsWellFormed es → length s.starts ≡ length accounts + 1 → AreEntriesOf cut b s
   are_entries wf count = record {
     events = es;
     are_events = are;
@@ -88,23 +88,23 @@ both_ok (Err e) f p q = tt
 
 -- ---- what they are for
 
-module _ (cut : CutOf) (s : Stacks) (e : AreEntriesOf cut s) (k : ℕ) (p : PartOf) (is : slice_get cut.parts k ≡ Some p) (stack : StackOf)
+module _ (cut : CutOf) (b : Burdens) (s : Stacks) (e : AreEntriesOf cut b s) (k : ℕ) (p : PartOf) (is : slice_get cut.parts k ≡ Some p) (stack : StackOf)
     (starts : (at : ℕ) (fs : List EntryFrame) (work : ℕ) → IsStart s k at fs work → HasFrames stack fs × (stack.at ≡ at) × (stack.work ≡ work)) where
   -- a pass over part k can begin with start k
-  pub entry_stands : IsCut cut → StandsAt p.trace p.first stack
+  pub entry_stands : IsCut cut → StandsAt p.trace b p.first stack
   entry_stands whole =
       let at = part_of_cut cut whole k p is in
-      let b = e.begins k p is in
-      let is_start = starts p.first b.frames b.work b.start in
-      subst (λ (u : Recording). StandsAt u p.first stack) (sym at.trace) (
+      let at_k = e.begins k p is in
+      let is_start = starts p.first at_k.frames at_k.work at_k.start in
+      subst (λ (u : Recording). StandsAt u b p.first stack) (sym at.trace) (
         e.events,
         e.are_events,
         e.well_formed,
-        (b.frames, subst (λ w. IsEntry e.events cut.trace.root p.first b.frames w) (sym is_start.2) b.is, is_start.0),
+        (at_k.frames, subst (λ w. IsEntry e.events b cut.trace.root p.first at_k.frames w) (sym is_start.2) at_k.is, is_start.0),
       )
 
   -- whose position is that of the part's first event
   pub entry_begins : stack.at ≡ p.first
   entry_begins =
-      let b = e.begins k p is in
-      (starts p.first b.frames b.work b.start).1
+      let at_k = e.begins k p is in
+      (starts p.first at_k.frames at_k.work at_k.start).1

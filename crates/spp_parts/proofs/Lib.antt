@@ -1,4 +1,3 @@
-mod Known
 mod Accounts
 mod Begins
 pub mod Entries

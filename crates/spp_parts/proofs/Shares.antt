@@ -61,8 +61,8 @@ pub rows_none : (t : Recording) (n : ℕ) → n ≡ 0 → AreRowsTo t n empty
 rows_none t n z es are wf key =
     empty_rows key ∙ sym (share_none es wf t.root (spans_of es) (are_spans es wf) 0 key) ∙ ap (λ k. share es t.root (spans_of es) everywhere key 0 k) (sym z)
 
-module _ (t : Recording) (from to : ℕ) (rises : from ≤ to) (dag part : Sums) (c : Choices) (rows : AreRowsTo t from dag)
-    (is : (es : List Event) → AreEvents t.records es → IsPartOf es t.root from to part c) where
+module _ (t : Recording) (from to : ℕ) (rises : from ≤ to) (dag part : Sums) (b : Burdens) (c : Choices) (rows : AreRowsTo t from dag)
+    (is : (es : List Event) → AreEvents t.records es → IsPartOf es b t.root from to part c) where
   both_rows : (es : List Event) → AreEvents t.records es → IsWellFormed es → (key : Option ℕ)
       → plus (key_row dag key) (key_row part key) ≡ share es t.root (spans_of es) everywhere key 0 to
   both_rows es are wf key =
@@ -129,17 +129,17 @@ module _ (t : Recording) (ps : List PartOf) (k : ℕ) (p : PartOf) (at : PartAt 
       let m = at.next in
       omega arith
 
-  pub told_part : (part : Sums) (c : Choices) → ((es : List Event) → AreEvents p.trace.records es → IsPartOf es p.trace.root p.first (p.first + p.count) part c)
-      → (es : List Event) → AreEvents t.records es → IsPartOf es t.root (begin_in ps k) (begin_in ps (k + 1)) part c
-  told_part part c told es are =
+  pub told_part : (part : Sums) (b : Burdens) (c : Choices) → ((es : List Event) → AreEvents p.trace.records es → IsPartOf es b p.trace.root p.first (p.first + p.count) part c)
+      → (es : List Event) → AreEvents t.records es → IsPartOf es b t.root (begin_in ps k) (begin_in ps (k + 1)) part c
+  told_part part b c told es are =
       let n : begin_in ps (k + 1) ≡ begin_in ps (suc k) = ap (λ j. begin_in ps j) (let z : k + 1 ≡ suc k = omega arith in z) in
       let m = at.next in
       let f = at.first in
       let first : p.first ≡ begin_in ps k = omega arith in
       let last : p.first + p.count ≡ begin_in ps (k + 1) = omega arith in
-      subst (λ e. IsPartOf es t.root (begin_in ps k) e part c) last
-      (subst (λ b. IsPartOf es t.root b (p.first + p.count) part c) first
-      (subst (λ (u : Recording). IsPartOf es u.root p.first (p.first + p.count) part c) at.trace
+      subst (λ e. IsPartOf es b t.root (begin_in ps k) e part c) last
+      (subst (λ n. IsPartOf es b t.root n (p.first + p.count) part c) first
+      (subst (λ (u : Recording). IsPartOf es b u.root p.first (p.first + p.count) part c) at.trace
       (told es (subst (λ (u : Recording). AreEvents u.records es) (sym at.trace) are))))
 
 pub all_begun : (t : Recording) (ps read : List PartOf) (k : ℕ) → Cover t 0 0 ps (length t.records) → read ≡ ps → k ≡ length read → begin_in ps k ≡ length t.records

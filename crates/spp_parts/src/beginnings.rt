@@ -1,10 +1,9 @@
 //! The open frames where the parts of a cut begin.
 
-ghost use Rattle.std.specs.Prelude.{◌≡◌, ℕ, ◌+◌, ◌≤◌, length, map, IfOk};
-ghost use Rattle.spp_cut.specs.Parts.{records_in};
+ghost use Rattle.std.specs.Prelude.{◌+◌, ◌≤◌, length, IfOk};
 ghost use Rattle.spp_frame.specs.Nesting.{IsWellFormed};
 ghost use Rattle.spp_maxplus.specs.declared.state.Burdens.{Burdens};
-ghost use Rattle.spp_piece.specs.Account.{account_of};
+ghost use Rattle.spp_parts.specs.Summaries.{AreSummariesOf};
 ghost use Rattle.spp_stack.specs.Parts.{AreEntriesOf, open_count};
 
 use spp_cut::Cut;
@@ -21,8 +20,8 @@ use std::alloc::{AllocError, Global};
 /// Where a growth was refused.
 pub fn entries_of(alloc: Global, cut: &Cut<'_, '_>, each: &[Summary]) -> Result<Entries, AllocError>
     requires well_formed { IsWellFormed cut.now.trace.records }
-    requires each { (burdens : Burdens) × (each.now ≡ map (λ p. account_of burdens p.first (records_in p)) cut.now.parts) }
-    ensures entries { IfOk result (λ r. AreEntriesOf cut.now r) }
+    requires each { (burdens : Burdens) × AreSummariesOf cut.now burdens each.now }
+    ensures entries { IfOk result (λ r. (burdens : Burdens) → AreSummariesOf cut.now burdens each.now → AreEntriesOf cut.now burdens r) }
     ensures nodes { IfOk result (λ r. length r.nodes ≤ 1 + length cut.now.parts + open_count each.now) }
 {
     // For what they state: the limits, and that the parts hold all events.

@@ -13,7 +13,7 @@ pub struct Survey {
     pub whole: Figures,
 }
 
-/// The rows of a run by call site on its whole dag, and the choices in its parts. Those settle the run's path together
+/// The rows of a run by call site on its whole dag, and the choices in its parts. Those settle the run's paths together
 /// with what the root frame waits for at the end of the trace, which is in no part.
 #[derive(Drop)]
 pub struct Tabled {

@@ -1,6 +1,6 @@
 //! The first round: what each part does to the open frames, and what the run comes to.
 
-ghost use Rattle.std.specs.Prelude.{◌≡◌, ◌<◌, ◌≤◌, ◌^◌, ◌++◌, ◌∷◌, [], List, length, map, IfOk, IfErr, OnOk};
+ghost use Rattle.std.specs.Prelude.{◌≡◌, ◌<◌, ◌≤◌, ◌^◌, ◌++◌, ◌∷◌, [], List, length, IfOk, IfErr, OnOk};
 ghost use Rattle.std.specs.List.{All};
 ghost use Rattle.spp_cut.specs.Parts.{records_in};
 ghost use Rattle.spp_piece.specs.Account.{account_of};
@@ -8,6 +8,7 @@ ghost use Rattle.spp_event.specs.declared.records.Event.{Event as EventValue};
 ghost use Rattle.spp_frame.specs.Nesting.{AreEvents};
 ghost use Rattle.spp_frame.specs.Answers.{IsFaultOf};
 ghost use Rattle.spp_dag.specs.Figures.{AreFigures};
+ghost use Rattle.spp_parts.specs.Summaries.{AreSummariesOf};
 ghost use Rattle.spp_stack.specs.Parts.{AreOfParts};
 
 use crate::results::Survey;
@@ -46,8 +47,8 @@ pub fn survey(alloc: Global, cut: &Cut<'_, '_>, burdens: Burdens) -> Result<Surv
     ensures count { IfOk result (λ s. length s.each.items ≡ length cut.now.parts) }
     ensures few { IfOk result (λ s. length s.each.items ≤ 65536) }
     ensures burdens { IfOk result (λ s. All (λ a. a.burdens ≡ burdens) s.each.items) }
-    ensures each { IfOk result (λ s. s.each.items ≡ map (λ p. account_of burdens p.first (records_in p)) cut.now.parts) }
-    ensures parts { IfOk result (λ s. (es : List EventValue) → AreEvents cut.now.trace.records es → AreOfParts es s.each.items) }
+    ensures each { IfOk result (λ s. AreSummariesOf cut.now burdens s.each.items) }
+    ensures parts { IfOk result (λ s. (es : List EventValue) → AreEvents cut.now.trace.records es → AreOfParts es burdens s.each.items) }
     ensures fault { IfErr result (λ f. IsFaultOf cut.now.trace.records f) }
 {
     cut.trace().keeps_limits();

@@ -1,4 +1,4 @@
--- What a pass without burdens has before any event of a well-formed trace, and what a pass has that begins there.
+-- What a pass has before any event of a well-formed trace, and what a pass has that begins there.
 use Rattle.std.proofs.Common.{◌≡◌, ℕ, zero, suc, ◌+◌, ◌<◌, ◌≤◌, Bool, true, false, cond, not, nat_eq, List, [], ◌∷◌, ◌++◌, length, map, Option, Some, None, Ok, Err, IfOk, unwrap_or, refl, sym, ap, ap₂, subst, ◌∙◌, arith}
 use Rattle.std.specs.FinMap as map
 use Rattle.std.specs.FinMap.{get-insert}
@@ -12,15 +12,12 @@ use Rattle.spp_event.specs.Recordings.{Record, Recording, AreEventsOf, record_at
 use Rattle.spp_frame.specs.Nesting as nesting
 use Rattle.spp_frame.specs.Nesting.{AreEvents}
 use Rattle.spp_frame.proofs.Laws.{well_formed_has_none}
-use Rattle.spp_maxplus.specs.declared.state.State.{State}
+use Rattle.spp_maxplus.specs.declared.state.Burdens.{Burdens}
 use Rattle.spp_maxplus.specs.State as state
 use Rattle.spp_maxplus.specs.State.{unburdened, close, after_strand, after_sync}
 use Rattle.spp_dag.specs.declared.row.Row.{Row}
-use Rattle.spp_dag.specs.declared.stack.OpenFrame.{OpenFrame}
 use Rattle.spp_dag.specs.declared.stack.FrameKind.TheVariants.{Called, Spawned}
 use Rattle.spp_dag.specs.Choices.{IsEntry}
-use Rattle.spp_dag.specs.Stack as machine
-use Rattle.spp_dag.specs.Stack.{run, root_frame}
 use Rattle.spp_dag.specs.Shares.{plus, zero_row}
 use Rattle.spp_dag.specs.Steps.{same_key, key_of, has_site, has_func}
 use Rattle.spp_site.specs.Table.{Sums, row_at, empty, IsAdded}
@@ -32,11 +29,10 @@ use Rattle.spp_dag.specs.declared.choices.Choice.{Choice}
 use Rattle.spp_dag.specs.ChoiceLists.{IsEnd, IsJoin}
 use Rattle.spp_site.proofs.RowSums.{none_owed, Low, low_zero}
 use Rattle.spp_dag.proofs.EventsOfRecords.{no_fault_in}
-use Rattle.spp_pass.specs.declared.summing.CountedFrame.{CountedFrame}
-use Rattle.spp_pass.specs.Weights.{LeanFrame}
-use Rattle.spp_pass.specs.declared.weights.Weights.{Weights}
-use Rattle.spp_pass.specs.Weights.{weights_of, child_weight, kept}
-use Rattle.spp_pass.specs.Passes.{Seen, child_of, state_of, row_of, joins_at, ends_at, start_seen, strand_seen, sync_seen, open_seen, returned_frame}
+use Rattle.spp_pass.specs.declared.counted_frame.CountedFrame.{CountedFrame}
+use Rattle.spp_maxplus.specs.declared.weights.Weights.{Weights}
+use Rattle.spp_maxplus.specs.Weights.{weights_of}
+use Rattle.spp_pass.specs.Passes.{Seen, child_of, standing, state_of, burdened_state_of, row_of, joins_at, ends_at, start_seen, strand_seen, sync_seen, open_seen, returned_frame}
 use Rattle.spp_pass.specs.Outside.{spawn_of, entered_frame, entered_frames, AreBelow}
 use Rattle.spp_pass.proofs.Keeping as figures
 use Rattle.spp_pass.proofs.Keeping.{kept_return}
@@ -45,7 +41,7 @@ use Rattle.spp_pass.proofs.Bounded.{entries, owed, AreMarked, empty_rows}
 use Rattle.spp_dag.proofs.OpenEntries.{AreOpen}
 use Rattle.spp_pass.proofs.Shared.{share_none}
 use Rattle.spp_pass.proofs.Choosing.{none_from}
-use Rattle.spp_pass.proofs.Projected.{lean, counted, IsNeat, AllNeat}
+use Rattle.spp_pass.proofs.Projected.{lean, counted, IsNeatIn, IsNeat, AllNeat}
 use Rattle.spp_pass.proofs.Passed.{leans, IsRead, site_bound, Passed, start_passed, strand_passed, sync_passed, call_passed, spawn_passed, return_passed}
 
 -- ---- a pass over all events
@@ -75,13 +71,10 @@ pub record Sound (trace : Recording) : Type 0 where
   pub few : length trace.sites ≤ 65536
   pub within : AreEventsOf (length trace.sites) (length trace.funcs) trace.records
 
-pub light : unburdened.continuation + unburdened.join ≤ 8589934592
-light = omega arith
-
 -- a return never meets the root alone
-pub not_alone : (trace : Recording) → Sound trace → (from i : ℕ) → i < length trace.records → record_at trace.records i ≡ Ok Ret → (s : Seen) (f : CountedFrame) → Passed trace unburdened from i (record s { frames = f ∷ [] }) → ⊥
-not_alone trace sound from i lt is s f at =
-    well_formed_has_none trace.records _ sound.formed (kept_return trace.records unburdened trace.root i s.work (leans (f ∷ [])) lt is refl at.reached)
+pub not_alone : (trace : Recording) → Sound trace → (burdens : Burdens) (from i : ℕ) → i < length trace.records → record_at trace.records i ≡ Ok Ret → (s : Seen) (f : CountedFrame) → Passed trace burdens from i (record s { frames = f ∷ [] }) → ⊥
+not_alone trace sound burdens from i lt is s f at =
+    well_formed_has_none trace.records _ sound.formed (kept_return trace.records burdens trace.root i s.work (leans (f ∷ [])) lt is refl at.reached)
 
 -- the record at a position, as the event that it is
 pub record Reads (trace : Recording) (i : ℕ) : Type 0 where
@@ -95,85 +88,40 @@ reads trace sound i lt = by (record_at trace.records i) refl (sound.within i lt)
     by (Err f) e h = absurd (no_fault_in trace i f sound.formed lt e)
     by (Ok x) e h = record { event = x; read = (e, subst (λ (r : Record). IfOk r (IsEventOf (length trace.sites) (length trace.funcs))) e h) }
 
-next_passed : (trace : Recording) → Sound trace → (i : ℕ) → i < length trace.records → (e : Event) → IsRead trace i e → (s : Seen) → Passed trace unburdened 0 i s
-    → (new : Seen) × Passed trace unburdened 0 (suc i) new
-next_passed trace sound i lt (Strand n) r s at = (strand_seen n s, strand_passed trace unburdened light sound.short 0 i (omega arith) lt n r s (strand_seen n s) refl at)
-next_passed trace sound i lt (Call site func) r s at = (open_seen Called i site func s, call_passed trace unburdened light sound.short 0 i (omega arith) lt site func r s (open_seen Called i site func s) refl at)
-next_passed trace sound i lt (Spawn site func) r s at = (open_seen Spawned i site func s, spawn_passed trace unburdened light sound.short 0 i (omega arith) lt site func r s (open_seen Spawned i site func s) refl at)
-next_passed trace sound i lt Sync r s at = (sync_seen i s, sync_passed trace unburdened light sound.short 0 i (omega arith) lt r s (sync_seen i s) refl at)
-next_passed trace sound i lt Ret r s at = by s.frames at
+next_passed : (trace : Recording) → Sound trace → (burdens : Burdens) → burdens.continuation + burdens.join ≤ 8589934592 → (i : ℕ) → i < length trace.records → (e : Event) → IsRead trace i e → (s : Seen) → Passed trace burdens 0 i s
+    → (new : Seen) × Passed trace burdens 0 (suc i) new
+next_passed trace sound burdens light i lt (Strand n) r s at = (strand_seen n s, strand_passed trace burdens light sound.short 0 i (omega arith) lt n r s (strand_seen n s) refl at)
+next_passed trace sound burdens light i lt (Call site func) r s at = (open_seen Called i site func s, call_passed trace burdens light sound.short 0 i (omega arith) lt site func r s (open_seen Called i site func s) refl at)
+next_passed trace sound burdens light i lt (Spawn site func) r s at = (open_seen Spawned i site func s, spawn_passed trace burdens light sound.short 0 i (omega arith) lt site func r s (open_seen Spawned i site func s) refl at)
+next_passed trace sound burdens light i lt Sync r s at = (sync_seen i s, sync_passed trace burdens light sound.short 0 i (omega arith) lt r s (sync_seen i s) refl at)
+next_passed trace sound burdens light i lt Ret r s at = by s.frames at
   where
-    by : (frames : List CountedFrame) → Passed trace unburdened 0 i (record s { frames = frames }) → (new : Seen) × Passed trace unburdened 0 (suc i) new
+    by : (frames : List CountedFrame) → Passed trace burdens 0 i (record s { frames = frames }) → (new : Seen) × Passed trace burdens 0 (suc i) new
     by [] at = absurd at.bounded.open_frames
-    by (f ∷ []) at = absurd (not_alone trace sound 0 i lt r.0 s f at)
+    by (f ∷ []) at = absurd (not_alone trace sound burdens 0 i lt r.0 s f at)
     by (f ∷ g ∷ fs) at =
         let u = added_row s.table f.site (row_of f s.work) in
         let new : Seen = record {
-          frames = returned_frame unburdened f g ∷ fs;
+          frames = returned_frame burdens f g ∷ fs;
           open_sites = without f.top_site f.site s.open_sites;
           open_funcs = without f.top_func f.func s.open_funcs;
           work = s.work;
           table = u.0;
           ends = s.ends ++ ends_at i f.kind f.at;
           joins = s.joins ++ joins_at i (state_of f);
+          burdened_joins = s.burdened_joins ++ joins_at i (burdened_state_of f);
         } in (
           new,
-          return_passed trace unburdened light sound.short 0 i (omega arith) lt r (record s { frames = f ∷ g ∷ fs }) new
-              (refl, record { frames = refl; open_sites = refl; open_funcs = refl; work = refl; table = u.1; ends = refl; joins = refl }) at,
+          return_passed trace burdens light sound.short 0 i (omega arith) lt r (record s { frames = f ∷ g ∷ fs }) new
+              (refl, record { frames = refl; open_sites = refl; open_funcs = refl; work = refl; table = u.1; ends = refl; joins = refl; burdened_joins = refl }) at,
         )
 
-pub passed_to : (trace : Recording) → Sound trace → (i : ℕ) → i ≤ length trace.records → (s : Seen) × Passed trace unburdened 0 i s
-passed_to trace sound zero l = (start_seen trace.root, start_passed trace unburdened (start_seen trace.root) refl)
-passed_to trace sound (suc i) l =
-    let p = passed_to trace sound i (omega arith) in
+pub passed_to : (trace : Recording) → Sound trace → (burdens : Burdens) → burdens.continuation + burdens.join ≤ 8589934592 → (i : ℕ) → i ≤ length trace.records → (s : Seen) × Passed trace burdens 0 i s
+passed_to trace sound burdens light zero l = (start_seen trace.root, start_passed trace burdens (start_seen trace.root) refl)
+passed_to trace sound burdens light (suc i) l =
+    let p = passed_to trace sound burdens light i (omega arith) in
     let r = reads trace sound i (omega arith) in
-    next_passed trace sound i (omega arith) r.event r.read p.0 p.1
-
--- ---- without burdens both weights of a frame are the same
-
-abbrev AllEven : List OpenFrame → Type 0
-AllEven [] = Unit {0}
-AllEven (f ∷ fs) = (f.burdened ≡ f.plain) × AllEven fs
-
-abbrev SomeEven : Option (List OpenFrame) → Type 0
-SomeEven None = Unit {0}
-SomeEven (Some fs) = AllEven fs
-
-even_next : (i : ℕ) (e : Event) (fs : List OpenFrame) → AllEven fs → SomeEven (machine.advance unburdened i e fs)
-even_next i e [] h = tt
-even_next i (Strand n) (f ∷ fs) h = (ap (λ (s : State). after_strand n s) h.0, h.1)
-even_next i (Call site func) (f ∷ fs) h = (refl, h)
-even_next i (Spawn site func) (f ∷ fs) h = (refl, h)
-even_next i Sync (f ∷ fs) h = (ap after_sync h.0, h.1)
-even_next i Ret (f ∷ []) h = tt
-even_next i Ret (f ∷ g ∷ fs) h = (ap₂ (λ (s t : State). machine.after_child unburdened f.kind f.at (close s) t) h.0 h.1.0, h.1.1)
-
-even_run : (i : ℕ) (es : List Event) (fs gs : List OpenFrame) → AllEven fs → run unburdened i es fs ≡ Some gs → AllEven gs
-even_run i [] fs gs h r = let e : fs ≡ gs = cc in subst AllEven e h
-even_run i (e ∷ es) fs gs h r = by (machine.advance unburdened i e fs) refl (even_next i e fs h) (λ hs. even_run (suc i) es hs gs)
-  where
-    by : (o : Option (List OpenFrame)) → machine.advance unburdened i e fs ≡ o → SomeEven (machine.advance unburdened i e fs)
-        → ((hs : List OpenFrame) → AllEven hs → run unburdened (suc i) es hs ≡ Some gs → AllEven gs) → AllEven gs
-    by None q t go = absurd (let z : None ≡ Some gs = ap (λ (o : Option (List OpenFrame)). elim o [ None ↦ None | Some hs ↦ run unburdened (suc i) es hs ]) (sym q) ∙ r in cc)
-    by (Some hs) q t go =
-        go hs (subst SomeEven q t) (ap (λ (o : Option (List OpenFrame)). elim o [ None ↦ None | Some ks ↦ run unburdened (suc i) es ks ]) (sym q) ∙ r)
-
-abbrev pub AreEven : List CountedFrame → Type 0
-AreEven [] = Unit {0}
-AreEven (f ∷ fs) = (f.burdened ≡ f.plain) × AreEven fs
-
-kept_even : (fs : List CountedFrame) (os : List OpenFrame) → leans fs ≡ map kept os → AllEven os → AreEven fs
-kept_even [] os e h = tt
-kept_even (f ∷ fs) [] e h = absurd (let z = ap (λ (l : List LeanFrame). length l) e in omega arith)
-kept_even (f ∷ fs) (o ∷ os) e h =
-    let first : lean f ≡ kept o = cc in
-    let rest : leans fs ≡ map kept os = cc in
-    (ap (λ (l : LeanFrame). l.burdened) first ∙ ap weights_of h.0 ∙ sym (ap (λ (l : LeanFrame). l.plain) first), kept_even fs os rest h.1)
-
-pub passed_even : (trace : Recording) (i : ℕ) (s : Seen) → Passed trace unburdened 0 i s → AreEven s.frames
-passed_even trace i s at =
-    let k = at.reached in
-    kept_even s.frames k.frames k.are (even_run 0 k.reached.seen (root_frame trace.root ∷ []) k.frames (refl, tt) k.reached.ran)
+    next_passed trace sound burdens light i (omega arith) r.event r.read p.0 p.1
 
 -- ---- a pass that begins there
 
@@ -215,13 +163,13 @@ rested_owed (f ∷ fs) key = none_owed (same_key (key_of (counted f).entry) key)
 
 -- before the first event of a part nothing is in the table
 abbrev pub begun_seen : Seen → Seen
-begun_seen s = record s { frames = map rested s.frames; table = empty; ends = []; joins = [] }
+begun_seen s = record s { frames = map rested s.frames; table = empty; ends = []; joins = []; burdened_joins = [] }
 
 no_rows : (fs : List CountedFrame) (key : Option ℕ) → plus (key_row empty key) (owed (map counted (map rested fs)) key) ≡ zero_row
 no_rows fs key = ap₂ plus (empty_rows key) (rested_owed fs key) ∙ zero-plus zero_row
 
-pub begun_passed : (trace : Recording) (i : ℕ) (s : Seen) → Passed trace unburdened 0 i s → Passed trace unburdened i i (begun_seen s)
-begun_passed trace i s at =
+pub begun_passed : (trace : Recording) (burdens : Burdens) (i : ℕ) (s : Seen) → Passed trace burdens 0 i s → Passed trace burdens i i (begun_seen s)
+begun_passed trace burdens i s at =
     let same = rested_entries s.frames in
     let long : length (map counted (map rested s.frames)) ≡ length (map counted s.frames) =
     length-map (map rested s.frames) counted ∙ length-map s.frames rested ∙ sym (length-map s.frames counted) in
@@ -229,7 +177,7 @@ begun_passed trace i s at =
     let level : length (map counted s.frames) ≤ i + 1 = at.bounded.level in
     let states : state_sum (map counted s.frames) ≤ s.work = at.bounded.states in
     record {
-      reached = subst (λ l. figures.Kept trace.records unburdened trace.root i s.work l) (sym (rested_leans s.frames)) at.reached;
+      reached = subst (λ l. figures.Kept trace.records burdens trace.root i s.work l) (sym (rested_leans s.frames)) at.reached;
       neat = rested_neat s.frames at.neat;
       sites = rested_sites (site_bound trace) s.frames at.sites;
       bounded = record {
@@ -243,33 +191,39 @@ begun_passed trace i s at =
         small = at.bounded.small;
       };
       shared = λ es are wf span spans. record {
-        entry = subst (λ l. IsEntry es trace.root i l s.work) (sym same) (at.shared es are wf span spans).entry;
+        entry = subst (λ l. IsEntry es burdens trace.root i l s.work) (sym same) (at.shared es are wf span spans).entry;
         rows = λ key. no_rows s.frames key ∙ sym (share_none es wf trace.root span spans i key);
       };
-      noted = λ es are wf. (none_from (λ (e : End). e.at) (IsEnd es) i, none_from (λ (j : Choice). j.at) (IsJoin es) i);
+      noted = λ es are wf. (
+        none_from (λ (e : End). e.at) (IsEnd es) i,
+        none_from (λ (j : Choice). j.at) (IsJoin es unburdened) i,
+        none_from (λ (j : Choice). j.at) (IsJoin es burdens) i,
+      );
     }
 
 -- ---- its frames are those of the entry
 
-weight_is : (w : ℕ) (c : Option ℕ) → (c ≡ None → w ≡ 0) → child_weight (child_of w c) ≡ w
-weight_is w None h = sym (h refl)
+weight_is : (w : Weights) (c : Option ℕ) → IsNeatIn w c → weights_of (standing w c) ≡ w
+weight_is w None h = ap (λ (n : ℕ). let v : Weights = record { spine = w.spine; child = n } in v) (sym (h refl))
 weight_is w (Some s) h = refl
 
 spawn_is : (w : ℕ) (c : Option ℕ) → spawn_of (child_of w c) ≡ c
 spawn_is w None = refl
 spawn_is w (Some s) = refl
 
-entered_is : (f : CountedFrame) → IsNeat f → f.burdened ≡ f.plain → (b : Bool) → b ≡ f.top_func → entered_frame (counted f).entry b ≡ rested f
-entered_is f neat even b top =
-    let plain : weights_of (state_of f) ≡ f.plain = ap (λ (n : ℕ). let w : Weights = record { spine = f.plain.spine; child = n } in w) (weight_is f.plain.child f.child neat) in
-    let both : weights_of (state_of f) ≡ f.burdened = plain ∙ sym even in
+entered_is : (f : CountedFrame) → IsNeat f → (b : Bool) → b ≡ f.top_func → entered_frame (counted f).entry b ≡ rested f
+entered_is f neat b top =
+    let plain : weights_of (state_of f) ≡ f.plain = weight_is f.plain f.child neat.0 in
+    let burdened : weights_of (burdened_state_of f) ≡ f.burdened = weight_is f.burdened f.burdened_child neat.1 in
     let spawn : spawn_of (state_of f).child ≡ f.child = spawn_is f.plain.child f.child in
+    let burdened_spawn : spawn_of (burdened_state_of f).child ≡ f.burdened_child = spawn_is f.burdened.child f.burdened_child in
     λ j. record {
       plain = plain j;
-      burdened = both j;
+      burdened = burdened j;
       before = f.before;
       local = 0;
       child = spawn j;
+      burdened_child = burdened_spawn j;
       at = f.at;
       site = f.site;
       func = f.func;
@@ -279,7 +233,7 @@ entered_is f neat even b top =
       top_func = top j;
     }
 
-pub entered_are : (fs : List CountedFrame) → AllNeat fs → AreEven fs → AreMarked (map counted fs) → entered_frames (entries (map counted fs)) ≡ map rested fs
-entered_are [] n e m = refl
-entered_are (f ∷ fs) n e m =
-    ap₂ (λ (x : CountedFrame) (l : List CountedFrame). x ∷ l) (entered_is f n.0 e.0 (not (has_func (entries (map counted fs)) f.func)) (sym m.1)) (entered_are fs n.1 e.1 m.2)
+pub entered_are : (fs : List CountedFrame) → AllNeat fs → AreMarked (map counted fs) → entered_frames (entries (map counted fs)) ≡ map rested fs
+entered_are [] n m = refl
+entered_are (f ∷ fs) n m =
+    ap₂ (λ (x : CountedFrame) (l : List CountedFrame). x ∷ l) (entered_is f n.0 (not (has_func (entries (map counted fs)) f.func)) (sym m.1)) (entered_are fs n.1 m.2)

@@ -4,13 +4,13 @@ use Rattle.std.proofs.Common.{◌≡◌, ℕ, suc, ◌+◌, ◌*◌, ◌<◌, �
 use Rattle.std.specs.FinMap as map
 use Rattle.std.specs.Ordering.{nat_cmp}
 use Rattle.std.proofs.lemmas.Bool.{eq-eqb, ne_eqb, cases_eq}
-use Rattle.spp_maxplus.specs.State.{unburdened, close, after_strand, after_sync}
+use Rattle.spp_maxplus.specs.declared.state.Burdens.{Burdens}
+use Rattle.spp_maxplus.specs.State.{unburdened, close}
 use Rattle.spp_dag.specs.declared.row.Row.{Row}
 use Rattle.spp_dag.specs.declared.stack.EntryFrame.{EntryFrame}
 use Rattle.spp_dag.specs.declared.stack.FrameKind.{FrameKind}
-use Rattle.spp_dag.specs.Stack.{after_child}
 use Rattle.spp_dag.specs.Shares.{plus, zero_row}
-use Rattle.spp_dag.specs.Steps.{site_by, key_of, same_key, has_site, has_func, strand_row, closed_row}
+use Rattle.spp_dag.specs.Steps.{stranded, waited, returned, site_by, key_of, same_key, has_site, has_func, strand_row, closed_row}
 use Rattle.spp_dag.proofs.OpenEntries.{AreOpen, open_more, open_state}
 use Rattle.spp_site.specs.Rows.{Fits}
 use Rattle.spp_site.specs.Table.{Sums, row_at, empty, IsAdded}
@@ -101,7 +101,7 @@ strand_bounded i n short f fs a b w t h =
       sites = h.sites;
       funcs = h.funcs;
       marked = h.marked;
-      open_frames = open_more w (w + n) (omega arith) (entries (record f { entry = record f.entry { state = after_strand n f.entry.state }; local = f.local + n } ∷ fs)) (open_state w f.entry (after_strand n f.entry.state) (entries fs) h.open_frames);
+      open_frames = open_more w (w + n) (omega arith) (stranded n f.entry ∷ entries fs) (open_state w f.entry (stranded n f.entry).state (stranded n f.entry).burdened (entries fs) h.open_frames);
       states = omega arith;
       level = omega arith;
       small = omega arith;
@@ -118,7 +118,7 @@ sync_bounded i f fs a b w t h =
       sites = h.sites;
       funcs = h.funcs;
       marked = h.marked;
-      open_frames = open_state w f.entry (after_sync f.entry.state) (entries fs) h.open_frames;
+      open_frames = open_state w f.entry (waited f.entry).state (waited f.entry).burdened (entries fs) h.open_frames;
       states = omega arith;
       level = omega arith;
       small = omega arith;
@@ -176,27 +176,27 @@ pub same_told : (t u : Told) → t.frames ≡ u.frames → t.open_sites ≡ u.op
 same_told t u a b c d e = λ j. record { frames = a j; open_sites = b j; open_funcs = c j; work = d j; table = e j }
 
 -- what a return leaves
-pub left : (f g : Counted) (fs : List Counted) (a b : ℕ → Bool) (w : ℕ) (t : Sums) (new : Told) → IsReturned f (tell (f ∷ g ∷ fs) a b w t) new
-    → new ≡ tell (return_frames (f ∷ g ∷ fs)) (without f.entry.top_site f.entry.site a) (without f.top_func f.entry.func b) w new.table
-left f g fs a b w t new r =
-    same_told new (tell (return_frames (f ∷ g ∷ fs)) (without f.entry.top_site f.entry.site a) (without f.top_func f.entry.func b) w new.table) r.frames r.open_sites r.open_funcs r.work refl
+pub left : (burdens : Burdens) (f g : Counted) (fs : List Counted) (a b : ℕ → Bool) (w : ℕ) (t : Sums) (new : Told) → IsReturned burdens f (tell (f ∷ g ∷ fs) a b w t) new
+    → new ≡ tell (return_frames burdens (f ∷ g ∷ fs)) (without f.entry.top_site f.entry.site a) (without f.top_func f.entry.func b) w new.table
+left burdens f g fs a b w t new r =
+    same_told new (tell (return_frames burdens (f ∷ g ∷ fs)) (without f.entry.top_site f.entry.site a) (without f.top_func f.entry.func b) w new.table) r.frames r.open_sites r.open_funcs r.work refl
 
-pub return_bounded : (i : ℕ) → i ≤ 268435456 → (f g : Counted) (fs : List Counted) (a b : ℕ → Bool) (w : ℕ) (t : Sums) (new : Told)
-    → Bounded i (tell (f ∷ g ∷ fs) a b w t) → IsReturned f (tell (f ∷ g ∷ fs) a b w t) new → Bounded (suc i) new
-return_bounded i short f g fs a b w t new h r =
+pub return_bounded : (burdens : Burdens) (i : ℕ) → i ≤ 268435456 → (f g : Counted) (fs : List Counted) (a b : ℕ → Bool) (w : ℕ) (t : Sums) (new : Told)
+    → Bounded i (tell (f ∷ g ∷ fs) a b w t) → IsReturned burdens f (tell (f ∷ g ∷ fs) a b w t) new → Bounded (suc i) new
+return_bounded burdens i short f g fs a b w t new h r =
     let k : key_of f.entry ≡ Some f.entry.site = h.open_frames.0 in
     let c = child_adds unburdened f.entry.kind f.entry.at (close f.entry.state) g.entry.state in
     let l : length (f ∷ g ∷ fs) ≤ i + 1 = h.level in
     let s : close f.entry.state + (close g.entry.state + state_sum fs) ≤ w = h.states in
     let m : w ≤ 18446744073709551615 * i = h.small in
-    subst (λ x. Bounded (suc i) x) (sym (left f g fs a b w t new r))
+    subst (λ x. Bounded (suc i) x) (sym (left burdens f g fs a b w t new r))
     (record {
       low = λ key. subst (λ x. Low (suc i) w (plus x (owed (g ∷ fs) key))) (sym (added f w t new.table k r.table key)) (close_low i short f (g ∷ fs) a b w t h key);
       sites = λ s. marked_less f.entry.top_site f.entry.site a (has_site (entries (g ∷ fs))) h.marked.0
           (λ y. h.sites y ∙ ap (λ c. c || has_site (entries (g ∷ fs)) y) (sym (keyed (key_of f.entry) f.entry.site y k))) s;
       funcs = λ s. marked_less f.top_func f.entry.func b (has_func (entries (g ∷ fs))) h.marked.1 h.funcs s;
       marked = h.marked.2;
-      open_frames = open_state w g.entry (after_child unburdened f.entry.kind f.entry.at (close f.entry.state) g.entry.state) (entries fs) h.open_frames.2;
+      open_frames = let r : EntryFrame = returned burdens f.entry g.entry in open_state w g.entry r.state r.burdened (entries fs) h.open_frames.2;
       states = omega arith;
       level = omega arith;
       small = omega arith;

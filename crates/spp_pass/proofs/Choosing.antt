@@ -7,20 +7,22 @@ use Rattle.std.proofs.lemmas.List.{map-append, append-nil}
 use Rattle.std.proofs.lemmas.List.Elements.{Contains-append_left, Contains-append_right, Contains-append_cases}
 use Rattle.spp_event.specs.declared.records.Event.{Event}
 use Rattle.spp_event.specs.declared.records.Event.TheVariants.{Ret}
+use Rattle.spp_maxplus.specs.declared.state.Burdens.{Burdens}
+use Rattle.spp_maxplus.specs.declared.state.State.{State}
 use Rattle.spp_maxplus.specs.State.{unburdened, taken}
 use Rattle.spp_dag.specs.declared.stack.OpenFrame.{OpenFrame}
 use Rattle.spp_dag.specs.declared.stack.FrameKind.{FrameKind}
 use Rattle.spp_dag.specs.declared.stack.FrameKind.TheVariants.{Root, Called, Spawned}
 use Rattle.spp_dag.specs.Trace.{event_at, returns, spawns, syncs, partner, owner, join, IsWellFormed}
 use Rattle.spp_dag.specs.Stack.{run, root_frame}
-use Rattle.spp_dag.specs.Laws.{Waits, JoinsAt}
+use Rattle.spp_dag.specs.Laws.{Waits, JoinsAt, HasTop}
 use Rattle.spp_dag.specs.Choices.{IsChoice, HasChoice, IsWaited, first_of}
 use Rattle.spp_dag.proofs.Crossing.{owner_closing}
 use Rattle.spp_dag.proofs.Depth.{closed}
 use Rattle.spp_dag.proofs.Entries.{taken_is_choice, child_is_waited}
 use Rattle.spp_dag.proofs.Machine.{Opened, Shape, shape}
 use Rattle.spp_dag.proofs.Owner.{owner_is, return_closes}
-use Rattle.spp_dag.proofs.Stacks.{plain_top, path_takes_child}
+use Rattle.spp_dag.proofs.Stacks.{stack_stands, plain_top, path_takes_child}
 use Rattle.spp_dag.proofs.StepsFrames.{TracedBy, all_traced}
 use Rattle.spp_dag.proofs.Ties.{path_exists_to}
 use Rattle.spp_dag.proofs.Upper.{spawns_opens}
@@ -133,18 +135,48 @@ module _ (es : List Event) (wf : IsWellFormed es) (i : ℕ) where
   no_end n = none_at (λ (e : End). e.at) (IsEnd es) i (λ x p e. both_ways (returns (event_at es i)) n (end_returns x p e))
 
   -- a child joins where its frame waits
-  pub no_join : i < length es → syncs (event_at es i) ≡ false → AreAt (λ (j : Choice). j.at) (IsJoin es) i []
-  no_join l n = none_at (λ (j : Choice). j.at) (IsJoin es) i (λ x p e.
+  pub no_join : (paths : Burdens) → i < length es → syncs (event_at es i) ≡ false → AreAt (λ (j : Choice). j.at) (IsJoin es paths) i []
+  no_join paths l n = none_at (λ (j : Choice). j.at) (IsJoin es paths) i (λ x p e.
       let j : JoinsAt es x.at p.1.0 = p.1.1 in
       let k : join es p.1.0 ≡ i = j.1 ∙ e in
       both_ways (syncs (event_at es i)) n (subst (λ m. syncs (event_at es m) ≡ true) k ((join_waits es wf p.1.0 j.0).1 (omega arith))))
 
-  module _ (root : ℕ) (f : OpenFrame) (fs : List OpenFrame) (stands : run unburdened 0 (take i es) (root_frame root ∷ []) ≡ Some (f ∷ fs)) (l : i ≤ length es) where
+  -- ---- where a frame waits
+
+  -- what is chosen is one
+  same_choice : (paths : Burdens) → Waits es i → (o t : Option ℕ) → IsChoice es paths i t → IsChoice es paths i o → t ≡ o
+  same_choice paths waits None None c d = refl
+  same_choice paths waits None (Some t) c d = let ps = path_exists_to es wf paths i waits.0 waits.1 in absurd (d t c.0 ps.0 ps.1 (c.1 ps.0 ps.1))
+  same_choice paths waits (Some s) None c d = let ps = path_exists_to es wf paths i waits.0 waits.1 in absurd (c s d.0 ps.0 ps.1 (d.1 ps.0 ps.1))
+  same_choice paths waits (Some s) (Some t) c d =
+      let stands = stack_stands es wf paths 0 i waits.0 in
+      let top : HasTop es paths i stands.0 = (stands.1, (0, stands.2)) in
+      let ps = path_exists_to es wf paths i waits.0 waits.1 in
+      let takes = λ (k : ℕ) (c : IsChoice es paths i (Some k)). ((path_takes_child es wf paths i waits stands.0 top k c.0.0 c.0.1).1 ps.0 ps.1).0 (c.1 ps.0 ps.1) in
+      sym (takes t c) ∙ takes s d
+
+  same_join : (x : Choice) (t : Option ℕ) → x.at ≡ i → t ≡ x.taken → record { at = i; taken = t } ≡ x
+  same_join x t a b = λ j. record { at = sym a j; taken = b j }
+
+  -- a state that holds a child where one joins, and takes what is chosen
+  joins_by : (paths : Burdens) → Waits es i → (s : State) → IsWaited es i s.child → IsChoice es paths i (taken s) → AreAt (λ (j : Choice). j.at) (IsJoin es paths) i (joins_at i s)
+  joins_by paths waits s held chosen = by s.child held
+    where
+      by : (o : Option (ℕ × ℕ)) → IsWaited es i o → AreAt (λ (j : Choice). j.at) (IsJoin es paths) i (listed (choice_of i o (taken s)))
+      by None w = none_at (λ (j : Choice). j.at) (IsJoin es paths) i (λ x p e. w (subst (λ k. HasChoice es k) e p.1))
+      by (Some c) w =
+          one_at (λ (j : Choice). j.at) (IsJoin es paths) i (record { at = i; taken = taken s }) (waits.0, (c.1, w), chosen) refl
+          (λ x p e. same_join x (taken s) e (same_choice paths waits x.taken (taken s) chosen (subst (λ k. IsChoice es paths k x.taken) e p.2)))
+
+  module _ (burdens : Burdens) (root : ℕ) (f : OpenFrame) (fs : List OpenFrame) (stands : run burdens 0 (take i es) (root_frame root ∷ []) ≡ Some (f ∷ fs)) (l : i ≤ length es) where
+    top : HasTop es burdens i f
+    top = (fs, (root, stands))
+
     at_top : Shape es 1 (λ _. 0) (λ _. 0) i
     at_top = shape es 1 (λ _. 0) (λ _. 0) wf i l
 
     top_is : at_top.top.first ≡ first_of f.kind f.at
-    top_is = sym (ap (λ t. t.first) (plain_top es wf unburdened i l f (fs, (root, stands)) at_top))
+    top_is = sym (ap (λ t. t.first) (plain_top es wf burdens i l f top at_top))
 
     owner_first : owner es i ≡ first_of f.kind f.at
     owner_first = owner_is es 1 (λ _. 0) (λ _. 0) wf i at_top ∙ top_is
@@ -158,7 +190,7 @@ module _ (es : List Event) (wf : IsWellFormed es) (i : ℕ) where
     same_end x s a b = λ j. record { at = sym a j; spawn = b j }
 
     pub return_ends : event_at es i ≡ Some Ret → AreAt (λ (e : End). e.at) (IsEnd es) i (ends_at i f.kind f.at)
-    return_ends is = by f.kind (all_traced es wf root i l (f ∷ fs) stands).0 (sym top_is ∙ r.1.first) (λ x p e. end_first x p e)
+    return_ends is = by f.kind (all_traced es wf burdens root i l (f ∷ fs) stands).0 (sym top_is ∙ r.1.first) (λ x p e. end_first x p e)
       where
         r : (o : ℕ) × Opened es 1 (λ _. 0) (λ _. 0) i at_top.top at_top.rest o × (partner es o ≡ i)
         r = return_closes es 1 (λ _. 0) (λ _. 0) wf i at_top (ap returns is)
@@ -175,26 +207,16 @@ module _ (es : List Event) (wf : IsWellFormed es) (i : ℕ) where
             one_at (λ (e : End). e.at) (IsEnd es) i (record { at = i; spawn = f.at }) (ap spawns t, ap (partner es) (sym s) ∙ r.2) refl
             (λ x p e. same_end x f.at e (let z : suc f.at ≡ suc x.spawn = h x p e in omega arith))
 
-    same_join : (x : Choice) (t : Option ℕ) → x.at ≡ i → t ≡ x.taken → record { at = i; taken = t } ≡ x
-    same_join x t a b = λ j. record { at = sym a j; taken = b j }
-
     -- where a frame waits, the machine holds a child where one joins, and takes what is chosen
-    pub wait_joins : Waits es i → AreAt (λ (j : Choice). j.at) (IsJoin es) i (joins_at i f.plain)
-    wait_joins waits = by f.plain.child refl (child_is_waited es wf unburdened i waits f (fs, (root, stands))).0
-      where
-        chosen : IsChoice es unburdened i (taken f.plain)
-        chosen = (taken_is_choice es wf unburdened i waits f (fs, (root, stands))).0
+    pub wait_joins : Waits es i → AreAt (λ (j : Choice). j.at) (IsJoin es unburdened) i (joins_at i f.plain)
+    wait_joins waits =
+        let held = child_is_waited es wf burdens i waits f top in
+        let chosen = taken_is_choice es wf burdens i waits f top in
+        joins_by unburdened waits f.plain held.0 chosen.0
 
-        -- what is chosen is one
-        same_choice : (o t : Option ℕ) → taken f.plain ≡ t → IsChoice es unburdened i t → IsChoice es unburdened i o → t ≡ o
-        same_choice (Some s) t q d c =
-            let ps = path_exists_to es wf unburdened i waits.0 waits.1 in
-            sym q ∙ ((path_takes_child es wf unburdened i waits f (fs, (root, stands)) s c.0.0 c.0.1).0 ps.0 ps.1).0 (c.1 ps.0 ps.1)
-        same_choice None None q d c = refl
-        same_choice None (Some s) q d c = let ps = path_exists_to es wf unburdened i waits.0 waits.1 in absurd (c s d.0 ps.0 ps.1 (d.1 ps.0 ps.1))
-
-        by : (o : Option (ℕ × ℕ)) → f.plain.child ≡ o → IsWaited es i o → AreAt (λ (j : Choice). j.at) (IsJoin es) i (listed (choice_of i o (taken f.plain)))
-        by None q w = none_at (λ (j : Choice). j.at) (IsJoin es) i (λ x p e. w (subst (λ k. HasChoice es k) e p.1))
-        by (Some c) q w =
-            one_at (λ (j : Choice). j.at) (IsJoin es) i (record { at = i; taken = taken f.plain }) (l, (c.1, w), chosen) refl
-            (λ x p e. same_join x (taken f.plain) e (same_choice x.taken (taken f.plain) refl chosen (subst (λ k. IsChoice es unburdened k x.taken) e p.2)))
+    -- and under the burdens
+    pub wait_burdened : Waits es i → AreAt (λ (j : Choice). j.at) (IsJoin es burdens) i (joins_at i f.burdened)
+    wait_burdened waits =
+        let held = child_is_waited es wf burdens i waits f top in
+        let chosen = taken_is_choice es wf burdens i waits f top in
+        joins_by burdens waits f.burdened held.1 chosen.1

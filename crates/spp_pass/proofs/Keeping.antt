@@ -1,6 +1,6 @@
 -- The machine with weights alone keeps what the machine has.
-use Rattle.std.proofs.Common.{◌≡◌, ℕ, ◌+◌, ◌*◌, ◌<◌, ◌≤◌, max, cond, Bool, true, false, List, [], ◌∷◌, length, map, Option, Some, None, Ok, Err, refl, sym, ap, subst, ◌∙◌, arith}
-use Rattle.std.specs.Prelude.{option_map, nat_lt}
+use Rattle.std.proofs.Common.{◌≡◌, ℕ, ◌+◌, ◌*◌, ◌<◌, ◌≤◌, List, [], ◌∷◌, length, map, Option, Some, None, Ok, Err, refl, sym, ap, subst, ◌∙◌, arith}
+use Rattle.std.specs.Prelude.{option_map}
 use Rattle.std.proofs.lemmas.List.{length-map}
 use Rattle.spp_event.specs.declared.records.Event.{Event}
 use Rattle.spp_event.specs.declared.records.Event.TheVariants.{Strand, Call, Spawn, Ret, Sync}
@@ -10,7 +10,10 @@ use Rattle.spp_frame.specs.declared.Why.TheVariants as why
 use Rattle.spp_frame.specs.Nesting.{weight, IsFirstBad}
 use Rattle.spp_maxplus.specs.declared.state.Burdens.{Burdens}
 use Rattle.spp_maxplus.specs.declared.state.State.{State}
-use Rattle.spp_maxplus.specs.Candidate.{better}
+use Rattle.spp_maxplus.specs.declared.child.ChildKind.TheVariants as child
+use Rattle.spp_maxplus.specs.Weights.{close, weights_of}
+use Rattle.spp_maxplus.proofs.WeightsOf as one
+use Rattle.spp_maxplus.proofs.WeightsOf.{close_kept}
 use Rattle.spp_maxplus.specs.State as state
 use Rattle.spp_dag.specs.declared.stack.OpenFrame.{OpenFrame}
 use Rattle.spp_dag.specs.declared.stack.FrameKind.{FrameKind}
@@ -18,33 +21,17 @@ use Rattle.spp_dag.specs.declared.stack.FrameKind.TheVariants.{Root, Called, Spa
 use Rattle.spp_dag.specs.Stack as machine
 use Rattle.spp_dag.specs.Limits as sums
 use Rattle.spp_dag.specs.Figures.{AreFigures}
-use Rattle.spp_pass.specs.Weights.{LeanFrame}
-use Rattle.spp_pass.specs.Weights.{new_frame, close, after_child, advance, plain_sum, burdened_sum, child_weight, weights_of, kept}
+use Rattle.spp_pass.specs.LeanFrames.{LeanFrame}
+use Rattle.spp_pass.specs.LeanFrames.{new_frame, after_child, advance, plain_sum, burdened_sum, kept}
 use Rattle.spp_piece.proofs.Reached.{Reached, reached_none, reached_more, bad_event, root_return, left_open, all_reached}
 
 -- ---- one state
 
-close_kept : (s : State) → close (weights_of s) ≡ state.close s
-close_kept s = by s.spine s.child
-  where
-    by : (n : ℕ) (c : Option (ℕ × ℕ)) → max n (child_weight c) ≡ state.close (record { spine = n; child = c })
-    by n None = omega arith
-    by n (Some c) = refl
-
-better_kept : (c : Option (ℕ × ℕ)) (x : ℕ × ℕ) → child_weight (better c (Some x)) ≡ max (child_weight c) x.0
-better_kept None x = omega arith
-better_kept (Some c) x = by (nat_lt c.0 x.0) refl
-  where
-    by : (b : Bool) → nat_lt c.0 x.0 ≡ b → child_weight (cond b (Some x) (Some c)) ≡ max c.0 x.0
-    by true e = grind (arith, e)
-    by false e = grind (arith, e)
-
 child_kept : (burdens : Burdens) (kind : FrameKind) (at w : ℕ) (s : State)
     → after_child burdens kind w (weights_of s) ≡ weights_of (machine.after_child burdens kind at w s)
 child_kept burdens Root at w s = refl
-child_kept burdens Called at w s = refl
-child_kept burdens Spawned at w s =
-    ap (λ k. record { spine = s.spine + burdens.continuation; child = k }) (sym (better_kept s.child (s.spine + (w + burdens.join), at)))
+child_kept burdens Called at w s = one.child_kept burdens child.Called at w s
+child_kept burdens Spawned at w s = one.child_kept burdens child.Spawned at w s
 
 -- ---- the open frames
 

@@ -26,38 +26,46 @@ use Rattle.spp_site.specs.Rows.{Fits}
 use Rattle.spp_site.specs.Table.{Sums, row_at}
 use Rattle.spp_dag.specs.declared.figures.Figures.{Figures}
 use Rattle.spp_dag.specs.Figures.{AreFigures}
-use Rattle.spp_dag.specs.declared.choices.Choices.{Choices}
 use Rattle.spp_dag.specs.declared.choices.End.{End}
 use Rattle.spp_dag.specs.declared.choices.Choice.{Choice}
-use Rattle.spp_dag.specs.ChoiceLists.{IsEnd, IsJoin, AreChoices}
+use Rattle.spp_dag.specs.ChoiceLists.{IsEnd, IsJoin, AreEnds, AreJoins, AreChoices}
 use Rattle.spp_dag.proofs.EventsOfRecords.{event_is}
-use Rattle.spp_pass.specs.declared.summing.CountedFrame.{CountedFrame}
+use Rattle.spp_pass.specs.declared.counted_frame.CountedFrame.{CountedFrame}
 use Rattle.spp_pass.specs.declared.summing.FirstPass.{FirstPass}
-use Rattle.spp_pass.specs.Weights.{LeanFrame}
+use Rattle.spp_pass.specs.LeanFrames.{LeanFrame}
 use Rattle.spp_site.specs.Profiles.{IsDagTable}
-use Rattle.spp_pass.specs.Weights.{close, advance}
-use Rattle.spp_pass.specs.Passes.{Seen, state_of, joins_at, ends_at, start_seen, strand_seen, sync_seen, open_seen, OnTop, HasOpen, CanAdd, CanReturn, IsReturned, Returns, CanFinish, IsFinished}
+use Rattle.spp_maxplus.specs.Weights.{close}
+use Rattle.spp_pass.specs.LeanFrames.{advance}
+use Rattle.spp_pass.specs.Passes.{Seen, state_of, burdened_state_of, joins_at, ends_at, start_seen, strand_seen, sync_seen, open_seen, OnTop, HasOpen, CanAdd, CanReturn, IsReturned, Returns, CanFinish, IsFinished}
 use Rattle.spp_pass.specs.Outside.{AreBelow}
 use Rattle.spp_pass.proofs.Keeping as figures
 use Rattle.spp_pass.proofs.Keeping.{kept_none, kept_more, all_kept}
 use Rattle.spp_pass.proofs.Bounded.{entries, Bounded, start_bounded, strand_bounded, sync_bounded, open_bounded, return_bounded, local_le, closable, finishable}
 use Rattle.spp_pass.proofs.Shared.{Shared, start_shared, strand_shared, sync_shared, call_shared, spawn_shared, return_shared, finished}
-use Rattle.spp_pass.proofs.Choosing.{AreTo, AreAt, none_from, more_from, no_end, no_join, return_ends, wait_joins}
+use Rattle.spp_pass.proofs.Choosing.{AreTo, AreAt, none_from, more_from, no_end, no_join, return_ends, wait_joins, wait_burdened}
 use Rattle.spp_pass.proofs.Projected.{lean, counted, told, AllNeat, row_is, neat_returned, told_sync, told_return}
 
 abbrev pub leans : List CountedFrame → List LeanFrame
 leans fs = map lean fs
 
--- an end, and a join, at `from` or later
+-- an end, and a join of the path under the burdens, at `from` or later
 abbrev pub EndFrom : List Event → ℕ → End → Type 0
 EndFrom es from e = IsEnd es e × (from ≤ e.at)
 
-abbrev pub JoinFrom : List Event → ℕ → Choice → Type 0
-JoinFrom es from j = IsJoin es j × (from ≤ j.at)
+abbrev pub JoinFrom : List Event → Burdens → ℕ → Choice → Type 0
+JoinFrom es burdens from j = IsJoin es burdens j × (from ≤ j.at)
 
--- the ends and the joins from position `from` on and before i
-abbrev pub AreNoted : List Event → ℕ → ℕ → List End → List Choice → Type 0
-AreNoted es from i ends joins = AreTo (λ (e : End). e.at) (EndFrom es from) i ends × AreTo (λ (j : Choice). j.at) (JoinFrom es from) i joins
+-- the ends from position `from` on and before i
+abbrev pub AreEndsTo : List Event → ℕ → ℕ → List End → Type 0
+AreEndsTo es from i ends = AreTo (λ (e : End). e.at) (EndFrom es from) i ends
+
+-- and the joins
+abbrev pub AreJoinsTo : List Event → Burdens → ℕ → ℕ → List Choice → Type 0
+AreJoinsTo es burdens from i joins = AreTo (λ (j : Choice). j.at) (JoinFrom es burdens from) i joins
+
+-- the ends and the joins of both paths
+abbrev pub AreNoted : List Event → Burdens → ℕ → ℕ → List End → List Choice → List Choice → Type 0
+AreNoted es burdens from i ends joins burdened = AreEndsTo es from i ends × AreJoinsTo es unburdened from i joins × AreJoinsTo es burdens from i burdened
 
 -- The sites of open frames are below this: they are sites of the trace, but that the root has site 0 also where the
 -- trace has none.
@@ -70,19 +78,23 @@ pub record Passed (trace : Recording) (burdens : Burdens) (from i : ℕ) (s : Se
   pub neat : AllNeat s.frames
   pub sites : AreBelow (site_bound trace) s.frames
   pub bounded : Bounded i (told s)
-  pub shared : (es : List Event) → AreEvents trace.records es → IsWellFormed es → (span : ℕ → ℕ) → AreSpans es span → Shared es trace.root span from i (told s)
-  pub noted : (es : List Event) → AreEvents trace.records es → IsWellFormed es → AreNoted es from i s.ends s.joins
+  pub shared : (es : List Event) → AreEvents trace.records es → IsWellFormed es → (span : ℕ → ℕ) → AreSpans es span → Shared es burdens trace.root span from i (told s)
+  pub noted : (es : List Event) → AreEvents trace.records es → IsWellFormed es → AreNoted es burdens from i s.ends s.joins s.burdened_joins
 
 -- ---- the start
 
 pub start_passed : (trace : Recording) (burdens : Burdens) (s : Seen) → s ≡ start_seen trace.root → Passed trace burdens 0 0 s
 start_passed trace burdens s e = subst (λ x. Passed trace burdens 0 0 x) (sym e) (record {
   reached = kept_none trace.records burdens trace.root;
-  neat = ((λ c. refl), tt);
+  neat = ((λ c. refl, λ c. refl), tt);
   sites = (omega arith, tt);
   bounded = start_bounded trace.root;
-  shared = λ es are wf span spans. start_shared es wf trace.root span spans;
-  noted = λ es are wf. (none_from (λ (e : End). e.at) (IsEnd es) 0, none_from (λ (j : Choice). j.at) (IsJoin es) 0);
+  shared = λ es are wf span spans. start_shared es wf trace.root span spans burdens;
+  noted = λ es are wf. (
+    none_from (λ (e : End). e.at) (IsEnd es) 0,
+    none_from (λ (j : Choice). j.at) (IsJoin es unburdened) 0,
+    none_from (λ (j : Choice). j.at) (IsJoin es burdens) 0,
+  );
 })
 
 -- ---- the events of a trace
@@ -101,21 +113,22 @@ events_len trace es are = ap (λ (x : List Record). length x) are ∙ length-map
 -- ---- the innermost frame
 
 -- the frame of the machine that an entry tells
-record Top (es : List Event) (root i : ℕ) (f : CountedFrame) : Type 0 where
+record Top (es : List Event) (burdens : Burdens) (root i : ℕ) (f : CountedFrame) : Type 0 where
   frame : OpenFrame
   below : List OpenFrame
-  stands : run unburdened 0 (take i es) (root_frame root ∷ []) ≡ Some (frame ∷ below)
+  stands : run burdens 0 (take i es) (root_frame root ∷ []) ≡ Some (frame ∷ below)
   kind : f.kind ≡ frame.kind
   at : f.at ≡ frame.at
   state : state_of f ≡ frame.plain
+  burdened : burdened_state_of f ≡ frame.burdened
 
-top_of : (es : List Event) (root i w : ℕ) (f : CountedFrame) (fs : List CountedFrame) → IsEntry es root i (entries (map counted (f ∷ fs))) w → Top es root i f
-top_of es root i w f fs at = by at.0 at.1 at.2
+top_of : (es : List Event) (burdens : Burdens) (root i w : ℕ) (f : CountedFrame) (fs : List CountedFrame) → IsEntry es burdens root i (entries (map counted (f ∷ fs))) w → Top es burdens root i f
+top_of es burdens root i w f fs at = by at.0 at.1 at.2
   where
     heads : (a b : EntryFrame) (as' bs : List EntryFrame) → a ∷ as' ≡ b ∷ bs → a ≡ b
     heads a b as' bs e = cc
 
-    by : (os : List OpenFrame) → run unburdened 0 (take i es) (root_frame root ∷ []) ≡ Some os → entries (map counted (f ∷ fs)) ≡ map (entry_frame es root) os → Top es root i f
+    by : (os : List OpenFrame) → run burdens 0 (take i es) (root_frame root ∷ []) ≡ Some os → entries (map counted (f ∷ fs)) ≡ map (entry_frame es root) os → Top es burdens root i f
     by [] r e = absurd (let z = ap (λ (x : List EntryFrame). length x) e in omega arith)
     by (o ∷ os) r e =
         let h : (counted f).entry ≡ entry_frame es root o = heads _ _ _ _ e in
@@ -126,22 +139,30 @@ top_of es root i w f fs at = by at.0 at.1 at.2
           kind = ap (λ (x : EntryFrame). x.kind) h;
           at = ap (λ (x : EntryFrame). x.at) h;
           state = ap (λ (x : EntryFrame). x.state) h;
+          burdened = ap (λ (x : EntryFrame). x.burdened) h;
         }
 
 -- what is noted where it waits
-joins_of : (es : List Event) → IsWellFormed es → (root i w : ℕ) (f : CountedFrame) (fs : List CountedFrame) → IsEntry es root i (entries (map counted (f ∷ fs))) w → Waits es i
-    → AreAt (λ (j : Choice). j.at) (IsJoin es) i (joins_at i (state_of f))
-joins_of es wf root i w f fs at waits =
-    let t = top_of es root i w f fs at in
-    subst (λ s. AreAt (λ (j : Choice). j.at) (IsJoin es) i (joins_at i s)) (sym t.state) (wait_joins es wf i root t.frame t.below t.stands waits.0 waits)
+record Noted (es : List Event) (burdens : Burdens) (i : ℕ) (f : CountedFrame) : Type 0 where
+  joins : AreAt (λ (j : Choice). j.at) (IsJoin es unburdened) i (joins_at i (state_of f))
+  burdened : AreAt (λ (j : Choice). j.at) (IsJoin es burdens) i (joins_at i (burdened_state_of f))
+
+joins_of : (es : List Event) → IsWellFormed es → (burdens : Burdens) (root i w : ℕ) (f : CountedFrame) (fs : List CountedFrame) → IsEntry es burdens root i (entries (map counted (f ∷ fs))) w → Waits es i
+    → Noted es burdens i f
+joins_of es wf burdens root i w f fs at waits =
+    let t = top_of es burdens root i w f fs at in
+    record {
+      joins = subst (λ s. AreAt (λ (j : Choice). j.at) (IsJoin es unburdened) i (joins_at i s)) (sym t.state) (wait_joins es wf i burdens root t.frame t.below t.stands waits.0 waits);
+      burdened = subst (λ s. AreAt (λ (j : Choice). j.at) (IsJoin es burdens) i (joins_at i s)) (sym t.burdened) (wait_burdened es wf i burdens root t.frame t.below t.stands waits.0 waits);
+    }
 
 -- and where it returns
-ends_of : (es : List Event) → IsWellFormed es → (root i w : ℕ) (f : CountedFrame) (fs : List CountedFrame) → IsEntry es root i (entries (map counted (f ∷ fs))) w → i < length es → event_at es i ≡ Some Ret
-    → AreAt (λ (e : End). e.at) (IsEnd es) i (ends_at i f.kind f.at)
-ends_of es wf root i w f fs at l is =
-    let t = top_of es root i w f fs at in
+ends_of : (es : List Event) → IsWellFormed es → (burdens : Burdens) (root i w : ℕ) (f : CountedFrame) (fs : List CountedFrame) → IsEntry es burdens root i (entries (map counted (f ∷ fs))) w
+    → i < length es → event_at es i ≡ Some Ret → AreAt (λ (e : End). e.at) (IsEnd es) i (ends_at i f.kind f.at)
+ends_of es wf burdens root i w f fs at l is =
+    let t = top_of es burdens root i w f fs at in
     subst (λ k. AreAt (λ (e : End). e.at) (IsEnd es) i (ends_at i f.kind k)) (sym t.at)
-    (subst (λ k. AreAt (λ (e : End). e.at) (IsEnd es) i (ends_at i k t.frame.at)) (sym t.kind) (return_ends es wf i root t.frame t.below t.stands (omega arith) is))
+    (subst (λ k. AreAt (λ (e : End). e.at) (IsEnd es) i (ends_at i k t.frame.at)) (sym t.kind) (return_ends es wf i burdens root t.frame t.below t.stands (omega arith) is))
 
 -- ---- one event
 
@@ -163,12 +184,30 @@ module _ (trace : Recording) (burdens : Burdens) (light : burdens.continuation +
       subst (λ n. figures.Kept trace.records burdens trace.root n v ms) (let z : i + 1 ≡ suc i = omega arith in z) (kept_more trace.records burdens trace.root i w v e ls ms light small lt is adv works k)
 
   -- the choices, where none is made
-  nothing_noted : (es : List Event) → AreEvents trace.records es → IsWellFormed es → (ends : List End) (joins : List Choice)
-      → returns (event_at es i) ≡ false → syncs (event_at es i) ≡ false → AreNoted es from i ends joins → AreNoted es from (suc i) ends joins
-  nothing_noted es are wf ends joins r s n =
-      let len = events_len trace es are in (
-        subst (λ l. AreTo (λ (e : End). e.at) (EndFrom es from) (suc i) l) (append-nil ends) (more_from (λ (e : End). e.at) (IsEnd es) from i ends [] begun n.0 (no_end es wf i r)),
-        subst (λ l. AreTo (λ (j : Choice). j.at) (JoinFrom es from) (suc i) l) (append-nil joins) (more_from (λ (j : Choice). j.at) (IsJoin es) from i joins [] begun n.1 (no_join es wf i (omega arith) s)),
+  more_ends : (es : List Event) → IsWellFormed es → (ends : List End) → returns (event_at es i) ≡ false → AreEndsTo es from i ends → AreEndsTo es from (suc i) ends
+  more_ends es wf ends r n =
+      subst (λ l. AreEndsTo es from (suc i) l) (append-nil ends) (more_from (λ (e : End). e.at) (IsEnd es) from i ends [] begun n (no_end es wf i r))
+
+  same_joins : (es : List Event) → AreEvents trace.records es → IsWellFormed es → (paths : Burdens) (joins : List Choice)
+      → syncs (event_at es i) ≡ false → AreJoinsTo es paths from i joins → AreJoinsTo es paths from (suc i) joins
+  same_joins es are wf paths joins s n =
+      let len = events_len trace es are in
+      subst (λ l. AreJoinsTo es paths from (suc i) l) (append-nil joins) (more_from (λ (j : Choice). j.at) (IsJoin es paths) from i joins [] begun n (no_join es wf i paths (omega arith) s))
+
+  nothing_noted : (es : List Event) → AreEvents trace.records es → IsWellFormed es → (ends : List End) (joins burdened : List Choice)
+      → returns (event_at es i) ≡ false → syncs (event_at es i) ≡ false → AreNoted es burdens from i ends joins burdened → AreNoted es burdens from (suc i) ends joins burdened
+  nothing_noted es are wf ends joins burdened r s n =
+      (more_ends es wf ends r n.0, same_joins es are wf unburdened joins s n.1, same_joins es are wf burdens burdened s n.2)
+
+  -- and where the frame f waits
+  joins_noted : (es : List Event) → AreEvents trace.records es → (wf : IsWellFormed es) → (w : ℕ) (f : CountedFrame) (fs : List CountedFrame) (joins burdened : List Choice)
+      → IsEntry es burdens trace.root i (entries (map counted (f ∷ fs))) w → syncs (event_at es i) ≡ true → AreJoinsTo es unburdened from i joins → AreJoinsTo es burdens from i burdened
+      → AreJoinsTo es unburdened from (suc i) (joins ++ joins_at i (state_of f)) × AreJoinsTo es burdens from (suc i) (burdened ++ joins_at i (burdened_state_of f))
+  joins_noted es are wf w f fs joins burdened at waits n m =
+      let len = events_len trace es are in
+      let j = joins_of es wf burdens trace.root i w f fs at ((let z : i ≤ length es = omega arith in z), λ l. waits) in (
+        more_from (λ (j : Choice). j.at) (IsJoin es unburdened) from i joins _ begun n j.joins,
+        more_from (λ (j : Choice). j.at) (IsJoin es burdens) from i burdened _ begun m j.burdened,
       )
 
   -- ---- a strand
@@ -197,9 +236,9 @@ module _ (trace : Recording) (burdens : Burdens) (light : burdens.continuation +
         sites = at.sites;
         bounded = strand_bounded i n r.1 (counted f) (map counted fs) s.open_sites s.open_funcs s.work s.table at.bounded;
         shared = λ es are wf span spans.
-            strand_shared es wf trace.root span spans from i begun n (event_is trace.records es i (Strand n) are lt r.0) (counted f) (map counted fs) s.open_sites s.open_funcs s.work s.table (at.shared es are wf span spans);
+            strand_shared es wf burdens trace.root span spans from i begun n (event_is trace.records es i (Strand n) are lt r.0) (counted f) (map counted fs) s.open_sites s.open_funcs s.work s.table (at.shared es are wf span spans);
         noted = λ es are wf. let is = event_is trace.records es i (Strand n) are lt r.0 in
-            nothing_noted es are wf s.ends s.joins (ap returns is) (ap syncs is) (at.noted es are wf);
+            nothing_noted es are wf s.ends s.joins s.burdened_joins (ap returns is) (ap syncs is) (at.noted es are wf);
       }
 
   -- ---- a sync
@@ -220,20 +259,17 @@ module _ (trace : Recording) (burdens : Burdens) (light : burdens.continuation +
           let tells = told_sync i s f fs at.neat.0 in
           record {
             reached = goes Sync r.0 (omega arith) _ _ s.work s.work refl (omega arith) at.reached;
-            neat = ((λ c. refl), at.neat.1);
+            neat = ((λ c. refl, λ c. refl), at.neat.1);
             sites = at.sites;
             bounded = subst (λ t. Bounded (suc i) t) (sym tells) (sync_bounded i (counted f) (map counted fs) s.open_sites s.open_funcs s.work s.table at.bounded);
-            shared = λ es are wf span spans. subst (λ t. Shared es trace.root span from (suc i) t) (sym tells)
-                (sync_shared es wf trace.root span spans from i begun (event_is trace.records es i Sync are lt r.0) (counted f) (map counted fs) s.open_sites s.open_funcs s.work s.table (at.shared es are wf span spans));
+            shared = λ es are wf span spans. subst (λ t. Shared es burdens trace.root span from (suc i) t) (sym tells)
+                (sync_shared es wf burdens trace.root span spans from i begun (event_is trace.records es i Sync are lt r.0) (counted f) (map counted fs) s.open_sites s.open_funcs s.work s.table (at.shared es are wf span spans));
             noted = λ es are wf.
                 let is = event_is trace.records es i Sync are lt r.0 in
-                let l = inside es i Sync is in
                 let sp = (spans_law es wf).0 in
-                let n = at.noted es are wf in (
-                  subst (λ l. AreTo (λ (e : End). e.at) (EndFrom es from) (suc i) l) (append-nil s.ends) (more_from (λ (e : End). e.at) (IsEnd es) from i s.ends [] begun n.0 (no_end es wf i (ap returns is))),
-                  more_from (λ (j : Choice). j.at) (IsJoin es) from i s.joins _ begun n.1
-                      (joins_of es wf trace.root i s.work f fs (at.shared es are wf sp.0 sp.1).entry ((let z : i ≤ length es = omega arith in z), λ l. ap syncs is)),
-                );
+                let n = at.noted es are wf in
+                let joins = joins_noted es are wf s.work f fs s.joins s.burdened_joins (at.shared es are wf sp.0 sp.1).entry (ap syncs is) n.1 n.2 in
+                (more_ends es wf s.ends (ap returns is) n.0, joins.0, joins.1);
           }
 
   -- ---- a call or a spawn
@@ -246,13 +282,13 @@ module _ (trace : Recording) (burdens : Burdens) (light : burdens.continuation +
       by (f ∷ fs) at =
           record {
             reached = goes (Call site func) r.0 (omega arith) _ _ s.work s.work refl (omega arith) at.reached;
-            neat = ((λ c. refl), at.neat);
+            neat = ((λ c. refl, λ c. refl), at.neat);
             sites = ((let z : site < length trace.sites = r.1.0 in omega arith), at.sites);
             bounded = open_bounded i Called site func refl (counted f) (map counted fs) s.open_sites s.open_funcs s.work s.table at.bounded;
             shared = λ es are wf span spans.
-                call_shared es wf trace.root span spans from i begun site func (event_is trace.records es i (Call site func) are lt r.0) (counted f) (map counted fs) s.open_sites s.open_funcs s.work s.table at.bounded (at.shared es are wf span spans);
+                call_shared es wf burdens trace.root span spans from i begun site func (event_is trace.records es i (Call site func) are lt r.0) (counted f) (map counted fs) s.open_sites s.open_funcs s.work s.table at.bounded (at.shared es are wf span spans);
             noted = λ es are wf. let is = event_is trace.records es i (Call site func) are lt r.0 in
-                nothing_noted es are wf s.ends s.joins (ap returns is) (ap syncs is) (at.noted es are wf);
+                nothing_noted es are wf s.ends s.joins s.burdened_joins (ap returns is) (ap syncs is) (at.noted es are wf);
           }
 
   pub spawn_passed : (site func : ℕ) → IsRead trace i (Spawn site func) → (s new : Seen) → new ≡ open_seen Spawned i site func s → Now s → Next new
@@ -263,13 +299,13 @@ module _ (trace : Recording) (burdens : Burdens) (light : burdens.continuation +
       by (f ∷ fs) at =
           record {
             reached = goes (Spawn site func) r.0 (omega arith) _ _ s.work s.work refl (omega arith) at.reached;
-            neat = ((λ c. refl), at.neat);
+            neat = ((λ c. refl, λ c. refl), at.neat);
             sites = ((let z : site < length trace.sites = r.1.0 in omega arith), at.sites);
             bounded = open_bounded i Spawned site func refl (counted f) (map counted fs) s.open_sites s.open_funcs s.work s.table at.bounded;
             shared = λ es are wf span spans.
-                spawn_shared es wf trace.root span spans from i begun site func (event_is trace.records es i (Spawn site func) are lt r.0) (counted f) (map counted fs) s.open_sites s.open_funcs s.work s.table at.bounded (at.shared es are wf span spans);
+                spawn_shared es wf burdens trace.root span spans from i begun site func (event_is trace.records es i (Spawn site func) are lt r.0) (counted f) (map counted fs) s.open_sites s.open_funcs s.work s.table at.bounded (at.shared es are wf span spans);
             noted = λ es are wf. let is = event_is trace.records es i (Spawn site func) are lt r.0 in
-                nothing_noted es are wf s.ends s.joins (ap returns is) (ap syncs is) (at.noted es are wf);
+                nothing_noted es are wf s.ends s.joins s.burdened_joins (ap returns is) (ap syncs is) (at.noted es are wf);
           }
 
   -- ---- a return
@@ -309,18 +345,19 @@ module _ (trace : Recording) (burdens : Burdens) (light : burdens.continuation +
         reached = goes Ret r.0 (omega arith) _ _ s.work new.work (ap (λ (l : List CountedFrame). Some (leans l)) (sym h.frames)) (h.work ∙ omega arith) at.reached;
         neat = subst AllNeat (sym h.frames) (neat_returned burdens f g at.neat.1.0, at.neat.1.1);
         sites = subst (AreBelow (site_bound trace)) (sym h.frames) at.sites.1;
-        bounded = return_bounded i (omega arith) (counted f) (counted g) (map counted fs) s.open_sites s.open_funcs s.work s.table (told new) at.bounded tells;
+        bounded = return_bounded burdens i (omega arith) (counted f) (counted g) (map counted fs) s.open_sites s.open_funcs s.work s.table (told new) at.bounded tells;
         shared = λ es are wf span spans.
-            return_shared es wf trace.root span spans from i begun (event_is trace.records es i Ret are lt r.0) (counted f) (counted g) (map counted fs) s.open_sites s.open_funcs s.work s.table (told new) at.bounded tells (at.shared es are wf span spans);
+            return_shared es wf burdens trace.root span spans from i begun (event_is trace.records es i Ret are lt r.0) (counted f) (counted g) (map counted fs) s.open_sites s.open_funcs s.work s.table (told new) at.bounded tells (at.shared es are wf span spans);
         noted = λ es are wf.
             let is = event_is trace.records es i Ret are lt r.0 in
             let l = inside es i Ret is in
             let sp = (spans_law es wf).0 in
             let n = at.noted es are wf in
-            let entry = (at.shared es are wf sp.0 sp.1).entry in (
-              subst (λ l. AreTo (λ (e : End). e.at) (EndFrom es from) (suc i) l) (sym h.ends) (more_from (λ (e : End). e.at) (IsEnd es) from i s.ends _ begun n.0 (ends_of es wf trace.root i s.work f (g ∷ fs) entry (omega arith) is)),
-              subst (λ l. AreTo (λ (j : Choice). j.at) (JoinFrom es from) (suc i) l) (sym h.joins)
-                  (more_from (λ (j : Choice). j.at) (IsJoin es) from i s.joins _ begun n.1 (joins_of es wf trace.root i s.work f (g ∷ fs) entry ((let z : i ≤ length es = omega arith in z), λ l. ap syncs is))),
+            let entry = (at.shared es are wf sp.0 sp.1).entry in
+            let joins = joins_noted es are wf s.work f (g ∷ fs) s.joins s.burdened_joins entry (ap syncs is) n.1 n.2 in (
+              subst (λ l. AreEndsTo es from (suc i) l) (sym h.ends) (more_from (λ (e : End). e.at) (IsEnd es) from i s.ends _ begun n.0 (ends_of es wf burdens trace.root i s.work f (g ∷ fs) entry (omega arith) is)),
+              subst (λ l. AreJoinsTo es unburdened from (suc i) l) (sym h.joins) joins.0,
+              subst (λ l. AreJoinsTo es burdens from (suc i) l) (sym h.burdened_joins) joins.1,
             );
       }
 
@@ -363,7 +400,7 @@ module _ (trace : Recording) (burdens : Burdens) (short : length trace.records �
     pub figures : AreFigures trace.records burdens p.figures
     pub small : p.figures.work < 2 ^ 92
     pub dag : IsDagTable trace p.dag
-    pub choices : (es : List Event) → AreEvents trace.records es → AreChoices es p.choices
+    pub choices : (es : List Event) → AreEvents trace.records es → AreChoices es burdens p.choices
 
   told_from : (s : Seen) (f : CountedFrame) (p : FirstPass) → Passed trace burdens 0 i (record s { frames = f ∷ [] }) → IsFinished i s (f ∷ []) p → IsTold p
   told_from s f p at h =
@@ -375,35 +412,45 @@ module _ (trace : Recording) (burdens : Burdens) (short : length trace.records �
       let wf = wf_of es are in
       let sp = (spans_law es wf).0 in
       let ended = λ (es : List Event) (are : AreEvents trace.records es) (span : ℕ → ℕ) (spans : AreSpans es span).
-      subst (λ k. Shared es trace.root span 0 k (told (record s { frames = f ∷ [] }))) (last ∙ events_len trace es are) (at.shared es are (wf_of es are) span spans) in
+      subst (λ k. Shared es burdens trace.root span 0 k (told (record s { frames = f ∷ [] }))) (last ∙ events_len trace es are) (at.shared es are (wf_of es are) span spans) in
       record {
         figures = subst (λ x. AreFigures trace.records burdens x) (sym h.0) fig;
         small = subst (λ (x : Figures). x.work < 2 ^ 92) (sym h.0) (omega arith);
         dag = subst (λ t. IsDagTable trace t) (sym (h.1 ∙ ap (λ r. let u : Sums = record s.table { root = plus s.table.root r } in u) (row_is f s.work at.neat.0)))
-            (fig.well_formed, (es, are, (sp.0, sp.1, finished es wf trace.root sp.0 sp.1 (counted f) s.open_sites s.open_funcs s.work s.table at.bounded.open_frames (ended es are sp.0 sp.1))));
+            (fig.well_formed, (es, are, (sp.0, sp.1, finished es wf trace.root sp.0 sp.1 burdens (counted f) s.open_sites s.open_funcs s.work s.table at.bounded.open_frames (ended es are sp.0 sp.1))));
         choices = λ es are.
             let wf = wf_of es are in
             let sp = (spans_law es wf).0 in
             let n = events_len trace es are in
             let here : i ≡ length es = last ∙ n in
             let noted = at.noted es are wf in
-            let joins = more_from (λ (j : Choice). j.at) (IsJoin es) 0 i s.joins _ (omega arith) noted.1
-            (joins_of es wf trace.root i s.work f [] (at.shared es are wf sp.0 sp.1).entry ((let z : i ≤ length es = omega arith in z), λ l. absurd (omega arith))) in
-            all_noted es wf p.choices (subst (λ l. AreTo (λ (e : End). e.at) (EndFrom es 0) (length es) l) (sym h.2) (subst (λ k. AreTo (λ (e : End). e.at) (EndFrom es 0) k s.ends) here noted.0))
-            (subst (λ l. AreTo (λ (j : Choice). j.at) (JoinFrom es 0) (suc (length es)) l) (sym h.3) (subst (λ k. AreTo (λ (j : Choice). j.at) (JoinFrom es 0) (suc k) (s.joins ++ joins_at i (state_of f))) here joins));
+            let j = joins_of es wf burdens trace.root i s.work f [] (at.shared es are wf sp.0 sp.1).entry ((let z : i ≤ length es = omega arith in z), λ l. absurd (omega arith)) in
+            let joins = more_from (λ (j : Choice). j.at) (IsJoin es unburdened) 0 i s.joins _ (omega arith) noted.1 j.joins in
+            let burdened = more_from (λ (j : Choice). j.at) (IsJoin es burdens) 0 i s.burdened_joins _ (omega arith) noted.2 j.burdened in
+            record {
+              ends = all_ends es wf p.choices.ends.items (subst (λ l. AreEndsTo es 0 (length es) l) (sym h.2) (subst (λ k. AreEndsTo es 0 k s.ends) here noted.0));
+              joins = all_joins es unburdened p.choices.joins.items
+                  (subst (λ l. AreJoinsTo es unburdened 0 (suc (length es)) l) (sym h.3) (subst (λ k. AreJoinsTo es unburdened 0 (suc k) (s.joins ++ joins_at i (state_of f))) here joins));
+              burdened_joins = all_joins es burdens p.choices.burdened_joins.items
+                  (subst (λ l. AreJoinsTo es burdens 0 (suc (length es)) l) (sym h.4) (subst (λ k. AreJoinsTo es burdens 0 (suc k) (s.burdened_joins ++ joins_at i (burdened_state_of f))) here burdened));
+            };
       }
     where
-      -- no end is past the events, and no join past the end
-      all_noted : (es : List Event) → IsWellFormed es → (c : Choices) → AreTo (λ (e : End). e.at) (EndFrom es 0) (length es) c.ends.items
-          → AreTo (λ (j : Choice). j.at) (JoinFrom es 0) (suc (length es)) c.joins.items → AreChoices es c
-      all_noted es wf c a b = record {
-        ends_rise = a.rise;
-        ends = λ e. (
+      -- no end is past the events
+      all_ends : (es : List Event) → IsWellFormed es → (ends : List End) → AreEndsTo es 0 (length es) ends → AreEnds es ends
+      all_ends es wf ends a = record {
+        rise = a.rise;
+        are = λ e. (
           λ m. ((a.are e).0 m).0.0,
           λ p. (a.are e).1 ((p, omega arith), subst (λ k. k < length es) p.1 (closed es wf e.spawn (spawns_opens (event_at es e.spawn) p.0)).within),
         );
-        joins_rise = b.rise;
-        joins = λ j. (λ m. ((b.are j).0 m).0.0, λ p. (b.are j).1 ((p, omega arith), let l : j.at ≤ length es = p.0 in omega arith));
+      }
+
+      -- and no join past the end
+      all_joins : (es : List Event) (paths : Burdens) (joins : List Choice) → AreJoinsTo es paths 0 (suc (length es)) joins → AreJoins es paths joins
+      all_joins es paths joins b = record {
+        rise = b.rise;
+        are = λ j. (λ m. ((b.are j).0 m).0.0, λ p. (b.are j).1 ((p, omega arith), let l : j.at ≤ length es = p.0 in omega arith));
       }
 
   pub is_told : (s : Seen) (p : FirstPass) → length s.frames ≡ 1 → Passed trace burdens 0 i s → IsFinished i s s.frames p → IsTold p

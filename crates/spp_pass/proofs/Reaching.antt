@@ -7,7 +7,7 @@ use Rattle.spp_dag.specs.declared.stack.EntryFrame.{EntryFrame}
 use Rattle.spp_dag.specs.Steps.{has_func}
 use Rattle.spp_stack.specs.declared.node.Node.{Node}
 use Rattle.spp_stack.specs.Chain.{StackOf, HasFrames, IsNodeOf}
-use Rattle.spp_pass.specs.declared.summing.CountedFrame.{CountedFrame}
+use Rattle.spp_pass.specs.declared.counted_frame.CountedFrame.{CountedFrame}
 use Rattle.spp_pass.specs.Passes.{Seen}
 use Rattle.spp_pass.specs.Outside.{entered_frame, entered_frames, IsOutside, IsReached}
 use Rattle.spp_pass.proofs.Marking.{outside_below}

@@ -12,7 +12,7 @@ use Rattle.spp_site.specs.Table.{Sums}
 use Rattle.spp_site.proofs.Rows.{plus-zero, zero-plus, plus-assoc}
 use Rattle.spp_dag.proofs.Shares.{same_rows}
 use Rattle.spp_site.specs.Profiles.{key_row}
-use Rattle.spp_pass.specs.declared.summing.CountedFrame.{CountedFrame}
+use Rattle.spp_pass.specs.declared.counted_frame.CountedFrame.{CountedFrame}
 use Rattle.spp_pass.specs.Outside.{frame_key, local_rows, AreBelow, AreStrandsAdded}
 use Rattle.spp_pass.proofs.Bounded.{same_self}
 

@@ -1,12 +1,12 @@
 -- The table's part of a pass: what it has between two events, and what each event does to it.
 use Rattle.std.specs.Prelude.{◌≡◌, ℕ, ◌+◌, Bool, true, false, not, List, [], ◌∷◌}
-use Rattle.spp_maxplus.specs.State.{unburdened, start, close, after_strand, after_sync}
+use Rattle.spp_maxplus.specs.declared.state.Burdens.{Burdens}
+use Rattle.spp_maxplus.specs.State.{start, close}
 use Rattle.spp_dag.specs.declared.row.Row.{Row}
 use Rattle.spp_dag.specs.declared.stack.EntryFrame.{EntryFrame}
 use Rattle.spp_dag.specs.declared.stack.FrameKind.{FrameKind}
 use Rattle.spp_dag.specs.declared.stack.FrameKind.TheVariants.{Root}
-use Rattle.spp_dag.specs.Stack.{after_child}
-use Rattle.spp_dag.specs.Steps.{closed_row}
+use Rattle.spp_dag.specs.Steps.{stranded, waited, returned, closed_row}
 use Rattle.spp_site.specs.Table.{Sums, empty, IsAdded}
 use Rattle.spp_site.specs.Marks.{with_mark, without}
 
@@ -39,7 +39,7 @@ full_row f work = record (closed_row f.entry work) { local = f.local }
 abbrev pub start_told : ℕ → Told
 start_told root = record {
   frames = record {
-    entry = record { kind = Root; at = 0; site = 0; func = root; before = 0; state = start; top_site = true; top_caller = true };
+    entry = record { kind = Root; at = 0; site = 0; func = root; before = 0; state = start; burdened = start; top_site = true; top_caller = true };
     local = 0;
     top_func = true;
   } ∷ [];
@@ -54,7 +54,7 @@ start_told root = record {
 -- a strand is added to the innermost frame
 abbrev pub strand_frames : ℕ → List Counted → List Counted
 strand_frames count [] = []
-strand_frames count (f ∷ fs) = record f { entry = record f.entry { state = after_strand count f.entry.state }; local = f.local + count } ∷ fs
+strand_frames count (f ∷ fs) = record f { entry = stranded count f.entry; local = f.local + count } ∷ fs
 
 abbrev pub strand_told : ℕ → Told → Told
 strand_told count t = record t { frames = strand_frames count t.frames; work = t.work + count }
@@ -62,7 +62,7 @@ strand_told count t = record t { frames = strand_frames count t.frames; work = t
 -- the innermost frame has waited for its children
 abbrev pub sync_frames : List Counted → List Counted
 sync_frames [] = []
-sync_frames (f ∷ fs) = record f { entry = record f.entry { state = after_sync f.entry.state } } ∷ fs
+sync_frames (f ∷ fs) = record f { entry = waited f.entry } ∷ fs
 
 abbrev pub sync_told : Told → Told
 sync_told t = record t { frames = sync_frames t.frames }
@@ -80,6 +80,7 @@ opened_frame kind at site func t f = record {
     func = func;
     before = t.work;
     state = start;
+    burdened = start;
     top_site = not (t.open_sites site);
     top_caller = f.top_func;
   };
@@ -101,15 +102,14 @@ open_told kind at site func t = record t {
 -- ---- a return
 
 -- the innermost frame has returned to the next
-abbrev pub return_frames : List Counted → List Counted
-return_frames [] = []
-return_frames (f ∷ []) = []
-return_frames (f ∷ g ∷ fs) =
-    record g { entry = record g.entry { state = after_child unburdened f.entry.kind f.entry.at (close f.entry.state) g.entry.state } } ∷ fs
+abbrev pub return_frames : Burdens → List Counted → List Counted
+return_frames burdens [] = []
+return_frames burdens (f ∷ []) = []
+return_frames burdens (f ∷ g ∷ fs) = record g { entry = returned burdens f.entry g.entry } ∷ fs
 
 -- it has closed, and the table has its row
-pub record IsReturned (f : Counted) (old new : Told) : Type 0 where
-  pub frames : new.frames ≡ return_frames old.frames
+pub record IsReturned (burdens : Burdens) (f : Counted) (old new : Told) : Type 0 where
+  pub frames : new.frames ≡ return_frames burdens old.frames
   pub open_sites : new.open_sites ≡ without f.entry.top_site f.entry.site old.open_sites
   pub open_funcs : new.open_funcs ≡ without f.top_func f.entry.func old.open_funcs
   pub work : new.work ≡ old.work

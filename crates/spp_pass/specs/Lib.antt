@@ -1,4 +1,4 @@
-pub mod Weights
+pub mod LeanFrames
 pub mod Passes
 pub mod Shares
 pub mod Outside

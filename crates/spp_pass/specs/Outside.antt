@@ -5,6 +5,8 @@ use Rattle.std.specs.List.{AllByRecursion}
 use Rattle.spp_event.specs.declared.records.Event.{Event}
 use Rattle.spp_event.specs.Recordings.{Recording}
 use Rattle.spp_frame.specs.Nesting.{AreEvents}
+use Rattle.spp_maxplus.specs.declared.state.Burdens.{Burdens}
+use Rattle.spp_maxplus.specs.Weights.{weights_of}
 use Rattle.spp_dag.specs.declared.row.Row.{Row}
 use Rattle.spp_dag.specs.declared.stack.EntryFrame.{EntryFrame}
 use Rattle.spp_dag.specs.Trace.{IsWellFormed}
@@ -16,15 +18,14 @@ use Rattle.spp_site.specs.Table.{Sums, empty}
 use Rattle.spp_stack.specs.Chain.{StackOf, HasFrames}
 use Rattle.spp_site.specs.Profiles.{key_row}
 use Rattle.spp_pass.specs.declared.part.PartResult.{PartResult}
-use Rattle.spp_pass.specs.declared.summing.CountedFrame.{CountedFrame}
-use Rattle.spp_pass.specs.Weights.{weights_of}
+use Rattle.spp_pass.specs.declared.counted_frame.CountedFrame.{CountedFrame}
 use Rattle.spp_pass.specs.Passes.{Seen}
 
--- The trace is well-formed; the frames of the stack are those that are open before its event at i, and its work is that
--- of the events before.
-abbrev pub StandsAt : Recording → ℕ → StackOf → Type 0
-StandsAt trace i stack = (es : List Event) × AreEvents trace.records es × IsWellFormed es
-    × ((frames : List EntryFrame) × IsEntry es trace.root i frames stack.work × HasFrames stack frames)
+-- The trace is well-formed; the frames of the stack are those that are open before its event at i, with their states
+-- under the burdens, and its work is that of the events before.
+abbrev pub StandsAt : Recording → Burdens → ℕ → StackOf → Type 0
+StandsAt trace burdens i stack = (es : List Event) × AreEvents trace.records es × IsWellFormed es
+    × ((frames : List EntryFrame) × IsEntry es burdens trace.root i frames stack.work × HasFrames stack frames)
 
 -- ---- frames that were open before
 
@@ -37,10 +38,11 @@ spawn_of (Some c) = Some c.1
 abbrev pub entered_frame : EntryFrame → Bool → CountedFrame
 entered_frame f top_func = record {
   plain = weights_of f.state;
-  burdened = weights_of f.state;
+  burdened = weights_of f.burdened;
   before = f.before;
   local = 0;
   child = spawn_of f.state.child;
+  burdened_child = spawn_of f.burdened.child;
   at = f.at;
   site = f.site;
   func = f.func;
@@ -64,6 +66,7 @@ pub record IsBegun (f : EntryFrame) (fs : List EntryFrame) (before : ℕ) (s : S
   pub table : s.table ≡ empty
   pub ends : s.ends ≡ []
   pub joins : s.joins ≡ []
+  pub burdened_joins : s.burdened_joins ≡ []
 
 -- these frames are outside
 abbrev pub IsOutside : Option StackOf → List EntryFrame → Type 0
@@ -110,3 +113,4 @@ pub record IsSuspended (s : Seen) (p : PartResult) : Type 0 where
   pub share : (key : Option ℕ) → key_row p.share key ≡ plus (key_row s.table key) (local_rows s.frames key)
   pub ends : p.choices.ends.items ≡ s.ends
   pub joins : p.choices.joins.items ≡ s.joins
+  pub burdened_joins : p.choices.burdened_joins.items ≡ s.burdened_joins

@@ -13,11 +13,13 @@ use Rattle.spp_site.specs.Marks.{is_marked, with_mark, without}
 use Rattle.spp_dag.specs.declared.choices.End.{End}
 use Rattle.spp_dag.specs.declared.choices.Choice.{Choice}
 use Rattle.spp_site.specs.declared.closed_frame.ClosedFrame.{ClosedFrame}
-use Rattle.spp_pass.specs.declared.summing.CountedFrame.{CountedFrame}
-use Rattle.spp_pass.specs.declared.summing.Returned.{Returned}
+use Rattle.spp_pass.specs.declared.counted_frame.CountedFrame.{CountedFrame}
+use Rattle.spp_pass.specs.declared.counted_frame.Returned.{Returned}
 use Rattle.spp_pass.specs.declared.summing.Summing.{Summing}
 use Rattle.spp_pass.specs.declared.summing.FirstPass.{FirstPass}
-use Rattle.spp_pass.specs.Weights.{start, close, after_strand, after_sync, after_child}
+use Rattle.spp_maxplus.specs.declared.weights.Weights.{Weights}
+use Rattle.spp_maxplus.specs.Weights.{start, close, after_strand, after_sync}
+use Rattle.spp_pass.specs.LeanFrames.{after_child}
 
 -- ---- one frame
 
@@ -26,9 +28,17 @@ abbrev pub child_of : ℕ → Option ℕ → Option (ℕ × ℕ)
 child_of weight None = None
 child_of weight (Some spawn) = Some (weight, spawn)
 
+-- the state of a frame with these weights and that waiting child
+abbrev pub standing : Weights → Option ℕ → State
+standing w child = record { spine = w.spine; child = child_of w.child child }
+
 -- the frame's state without burdens
 abbrev pub state_of : CountedFrame → State
-state_of f = record { spine = f.plain.spine; child = child_of f.plain.child f.child }
+state_of f = standing f.plain f.child
+
+-- and with them
+abbrev pub burdened_state_of : CountedFrame → State
+burdened_state_of f = standing f.burdened f.burdened_child
 
 -- a frame that is opened at `at` when the work so far is `before`
 abbrev pub opened_frame : FrameKind → ℕ → ℕ → ℕ → ℕ → Bool → Bool → Bool → CountedFrame
@@ -38,6 +48,7 @@ opened_frame kind at site func before top_site top_caller top_func = record {
   before = before;
   local = 0;
   child = None;
+  burdened_child = None;
   at = at;
   site = site;
   func = func;
@@ -57,7 +68,7 @@ strand_frame count f = record f {
 
 -- it has waited for its children
 abbrev pub sync_frame : CountedFrame → CountedFrame
-sync_frame f = record f { plain = after_sync f.plain; burdened = after_sync f.burdened; child = None }
+sync_frame f = record f { plain = after_sync f.plain; burdened = after_sync f.burdened; child = None; burdened_child = None }
 
 -- Of a waiting child of that weight, if there is one, and the one spawned at `at`, through which the weight is
 -- `through`, the greater; of equal ones the first.
@@ -69,18 +80,20 @@ greater_child weight (Some spawn) at through = cond (nat_lt weight through) (Som
 abbrev pub returned_of : CountedFrame → Returned
 returned_of f = record { kind = f.kind; at = f.at; plain = close f.plain; burdened = close f.burdened }
 
--- the waiting child of a frame, where a frame has returned to it
-abbrev pub child_after : FrameKind → Returned → CountedFrame → Option ℕ
-child_after Root r g = g.child
-child_after Called r g = g.child
-child_after Spawned r g = greater_child g.plain.child g.child r.at (g.plain.spine + r.plain)
+-- The waiting child of a frame with these weights, where a frame has returned to it that was opened at `at`. From the
+-- spine on the weight through that frame is `through`.
+abbrev pub child_after : FrameKind → ℕ → ℕ → Weights → Option ℕ → Option ℕ
+child_after Root at through w child = child
+child_after Called at through w child = child
+child_after Spawned at through w child = greater_child w.child child at (w.spine + through)
 
 -- the frame g, where a frame has returned to it
 abbrev pub received : Burdens → Returned → CountedFrame → CountedFrame
 received burdens r g = record g {
   plain = after_child unburdened r.kind r.plain g.plain;
   burdened = after_child burdens r.kind r.burdened g.burdened;
-  child = child_after r.kind r g;
+  child = child_after r.kind r.at r.plain g.plain g.child;
+  burdened_child = child_after r.kind r.at (r.burdened + burdens.join) g.burdened g.burdened_child;
 }
 
 abbrev pub returned_frame : Burdens → CountedFrame → CountedFrame → CountedFrame
@@ -114,7 +127,7 @@ pub record FitsReturn (burdens : Burdens) (r : Returned) (g : CountedFrame) : Ty
 -- ---- the pass
 
 -- the open frames, innermost first; the sites by which they were entered, and the functions that they run; the work so
--- far; the table; and the choices
+-- far; the table; and the choices, with the joins of each of both paths
 pub record Seen : Type 0 where
   pub frames : List CountedFrame
   pub open_sites : ℕ → Bool
@@ -123,6 +136,7 @@ pub record Seen : Type 0 where
   pub table : Sums
   pub ends : List End
   pub joins : List Choice
+  pub burdened_joins : List Choice
 
 abbrev pub seen : Summing → Seen
 seen s = record {
@@ -133,6 +147,7 @@ seen s = record {
   table = s.table;
   ends = s.choices.ends.items;
   joins = s.choices.joins.items;
+  burdened_joins = s.choices.burdened_joins.items;
 }
 
 -- before the first event the root frame is open, which runs `root`
@@ -145,6 +160,7 @@ start_seen root = record {
   table = empty;
   ends = [];
   joins = [];
+  burdened_joins = [];
 }
 
 -- the innermost frame is as P says; there is one
@@ -187,13 +203,17 @@ listed (Some c) = c ∷ []
 abbrev pub joins_at : ℕ → State → List Choice
 joins_at at s = listed (choice_at at s)
 
--- what is noted where the innermost frame waits at `at`
-abbrev pub top_joins : ℕ → List CountedFrame → List Choice
-top_joins at [] = []
-top_joins at (f ∷ fs) = joins_at at (state_of f)
+-- what is noted where the innermost frame waits at `at`, for the path that this state of a frame settles
+abbrev pub top_joins : (CountedFrame → State) → ℕ → List CountedFrame → List Choice
+top_joins state at [] = []
+top_joins state at (f ∷ fs) = joins_at at (state f)
 
 abbrev pub sync_seen : ℕ → Seen → Seen
-sync_seen at s = record s { frames = on_top sync_frame s.frames; joins = s.joins ++ top_joins at s.frames }
+sync_seen at s = record s {
+  frames = on_top sync_frame s.frames;
+  joins = s.joins ++ top_joins state_of at s.frames;
+  burdened_joins = s.burdened_joins ++ top_joins burdened_state_of at s.frames;
+}
 
 -- ---- a call, and a spawn
 
@@ -241,6 +261,7 @@ pub record IsReturned (burdens : Burdens) (at : ℕ) (f g : CountedFrame) (fs : 
   pub table : IsAdded old.table new.table f.site (row_of f old.work)
   pub ends : new.ends ≡ old.ends ++ ends_at at f.kind f.at
   pub joins : new.joins ≡ old.joins ++ joins_at at (state_of f)
+  pub burdened_joins : new.burdened_joins ≡ old.burdened_joins ++ joins_at at (burdened_state_of f)
 
 -- whether the innermost of the frames has returned: the root alone doesn't
 abbrev pub Returns : Burdens → ℕ → Seen → List CountedFrame → Bool → Seen → Type 0
@@ -261,3 +282,4 @@ IsFinished at s (f ∷ fs) p = (p.figures ≡ record { work = s.work; span = clo
     × (p.dag ≡ record s.table { root = plus s.table.root (row_of f s.work) })
     × (p.choices.ends.items ≡ s.ends)
     × (p.choices.joins.items ≡ s.joins ++ joins_at at (state_of f))
+    × (p.choices.burdened_joins.items ≡ s.burdened_joins ++ joins_at at (burdened_state_of f))

@@ -21,12 +21,13 @@ pub struct PartResult {
     /// Its share in the rows by call site on the run's whole dag: the strands in the part, and the frames that close in
     /// it.
     pub share: Share,
-    /// Of the choices that settle the run's path those in the part, by their positions in the trace.
+    /// Of the choices that settle the run's paths those in the part, by their positions in the trace.
     pub choices: Choices,
 }
 
 /// The share of a part in the table of its run, and the choices in it, where `entry` has the frames that are open
-/// before the part. Neither has burdens.
+/// before the part under these burdens. The share has no burdens; the choices are those of the path without burdens and
+/// of the one under them.
 ///
 /// The events of the part are read once, each in constant time, amortized, besides one step in all for each site and
 /// function that is open before the part, and for each number of a site or of a function up to the greatest. A frame of
@@ -41,11 +42,13 @@ pub fn run_part(
     alloc: Global,
     part: &Part<'_, '_>,
     entry: Entry<'_>,
+    burdens: Burdens,
 ) -> Result<PartResult, AllocError>
-    requires { StandsAt part.now.trace part.now.first entry }
-    ensures { IfOk result (λ p. (es : List AnEvent) → AreEvents part.now.trace.records es → IsPartOf es part.now.trace.root part.now.first (part.now.first + part.now.count) p.share p.choices) }
+    requires { StandsAt part.now.trace burdens part.now.first entry }
+    ensures { IfOk result (λ p. (es : List AnEvent) → AreEvents part.now.trace.records es → IsPartOf es burdens part.now.trace.root part.now.first (part.now.first + part.now.count) p.share p.choices) }
 {
     part.keeps_limits();
+    burdens.are_small();
     let first = part.first();
     let mut summing = Summing::within(alloc, &entry)?;
     let mut outside = entry.below();
@@ -57,7 +60,7 @@ pub fn run_part(
             Event::Spawn { site, func } => summing.open(FrameKind::Spawned, at, site, func)?,
             Event::Ret => {
                 outside = summing.reach(outside)?;
-                summing.ret(at, Burdens::default())?;
+                summing.ret(at, burdens)?;
             }
             Event::Sync => summing.sync(at)?,
         }

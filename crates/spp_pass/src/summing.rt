@@ -2,24 +2,12 @@
 
 ghost use Rattle.std.specs.Prelude.{◌≡◌, ℕ, ◌+◌, ◌<◌, ◌≤◌, ◌^◌, ◌++◌, ◌∷◌, List, length, OnOk, IfOk};
 ghost use Rattle.spp_dag.specs.declared.stack.EntryFrame.{EntryFrame as FrameValue};
-ghost use Rattle.spp_dag.specs.Shares.{plus};
-ghost use Rattle.spp_dag.specs.Steps.{strand_row};
-ghost use Rattle.spp_site.specs.Rows.{Fits};
 ghost use Rattle.spp_stack.specs.Chain.{HasFrames};
-ghost use Rattle.spp_site.specs.Profiles.{key_row};
-ghost use Rattle.spp_maxplus.specs.State.{taken as taken_of};
-ghost use Rattle.spp_pass.specs.Weights.{close as close_of};
 ghost use Rattle.spp_pass.specs.Passes.{
   state_of,
-  strand_frame,
-  sync_frame,
-  closed_of,
-  returned_of,
-  received,
-  FitsStrand,
-  FitsReturn,
-  choice_at,
+  burdened_state_of,
   listed,
+  joins_at,
   ends_at,
   seen,
   start_seen,
@@ -34,24 +22,20 @@ ghost use Rattle.spp_pass.specs.Passes.{
   IsFinished,
 };
 ghost use Rattle.spp_pass.specs.Outside.{
-  entered_frame,
-  spawn_of,
   IsBegun,
   IsOutside,
   IsReached,
-  frame_key,
-  AreStrandsAdded,
   AreBelow,
   FitsOpen,
   IsSuspended,
 };
 
+use crate::counted_frame::CountedFrame;
 use crate::part::PartResult;
-use crate::weights::Weights;
-use spp_dag::{Choice, Choices, End, Figures, FrameKind, Row};
-use spp_maxplus::{Burdens, ChildKind};
-use spp_site::{ClosedFrame, Marks, Table};
-use spp_stack::{Entry, Node};
+use spp_dag::{Choice, Choices, End, Figures, FrameKind};
+use spp_maxplus::{Burdens, Weights};
+use spp_site::{Marks, Table};
+use spp_stack::Entry;
 use std::alloc::{AllocError, Global};
 
 /// What one reading of a run's events tells.
@@ -61,205 +45,8 @@ pub struct FirstPass {
     pub figures: Figures,
     /// Its rows by call site, on its whole dag.
     pub dag: Table,
-    /// What settles its path.
+    /// What settles its paths.
     pub choices: Choices,
-}
-
-/// What the return of a frame tells its parent.
-#[derive(Clone, Copy)]
-struct Returned {
-    /// How it was entered.
-    kind: FrameKind,
-    /// The position of the event that opened it.
-    at: u32,
-    /// The weight with which it closes, without burdens.
-    plain: u128,
-    /// And with the burdens.
-    burdened: u128,
-}
-
-/// An open frame.
-#[derive(Clone, Copy)]
-struct CountedFrame {
-    /// Its weights without burdens; `plain.child` is 0 where no child waits.
-    plain: Weights,
-    /// Its weights with the burdens.
-    burdened: Weights,
-    /// The work of the trace before its first event.
-    before: u128,
-    /// The counts of the strands directly in it, which the table doesn't have yet.
-    local: u128,
-    /// The spawn of the waiting child that `plain.child` is the weight of.
-    child: Option<u32>,
-    /// The position of the event that opened it; 0 for the root.
-    at: u32,
-    /// The call site by which it was entered; 0 for the root.
-    site: u32,
-    /// The function that runs in it.
-    func: u32,
-    /// How it was entered. The small fields are last, so that no padding is written between the weights.
-    kind: FrameKind,
-    /// No frame of the same site encloses it.
-    top_site: bool,
-    /// Its caller is enclosed by no frame of the caller's function.
-    top_caller: bool,
-    /// No frame of the same function encloses it.
-    top_func: bool,
-}
-
-impl CountedFrame {
-    /// A frame that was open before, with no strands of its own yet.
-    fn entered(node: &Node) -> Self
-        ensures { result ≡ entered_frame node.now.frame node.now.top_func }
-    {
-        let frame = node.frame;
-        CountedFrame {
-            plain: Weights::of(frame.state),
-            burdened: Weights::of(frame.state),
-            before: frame.before,
-            local: 0,
-            child: spawn_in(frame.state.child),
-            at: frame.at,
-            site: frame.site,
-            func: frame.func,
-            kind: frame.kind,
-            top_site: frame.top_site,
-            top_caller: frame.top_caller,
-            top_func: node.top_func,
-        }
-    }
-
-    /// A strand of that many instructions.
-    #[inline(always)]
-    fn strand(&mut self, count: u64)
-        requires { FitsStrand count self.old }
-        ensures { self.new ≡ strand_frame count self.old }
-    {
-        let count = u128::from(count);
-        self.plain.run(count);
-        self.burdened.run(count);
-        self.local += count;
-    }
-
-    /// A sync.
-    #[inline(always)]
-    fn sync(&mut self)
-        ensures { self.new ≡ sync_frame self.old }
-    {
-        self.plain.wait();
-        self.burdened.wait();
-        self.child = None;
-    }
-
-    /// The return of a frame that this one opened. Of two waiting children of the same weight the first is kept.
-    #[inline(always)]
-    fn receive(&mut self, child: Returned, burdens: Burdens)
-        requires { FitsReturn burdens child self.old }
-        ensures { self.new ≡ received burdens child self.old }
-    {
-        match child.kind {
-            FrameKind::Root => {}
-            FrameKind::Called => {
-                self.plain
-                    .receive(ChildKind::Called, child.plain, Burdens::default());
-                self.burdened
-                    .receive(ChildKind::Called, child.burdened, burdens);
-            }
-            FrameKind::Spawned => {
-                if self.child.is_none() || self.plain.child < self.plain.spine + child.plain {
-                    self.child = Some(child.at);
-                }
-                self.plain
-                    .receive(ChildKind::Spawned, child.plain, Burdens::default());
-                self.burdened
-                    .receive(ChildKind::Spawned, child.burdened, burdens);
-            }
-        }
-    }
-
-    /// What its return tells its parent.
-    #[inline(always)]
-    fn returned(&self) -> Returned
-        ensures { result ≡ returned_of self.now }
-    {
-        Returned {
-            kind: self.kind,
-            at: self.at,
-            plain: self.plain.close(),
-            burdened: self.burdened.close(),
-        }
-    }
-
-    /// The spawn of the child that the frame takes where it waits now: the child wins against an equal spine.
-    #[inline(always)]
-    fn taken(&self) -> Option<u32>
-        ensures { result ≡ taken_of (state_of self.now) }
-    {
-        match self.child {
-            Some(spawn) if self.plain.spine <= self.plain.child => Some(spawn),
-            _ => None,
-        }
-    }
-
-    /// What the path comes from where the frame waits at `at`, if a child waits in it.
-    #[inline(always)]
-    fn choice(&self, at: u32) -> Option<Choice>
-        ensures { result ≡ choice_at at (state_of self.now) }
-    {
-        match self.child {
-            Some(_) => Some(Choice {
-                at,
-                taken: self.taken(),
-            }),
-            None => None,
-        }
-    }
-
-    /// The frame as the table counts it, its strands included, where it closes when `work` is the work so far.
-    #[inline(always)]
-    fn closed(&self, work: u128) -> ClosedFrame
-        requires { self.now.before ≤ work }
-        ensures { result ≡ closed_of self.now work }
-    {
-        ClosedFrame {
-            local: self.local,
-            work: work - self.before,
-            span: self.plain.close(),
-            top_site: self.top_site,
-            top_caller: self.top_caller,
-        }
-    }
-
-    /// Adds the counts of its strands to its row, where there are any.
-    fn add_local(&self, table: &mut Table) -> Result<(), AllocError>
-        requires fits { Fits (plus (key_row table.old (frame_key self.now)) (strand_row self.now.local)) }
-        requires site { self.now.site < 65536 }
-        ensures { OnOk result (AreStrandsAdded table.old table.new (frame_key self.now) self.now.local) }
-    {
-        let local = self.local;
-        if local == 0 {
-            return Ok(());
-        }
-        let row = Row {
-            local,
-            ..Row::default()
-        };
-        match self.kind {
-            FrameKind::Root => table.add_root(&row),
-            FrameKind::Called | FrameKind::Spawned => table.add(self.site, &row)?,
-        }
-        Ok(())
-    }
-}
-
-/// The spawn of a waiting child.
-fn spawn_in(child: Option<(u128, u32)>) -> Option<u32>
-    ensures { result ≡ spawn_of child }
-{
-    match child {
-        Some((_, spawn)) => Some(spawn),
-        None => None,
-    }
 }
 
 /// Notes this choice, if there is one.
@@ -270,6 +57,18 @@ fn note_join(joins: &mut Vec<Choice>, choice: Option<Choice>) -> Result<(), Allo
     if let Some(choice) = choice {
         joins.push(choice)?;
     }
+    Ok(())
+}
+
+/// Notes what each of the two paths comes from where the frame waits at `at`, if a child waits in it.
+#[inline(always)]
+fn note_joins(choices: &mut Choices, frame: &CountedFrame, at: u32) -> Result<(), AllocError>
+    ensures ends { choices.new.ends ≡ choices.old.ends }
+    ensures joins { OnOk result (choices.new.joins.items ≡ choices.old.joins.items ++ joins_at at (state_of frame.now)) }
+    ensures burdened { OnOk result (choices.new.burdened_joins.items ≡ choices.old.burdened_joins.items ++ joins_at at (burdened_state_of frame.now)) }
+{
+    note_join(&mut choices.joins, frame.choice(at))?;
+    note_join(&mut choices.burdened_joins, frame.burdened_choice(at))?;
     Ok(())
 }
 
@@ -316,6 +115,7 @@ impl Summing {
             before: 0,
             local: 0,
             child: None,
+            burdened_child: None,
             at: 0,
             site: 0,
             func: root,
@@ -333,6 +133,7 @@ impl Summing {
             choices: Choices {
                 ends: Vec::new(alloc),
                 joins: Vec::new(alloc),
+                burdened_joins: Vec::new(alloc),
             },
         })
     }
@@ -354,6 +155,7 @@ impl Summing {
             choices: Choices {
                 ends: Vec::new(alloc),
                 joins: Vec::new(alloc),
+                burdened_joins: Vec::new(alloc),
             },
         })
     }
@@ -419,6 +221,7 @@ impl Summing {
             before: self.work,
             local: 0,
             child: None,
+            burdened_child: None,
             at,
             site,
             func,
@@ -439,7 +242,7 @@ impl Summing {
         ensures { OnOk result (seen self.new ≡ sync_seen at (seen self.old)) }
     {
         let last = self.frames.len() - 1;
-        note_join(&mut self.choices.joins, self.frames[last].choice(at))?;
+        note_joins(&mut self.choices, &self.frames[last], at)?;
         self.frames[last].sync();
         Ok(())
     }
@@ -455,7 +258,7 @@ impl Summing {
             return Ok(false);
         }
         let child = &self.frames[last];
-        note_join(&mut self.choices.joins, child.choice(at))?;
+        note_joins(&mut self.choices, child, at)?;
         note_end(&mut self.choices.ends, at, child.kind, child.at)?;
         self.table.close(child.site, &child.closed(self.work))?;
         self.open_sites.remove_if(child.top_site, child.site);
@@ -478,7 +281,7 @@ impl Summing {
             mut choices,
             ..
         } = self;
-        note_join(&mut choices.joins, root.choice(at))?;
+        note_joins(&mut choices, &root, at)?;
         table.add_root(&root.closed(work).row());
         Ok(FirstPass {
             figures: Figures {

@@ -23,8 +23,8 @@ fn bad(at: u32, why: Why) -> ProfileFault
     ProfileFault::Bad(Fault { at, why })
 }
 
-/// The figures of a run under these burdens, its table on the whole dag, and the choices that settle its path. The table
-/// and the choices have no burdens.
+/// The figures of a run under these burdens, its table on the whole dag, and the choices that settle its paths, the one
+/// without burdens and the one under them. The table has no burdens.
 ///
 /// The events are read once, each in constant time, amortized, behind a step for each site and function; the memory is
 /// linear in the numbers of frames that are open at a time, of spawned children, of sites and of functions. The work is
@@ -41,7 +41,7 @@ pub fn first_pass(
     ensures figures { IfOk result (λ p. AreFigures trace.now.records burdens p.figures) }
     ensures small { IfOk result (λ p. p.figures.work < 2 ^ 92) }
     ensures dag { IfOk result (λ p. IsDagTable trace.now p.dag) }
-    ensures choices { IfOk result (λ p. (es : List AnEvent) → AreEvents trace.now.records es → AreChoices es p.choices) }
+    ensures choices { IfOk result (λ p. (es : List AnEvent) → AreEvents trace.now.records es → AreChoices es burdens p.choices) }
     ensures fault { IfErr result (λ f. IsFaultOf trace.now.records f) }
 {
     burdens.are_small();

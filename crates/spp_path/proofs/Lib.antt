@@ -1,10 +1,12 @@
 pub mod Passing
 pub mod Modes
 pub mod Settled
-pub mod PathSpans
+pub mod OpenWeights
 pub mod Running
 pub mod Places
+pub mod Events
 pub mod Summed
 pub mod Sites
 pub mod Summing
+pub mod PathPass
 pub mod Tops

@@ -3,7 +3,7 @@
 use Rattle.std.proofs.Common.{◌≡◌, ℕ, suc, ◌+◌, ◌*◌, ◌≤◌, ◌<◌, Bool, true, false, refl, arith, sym, ◌∙◌, ap, subst, inl, inr, List, length, Some, None, nat_le, nat_eq, cond}
 use Rattle.std.proofs.lemmas.Bool.{cases_lt, both_ways, leb-true, leb-false, eqb-true, eq-eqb}
 use Rattle.spp_event.specs.declared.records.Event.{Event}
-use Rattle.spp_maxplus.specs.State.{unburdened}
+use Rattle.spp_maxplus.specs.declared.state.Burdens.{Burdens}
 use Rattle.spp_dag.specs.Trace.{event_at, returns, spawns, IsWellFormed, partner, owner, join}
 use Rattle.spp_dag.specs.Dag.{On, IsPath}
 use Rattle.spp_dag.proofs.Depth.{closed, opens_not_returns}
@@ -19,7 +19,7 @@ use Rattle.spp_dag.proofs.JoinPlaces.{join_waits}
 use Rattle.spp_dag.proofs.Ties.{path_exists_to}
 use Rattle.spp_path.proofs.Passing.{join_outside, Passes, passes_within, passes_return, passes_after, Clear, clear, passes_clear, enters_chosen, chosen_entered}
 
-module _ (es : List Event) (wf : IsWellFormed es) (ps : List ℕ) (p : IsPath es unburdened 0 (length es) ps) where
+module _ (es : List Event) (wf : IsWellFormed es) (bd : Burdens) (ps : List ℕ) (p : IsPath es bd 0 (length es) ps) where
   -- the path enters the child spawned at s
   abbrev E : ℕ → Type 0
   E s = On 0 ps (suc s)
@@ -131,7 +131,7 @@ module _ (es : List Event) (wf : IsWellFormed es) (ps : List ℕ) (p : IsPath es
   -- at the return of an entered child the path runs
   found : (s k : ℕ) → spawns (event_at es s) ≡ true → E s → 2 * partner es s + 1 ≡ k → Running k
   found s k t e a =
-      let c = clear es wf ps p (partner es s) (passes_return es wf ps p s t e) in
+      let c = clear es wf bd ps p (partner es s) (passes_return es wf bd ps p s t e) in
       record {
         held = λ u v x y. c.held u v (omega arith) (omega arith);
         free = λ q v f x. let z = c.free q v f (omega arith) in omega arith;
@@ -181,24 +181,24 @@ module _ (es : List Event) (wf : IsWellFormed es) (ps : List ℕ) (p : IsPath es
   running k t q (Seek u) s r = cc
 
   -- and the path passes it
-  pub runs_passes : (k t : ℕ) → k ≤ length es → Quiet (2 * k) t → (w : Onward) → Says t w → runs_to k w ≡ true → Passes es wf ps p k
-  runs_passes k t l q w s r = passes_clear es wf ps p k l (clear_of (running k t q w s r))
+  pub runs_passes : (k t : ℕ) → k ≤ length es → Quiet (2 * k) t → (w : Onward) → Says t w → runs_to k w ≡ true → Passes es wf bd ps p k
+  runs_passes k t l q w s r = passes_clear es wf bd ps p k l (clear_of (running k t q w s r))
     where
-      clear_of : Running (suc (2 * k)) → Clear es wf ps p k
+      clear_of : Running (suc (2 * k)) → Clear es wf bd ps p k
       clear_of r = record {
         held = λ u v a b. r.held u v (omega arith) (omega arith);
         free = λ s v e a. let z = r.free s v e (omega arith) in omega arith;
       }
 
   -- and else it doesn't
-  pub passes_runs : (k t : ℕ) → Quiet (2 * k) t → (w : Onward) → Says t w → runs_to k w ≡ false → Passes es wf ps p k → ⊥
+  pub passes_runs : (k t : ℕ) → Quiet (2 * k) t → (w : Onward) → Says t w → runs_to k w ≡ false → Passes es wf bd ps p k → ⊥
   passes_runs k t q Live s r on = cc
   passes_runs k t q (Skip u) s r on =
       let z : u < k = leb-false k u r in
-      s.out (passes_within es wf ps p u k (spawns_opens (event_at es u) s.spawned) z (let y = s.upper in let x = q.below in omega arith) on)
+      s.out (passes_within es wf bd ps p u k (spawns_opens (event_at es u) s.spawned) z (let y = s.upper in let x = q.below in omega arith) on)
   passes_runs k t q (Seek u) s r on =
       let z = q.ends u s.spawned s.lower in
-      let y = passes_after es wf ps p u k s.spawned s.entered (omega arith) on in
+      let y = passes_after es wf bd ps p u k s.spawned s.entered (omega arith) on in
       (let x = s.upper in let v = q.below in omega arith)
 
   -- one step over a join that the path doesn't come to
@@ -223,25 +223,25 @@ module _ (es : List Event) (wf : IsWellFormed es) (ps : List ℕ) (p : IsPath es
       }
 
   -- over one that it does come to, from a child
-  pub says_taken : (k s : ℕ) → IsChoice es unburdened k (Some s) → Passes es wf ps p k → Says (2 * k) (Seek s) × E s
+  pub says_taken : (k s : ℕ) → IsChoice es bd k (Some s) → Passes es wf bd ps p k → Says (2 * k) (Seek s) × E s
   says_taken k s is on =
       let t = is.0.0 in
       let at : join es s ≡ k = is.0.1 in
-      let e = enters_chosen es wf ps p k s is on in
+      let e = enters_chosen es wf bd ps p k s is on in
       let y : suc (partner es s) ≤ join es s = (join_spec es wf s (spawns_opens (event_at es s) t)).lower in
       (record { spawned = t; entered = e; lower = omega arith; upper = omega arith }, e)
 
   -- where none is taken no child is entered that joins there
-  pub none_entered : (k s : ℕ) → IsChoice es unburdened k None → spawns (event_at es s) ≡ true → E s → join es s ≡ k → ⊥
+  pub none_entered : (k s : ℕ) → IsChoice es bd k None → spawns (event_at es s) ≡ true → E s → join es s ≡ k → ⊥
   none_entered k s is t on at =
       let waits = join_waits es wf s t in
-      let c = chosen_entered es wf ps p s t on in
-      let qs = path_exists_to es wf unburdened (join es s) waits.0 waits.1 in
-      let none : IsChoice es unburdened (join es s) None = subst (λ j. IsChoice es unburdened j None) (sym at) is in
+      let c = chosen_entered es wf bd ps p s t on in
+      let qs = path_exists_to es wf bd (join es s) waits.0 waits.1 in
+      let none : IsChoice es bd (join es s) None = subst (λ j. IsChoice es bd j None) (sym at) is in
       none s c.0 qs.0 qs.1 (c.1 qs.0 qs.1)
 
   -- and over one that it comes to along the parent
-  pub says_none : (k t : ℕ) → Quiet (2 * k) t → (w : Onward) → Says t w → runs_to k w ≡ true → IsChoice es unburdened k None → Says (2 * k) Live
+  pub says_none : (k t : ℕ) → Quiet (2 * k) t → (w : Onward) → Says t w → runs_to k w ≡ true → IsChoice es bd k None → Says (2 * k) Live
   says_none k t q w s r is =
       let here = running k t q w s r in
       record {

@@ -4,18 +4,18 @@ use Rattle.std.proofs.Common.{◌≡◌, ℕ, suc, ◌+◌, ◌≤◌, ◌<◌, 
 use Rattle.std.proofs.lemmas.Bool.{both_ways}
 use Rattle.spp_event.specs.declared.records.Event.{Event}
 use Rattle.spp_event.specs.declared.records.Event.TheVariants.{Strand, Call, Spawn, Ret, Sync}
-use Rattle.spp_maxplus.specs.declared.state.State.{State}
-use Rattle.spp_maxplus.specs.State.{unburdened, close, after_strand, after_sync}
+use Rattle.spp_maxplus.specs.declared.state.Burdens.{Burdens}
+use Rattle.spp_maxplus.specs.State.{unburdened, close}
 use Rattle.spp_dag.specs.declared.stack.EntryFrame.{EntryFrame}
 use Rattle.spp_dag.specs.declared.stack.OpenFrame.{OpenFrame}
 use Rattle.spp_dag.specs.declared.stack.FrameKind.{FrameKind}
 use Rattle.spp_dag.specs.declared.stack.FrameKind.TheVariants.{Called, Spawned}
 use Rattle.spp_dag.specs.Trace.{event_at, weight_of, opens, spawns, syncs, returns, is_frame, closing, owner, IsWellFormed}
 use Rattle.spp_dag.specs.Dag.{IsGreatest, IsPath, On}
-use Rattle.spp_dag.specs.Stack.{after_child, run, root_frame}
+use Rattle.spp_dag.specs.Stack.{run, root_frame}
 use Rattle.spp_dag.specs.Laws.{HasTop}
 use Rattle.spp_dag.specs.Choices.{IsEntry, IsRunning, entry_frame, first_of}
-use Rattle.spp_dag.specs.Steps.{has_site, has_func, opened, entry_after}
+use Rattle.spp_dag.specs.Steps.{has_site, has_func, opened, stranded, waited, returned, entry_after}
 use Rattle.spp_dag.proofs.Depth.{inside}
 use Rattle.spp_dag.proofs.Owner.{owner_is, return_closes}
 use Rattle.spp_dag.proofs.Stacks.{plain_top, frames_give_spans}
@@ -68,11 +68,11 @@ new_frame kind i site func w f fs = record {
   top_func = not (has_func (f ∷ fs) func);
 }
 
--- another state of what the machine has of it
-abbrev pub with_state : State → PathFrame → PathFrame
-with_state s k = record k { entry = record k.entry { state = s } }
+-- another entry of the frame
+abbrev pub with_entry : EntryFrame → PathFrame → PathFrame
+with_entry f k = record k { entry = f }
 
-module _ (es : List Event) (wf : IsWellFormed es) (root : ℕ) (rest : List ℕ) (path : IsPath es unburdened 0 (length es) rest) where
+module _ (es : List Event) (wf : IsWellFormed es) (root : ℕ) (bd : Burdens) (rest : List ℕ) (path : IsPath es bd 0 (length es) rest) where
   -- ---- what the machine's innermost frame says of the position
 
   record Innermost (i : ℕ) (f : EntryFrame) : Type 0 where
@@ -81,7 +81,7 @@ module _ (es : List Event) (wf : IsWellFormed es) (root : ℕ) (rest : List ℕ)
     closes : returns (event_at es i) ≡ true → closing es (first f) ≡ i
     greatest : returns (event_at es i) ≡ true → IsGreatest es unburdened (first f) (closing es (first f)) (close f.state)
 
-  innermost : (i : ℕ) → i ≤ length es → (f : EntryFrame) (fs : List EntryFrame) (w : ℕ) → IsEntry es root i (f ∷ fs) w → Innermost i f
+  innermost : (i : ℕ) → i ≤ length es → (f : EntryFrame) (fs : List EntryFrame) (w : ℕ) → IsEntry es unburdened root i (f ∷ fs) w → Innermost i f
   innermost i l f fs w at = by at.0 at.1 at.2
     where
       by : (hs : List OpenFrame) → run unburdened 0 (take i es) (root_frame root ∷ []) ≡ Some hs → f ∷ fs ≡ map (entry_frame es root) hs → Innermost i f
@@ -91,7 +91,7 @@ module _ (es : List Event) (wf : IsWellFormed es) (root : ℕ) (rest : List ℕ)
           let is : entry_frame es root h ≡ f = (let z : f ≡ entry_frame es root h = cc in sym z) in
           let shape = shape_at es wf i l in
           let top_is : shape.top.first ≡ g = sym (ap (λ t. t.first) (plain_top es wf unburdened i l h (hs, (root, r)) shape)) in
-          let frame = traced_frame es root h.kind h.at h.site h.func (all_traced es wf root i l (h ∷ hs) r).0 in
+          let frame = traced_frame es root h.kind h.at h.site h.func (all_traced es wf unburdened root i l (h ∷ hs) r).0 in
           let closes = λ (t : returns (event_at es i) ≡ true).
           (let c = return_closes es 1 (λ _. 0) (λ _. 0) wf i shape t in
           let z : closing es g ≡ i = ap (closing es) (sym top_is ∙ c.1.first) ∙ c.2 in z) in
@@ -117,7 +117,7 @@ module _ (es : List Event) (wf : IsWellFormed es) (root : ℕ) (rest : List ℕ)
   -- Before the event at i, where w is the work so far, the machine has these frames open: `outs`, which the path
   -- doesn't enter, within `ks`, which it enters.
   pub record Place (i w : ℕ) (outs : List EntryFrame) (ks : List PathFrame) : Type 0 where
-    pub entry : IsEntry es root i (outs ++ entries ks) w
+    pub entry : IsEntry es unburdened root i (outs ++ entries ks) w
     pub beside : AllBeside outs
     pub entered : AllEntered i ks
     pub falls : Falls (suc i) (outs ++ entries ks)
@@ -129,7 +129,7 @@ module _ (es : List Event) (wf : IsWellFormed es) (root : ℕ) (rest : List ℕ)
   entered_keeps n i l o [] f h = tt
   entered_keeps n i l o (k ∷ ks) f h =
       let below : first k.entry < n = f.0 in
-      let r = running_keeps es wf rest path (first k.entry) i l (λ e. omega (arith, e)) in (
+      let r = running_keeps es wf bd rest path (first k.entry) i l (λ e. omega (arith, e)) in (
         h.0,
         (λ t. r.0 (h.1.0 t), λ t. h.1.1 (r.1 t)),
         entered_keeps (first k.entry) i l (omega arith) ks f.1 h.2,
@@ -138,13 +138,13 @@ module _ (es : List Event) (wf : IsWellFormed es) (root : ℕ) (rest : List ℕ)
   entered_quiet : (i : ℕ) → i < length es → spawns (event_at es i) ≡ false → syncs (event_at es i) ≡ false → (ks : List PathFrame) → AllEntered i ks → AllEntered (suc i) ks
   entered_quiet i l a b [] h = tt
   entered_quiet i l a b (k ∷ ks) h =
-      let r = running_quiet es wf rest path (first k.entry) i l a b in
+      let r = running_quiet es wf bd rest path (first k.entry) i l a b in
       (h.0, (λ t. r.0 (h.1.0 t), λ t. h.1.1 (r.1 t)), entered_quiet i l a b ks h.2)
 
-  entry_next : (i : ℕ) (e : Event) → event_at es i ≡ Some e → (fs : List EntryFrame) (w v : ℕ) → IsEntry es root i fs w → v ≡ w + weight_of (Some e)
-      → IsEntry es root (suc i) (entry_after i e w fs) v
+  entry_next : (i : ℕ) (e : Event) → event_at es i ≡ Some e → (fs : List EntryFrame) (w v : ℕ) → IsEntry es unburdened root i fs w → v ≡ w + weight_of (Some e)
+      → IsEntry es unburdened root (suc i) (entry_after unburdened i e w fs) v
   entry_next i e is fs w v at same =
-      subst (λ n. IsEntry es root (suc i) (entry_after i e w fs) n) (ap (λ o. w + weight_of o) is ∙ sym same) (entry_follows es wf root i e is fs w at)
+      subst (λ n. IsEntry es unburdened root (suc i) (entry_after unburdened i e w fs) n) (ap (λ o. w + weight_of o) is ∙ sym same) (entry_follows es wf unburdened root i e is fs w at)
 
   -- ---- one event
 
@@ -163,9 +163,9 @@ module _ (es : List Event) (wf : IsWellFormed es) (root : ℕ) (rest : List ℕ)
       pub not_on : (e : Event) → event_at es i ≡ Some e → syncs (Some e) ≡ false → On 0 rest i → ⊥
       not_on e is n on =
           let l = inside es i e is in
-          h.beside.0 (subst (λ g. On 0 rest g) (owner_out l) ((passes es wf rest path i l (ap syncs is ∙ n)).1 on).0)
+          h.beside.0 (subst (λ g. On 0 rest g) (owner_out l) ((passes es wf bd rest path i l (ap syncs is ∙ n)).1 on).0)
 
-      pub strand_out : (n : ℕ) → event_at es i ≡ Some (Strand n) → Place (suc i) (w + n) (record o { state = after_strand n o.state } ∷ os) ks
+      pub strand_out : (n : ℕ) → event_at es i ≡ Some (Strand n) → Place (suc i) (w + n) (stranded n o ∷ os) ks
       strand_out n is = record {
         entry = entry_next i (Strand n) is (o ∷ os ++ entries ks) w (w + n) h.entry refl;
         beside = h.beside;
@@ -175,7 +175,7 @@ module _ (es : List Event) (wf : IsWellFormed es) (root : ℕ) (rest : List ℕ)
         level = (let z = h.level in omega arith);
       }
 
-      pub sync_out : event_at es i ≡ Some Sync → Place (suc i) w (record o { state = after_sync o.state } ∷ os) ks
+      pub sync_out : event_at es i ≡ Some Sync → Place (suc i) w (waited o ∷ os) ks
       sync_out is = record {
         entry = entry_next i Sync is (o ∷ os ++ entries ks) w w h.entry (omega arith);
         beside = h.beside;
@@ -189,7 +189,7 @@ module _ (es : List Event) (wf : IsWellFormed es) (root : ℕ) (rest : List ℕ)
       pub call_out : (site func : ℕ) → event_at es i ≡ Some (Call site func) → Place (suc i) w (opened Called i site func w o (os ++ entries ks) ∷ o ∷ os) ks
       call_out site func is = record {
         entry = entry_next i (Call site func) is (o ∷ os ++ entries ks) w w h.entry (omega arith);
-        beside = ((λ on. not_on (Call site func) is refl ((enters_called es wf rest path i (ap opens is) (ap spawns is)).0 on)), h.beside);
+        beside = ((λ on. not_on (Call site func) is refl ((enters_called es wf bd rest path i (ap opens is) (ap spawns is)).0 on)), h.beside);
         entered = keeps_out (inside es i (Call site func) is);
         falls = ((let z : suc i < suc (suc i) = omega arith in z), h.falls);
         open_frames = h.open_frames;
@@ -200,7 +200,7 @@ module _ (es : List Event) (wf : IsWellFormed es) (root : ℕ) (rest : List ℕ)
       spawn_out site func is = record {
         entry = entry_next i (Spawn site func) is (o ∷ os ++ entries ks) w w h.entry (omega arith);
         beside = (
-          (λ on. h.beside.0 (subst (λ g. On 0 rest g) (owner_out (inside es i (Spawn site func) is)) (enters_parent es wf rest path i (ap spawns is) on))),
+          (λ on. h.beside.0 (subst (λ g. On 0 rest g) (owner_out (inside es i (Spawn site func) is)) (enters_parent es wf bd rest path i (ap spawns is) on))),
           h.beside,
         );
         entered = keeps_out (inside es i (Spawn site func) is);
@@ -211,7 +211,7 @@ module _ (es : List Event) (wf : IsWellFormed es) (root : ℕ) (rest : List ℕ)
 
     -- a return to another frame that isn't entered
     pub return_out : (o p : EntryFrame) (os : List EntryFrame) (ks : List PathFrame) → Place i w (o ∷ p ∷ os) ks → event_at es i ≡ Some Ret
-        → Place (suc i) w (record p { state = after_child unburdened o.kind o.at (close o.state) p.state } ∷ os) ks
+        → Place (suc i) w (returned unburdened o p ∷ os) ks
     return_out o p os ks h is = record {
       entry = entry_next i Ret is (o ∷ p ∷ os ++ entries ks) w w h.entry (omega arith);
       beside = h.beside.1;
@@ -223,13 +223,13 @@ module _ (es : List Event) (wf : IsWellFormed es) (root : ℕ) (rest : List ℕ)
 
     -- and to the innermost one that is
     pub return_back : (o : EntryFrame) (k : PathFrame) (ks : List PathFrame) → Place i w (o ∷ []) (k ∷ ks) → event_at es i ≡ Some Ret
-        → Place (suc i) w [] (with_state (after_child unburdened o.kind o.at (close o.state) k.entry.state) k ∷ ks)
+        → Place (suc i) w [] (with_entry (returned unburdened o k.entry) k ∷ ks)
     return_back o k ks h is = record {
       entry = entry_next i Ret is (o ∷ entries (k ∷ ks)) w w h.entry (omega arith);
       beside = tt;
       entered = keeps_out o [] (k ∷ ks) h (inside es i Ret is);
       falls = falls_under (first o) (suc (suc i)) (entries (k ∷ ks)) (let z : first o < suc i = h.falls.0 in omega arith) h.falls.1;
-      open_frames = open_state w k.entry (after_child unburdened o.kind o.at (close o.state) k.entry.state) (entries ks) h.open_frames;
+      open_frames = open_state w k.entry (returned unburdened o k.entry).state (returned unburdened o k.entry).burdened (entries ks) h.open_frames;
       level = (let z = h.level in omega arith);
     }
 
@@ -249,25 +249,25 @@ module _ (es : List Event) (wf : IsWellFormed es) (root : ℕ) (rest : List ℕ)
       pub is_on : (e : Event) → event_at es i ≡ Some e → syncs (Some e) ≡ false → (k.running ≡ true) ↔ On 0 rest i
       is_on e is n =
           let l = inside es i e is in
-          let p = passes es wf rest path i l (ap syncs is ∙ n) in (
+          let p = passes es wf bd rest path i l (ap syncs is ∙ n) in (
             λ t. p.0 (subst (λ g. IsRunning es rest g i) (sym (owner_in l)) (h.entered.1.0 t)),
             λ on. h.entered.1.1 (subst (λ g. IsRunning es rest g i) (owner_in l) (p.1 on)),
           )
 
       pub strand_in : (n m : ℕ) → event_at es i ≡ Some (Strand n)
-          → Place (suc i) (w + n) [] (record k { entry = record k.entry { state = after_strand n k.entry.state }; local = m } ∷ ks)
+          → Place (suc i) (w + n) [] (record k { entry = stranded n k.entry; local = m } ∷ ks)
       strand_in n m is = record {
         entry = entry_next i (Strand n) is (entries (k ∷ ks)) w (w + n) h.entry refl;
         beside = tt;
         entered = entered_quiet i (inside es i (Strand n) is) (ap spawns is) (ap syncs is) (k ∷ ks) h.entered;
         falls = higher;
-        open_frames = open_more w (w + n) (omega arith) (record k.entry { state = after_strand n k.entry.state } ∷ entries ks)
-            (open_state w k.entry (after_strand n k.entry.state) (entries ks) h.open_frames);
+        open_frames = open_more w (w + n) (omega arith) (stranded n k.entry ∷ entries ks)
+            (open_state w k.entry (stranded n k.entry).state (stranded n k.entry).burdened (entries ks) h.open_frames);
         level = (let z = h.level in omega arith);
       }
 
       pub sync_in : event_at es i ≡ Some Sync
-          → Place (suc i) w [] (record k { entry = record k.entry { state = after_sync k.entry.state }; running = true } ∷ ks)
+          → Place (suc i) w [] (record k { entry = waited k.entry; running = true } ∷ ks)
       sync_in is =
           let l = inside es i Sync is in
           let o = owner_in l in
@@ -277,25 +277,25 @@ module _ (es : List Event) (wf : IsWellFormed es) (root : ℕ) (rest : List ℕ)
             entered = (
               h.entered.0,
               (
-                (λ _. subst (λ g. IsRunning es rest g (suc i)) o (running_waited es wf rest path i l (ap syncs is) (subst (λ g. On 0 rest g) (sym o) h.entered.0))),
+                (λ _. subst (λ g. IsRunning es rest g (suc i)) o (running_waited es wf bd rest path i l (ap syncs is) (subst (λ g. On 0 rest g) (sym o) h.entered.0))),
                 λ _. refl,
               ),
               keeps_in l,
             );
             falls = higher;
-            open_frames = open_state w k.entry (after_sync k.entry.state) (entries ks) h.open_frames;
+            open_frames = open_state w k.entry (waited k.entry).state (waited k.entry).burdened (entries ks) h.open_frames;
             level = (let z = h.level in omega arith);
           }
 
       first_runs : On 0 rest (suc i) → (true ≡ true) ↔ IsRunning es rest (suc i) (suc i)
-      first_runs on = (λ _. running_first es wf rest path (suc i) on, λ _. refl)
+      first_runs on = (λ _. running_first es wf bd rest path (suc i) on, λ _. refl)
 
       -- a call where it runs on is entered
       pub call_in : (site func : ℕ) → event_at es i ≡ Some (Call site func) → k.running ≡ true
           → Place (suc i) w [] (new_frame Called i site func w k.entry (entries ks) ∷ k ∷ ks)
       call_in site func is t =
           let l = inside es i (Call site func) is in
-          let on = (enters_called es wf rest path i (ap opens is) (ap spawns is)).1 ((is_on (Call site func) is refl).0 t) in
+          let on = (enters_called es wf bd rest path i (ap opens is) (ap spawns is)).1 ((is_on (Call site func) is refl).0 t) in
           record {
             entry = entry_next i (Call site func) is (entries (k ∷ ks)) w w h.entry (omega arith);
             beside = tt;
@@ -313,7 +313,7 @@ module _ (es : List Event) (wf : IsWellFormed es) (root : ℕ) (rest : List ℕ)
           record {
             entry = entry_next i (Call site func) is (entries (k ∷ ks)) w w h.entry (omega arith);
             beside = (
-              (λ on. both_ways k.running t ((is_on (Call site func) is refl).1 ((enters_called es wf rest path i (ap opens is) (ap spawns is)).0 on))),
+              (λ on. both_ways k.running t ((is_on (Call site func) is refl).1 ((enters_called es wf bd rest path i (ap opens is) (ap spawns is)).0 on))),
               tt,
             );
             entered = entered_quiet i l (ap spawns is) (ap syncs is) (k ∷ ks) h.entered;
@@ -336,7 +336,7 @@ module _ (es : List Event) (wf : IsWellFormed es) (root : ℕ) (rest : List ℕ)
               first_runs on,
               (
                 h.entered.0,
-                ((λ e. cc), λ r. absurd (running_stops es wf rest path i (ap spawns is) on (subst (λ g. IsRunning es rest g (suc i)) (sym o) r))),
+                ((λ e. cc), λ r. absurd (running_stops es wf bd rest path i (ap spawns is) on (subst (λ g. IsRunning es rest g (suc i)) (sym o) r))),
                 keeps_in l,
               ),
             );
@@ -351,7 +351,7 @@ module _ (es : List Event) (wf : IsWellFormed es) (root : ℕ) (rest : List ℕ)
       spawn_beside site func is off =
           let l = inside es i (Spawn site func) is in
           let o = owner_in l in
-          let r = running_beside es wf rest path i l (ap spawns is) off in
+          let r = running_beside es wf bd rest path i l (ap spawns is) off in
           record {
             entry = entry_next i (Spawn site func) is (entries (k ∷ ks)) w w h.entry (omega arith);
             beside = (off, tt);
@@ -375,12 +375,12 @@ module _ (es : List Event) (wf : IsWellFormed es) (root : ℕ) (rest : List ℕ)
           (m.frame, m.closes (ap returns is), m.greatest (ap returns is))
 
     pub return_in : (k g : PathFrame) (ks : List PathFrame) → Place i w [] (k ∷ g ∷ ks) → event_at es i ≡ Some Ret
-        → Place (suc i) w [] (with_state (after_child unburdened k.entry.kind k.entry.at (close k.entry.state) g.entry.state) g ∷ ks)
+        → Place (suc i) w [] (with_entry (returned unburdened k.entry g.entry) g ∷ ks)
     return_in k g ks h is = record {
       entry = entry_next i Ret is (entries (k ∷ g ∷ ks)) w w h.entry (omega arith);
       beside = tt;
       entered = keeps_in k (g ∷ ks) h (inside es i Ret is);
       falls = falls_under (first k.entry) (suc (suc i)) (entries (g ∷ ks)) (let z : first k.entry < suc i = h.falls.0 in omega arith) h.falls.1;
-      open_frames = open_state w g.entry (after_child unburdened k.entry.kind k.entry.at (close k.entry.state) g.entry.state) (entries ks) h.open_frames.2;
+      open_frames = open_state w g.entry (returned unburdened k.entry g.entry).state (returned unburdened k.entry g.entry).burdened (entries ks) h.open_frames.2;
       level = (let z = h.level in omega arith);
     }

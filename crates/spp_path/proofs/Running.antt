@@ -4,7 +4,7 @@ use Rattle.std.proofs.Common.{◌≡◌, ℕ, suc, ◌<◌, ◌↔◌, Bool, tru
 use Rattle.std.proofs.lemmas.Bool.{cases_lt, both_ways, and_parts, and_from, eqb-true, eq-eqb}
 use Rattle.spp_event.specs.declared.records.Event.{Event}
 use Rattle.spp_event.specs.declared.records.Event.TheVariants.{Strand, Call, Spawn, Ret, Sync}
-use Rattle.spp_maxplus.specs.State.{unburdened}
+use Rattle.spp_maxplus.specs.declared.state.Burdens.{Burdens}
 use Rattle.spp_dag.specs.Trace.{event_at, opens, spawns, syncs, IsWellFormed, owner, partner, join}
 use Rattle.spp_dag.specs.Dag.{IsPath, On}
 use Rattle.spp_dag.specs.Choices.{IsRunning}
@@ -26,7 +26,7 @@ spawns_not_syncs (Some (Spawn s f)) h = refl
 spawns_not_syncs (Some Ret) h = cc
 spawns_not_syncs (Some Sync) h = cc
 
-module _ (es : List Event) (wf : IsWellFormed es) (rest : List ℕ) (path : IsPath es unburdened 0 (length es) rest) where
+module _ (es : List Event) (wf : IsWellFormed es) (bd : Burdens) (rest : List ℕ) (path : IsPath es bd 0 (length es) rest) where
   -- past an event with which the frame spawns nothing it runs on as before
   running_next : (f i : ℕ) → (spawns (event_at es i) ≡ true → owner es i ≡ f → ⊥) → IsRunning es rest f i → IsRunning es rest f (suc i)
   running_next f i n r = (
@@ -116,21 +116,21 @@ module _ (es : List Event) (wf : IsWellFormed es) (rest : List ℕ) (path : IsPa
 
   -- the path passes an event at which no frame waits where its frame runs on
   pub passes : (i : ℕ) → i < length es → syncs (event_at es i) ≡ false → IsRunning es rest (owner es i) i ↔ On 0 rest i
-  passes i l n = running_passes es wf unburdened rest path i l n
+  passes i l n = running_passes es wf bd rest path i l n
 
   -- it enters a called frame where it passes the call
   pub enters_called : (c : ℕ) → opens (event_at es c) ≡ true → spawns (event_at es c) ≡ false → On 0 rest (suc c) ↔ On 0 rest c
-  enters_called c t n = path_calls es wf unburdened rest path c t n
+  enters_called c t n = path_calls es wf bd rest path c t n
 
   -- and a spawned one only where it enters its parent
   pub enters_parent : (s : ℕ) → spawns (event_at es s) ≡ true → On 0 rest (suc s) → On 0 rest (owner es s)
   enters_parent s t on =
-      let h = shape es 1 (λ _. 0) (λ _. 0) wf (join es s) (join_spec es wf s (spawns_opens (event_at es s) t)).upper in
-      ((path_enters es wf unburdened rest path s t h).0 on).0
+      let h = shape es 1 (λ _. bd.continuation) (λ _. bd.join) wf (join es s) (join_spec es wf s (spawns_opens (event_at es s) t)).upper in
+      ((path_enters es wf bd rest path s t h).0 on).0
 
   -- the marks tell which spawned children it enters
-  pub marked : (marks : List Bool) → AreEntered es marks → (s : ℕ) → s < length es → spawns (event_at es s) ≡ true → (slice_index_or marks s false ≡ true) ↔ On 0 rest (suc s)
+  pub marked : (marks : List Bool) → AreEntered es bd marks → (s : ℕ) → s < length es → spawns (event_at es s) ≡ true → (slice_index_or marks s false ≡ true) ↔ On 0 rest (suc s)
   marked marks m s l t = (
     λ e. ((m.1 s l).0 e).1 rest path,
-    λ on. (m.1 s l).1 (t, λ ps p. subst (λ q. On 0 q (suc s)) (path_unique es unburdened 0 (length es) rest ps path p) on),
+    λ on. (m.1 s l).1 (t, λ ps p. subst (λ q. On 0 q (suc s)) (path_unique es bd 0 (length es) rest ps path p) on),
   )

@@ -73,7 +73,7 @@ below_run n i (e ∷ es) fs gs b h r = by (advance unburdened i e fs) refl (belo
         go hs (subst (SomeBelow n) q t) (ap (λ (o : Option (List OpenFrame)). elim o [ None ↦ None | Some ks ↦ run unburdened (suc i) es ks ]) (sym q) ∙ r)
 
 -- the innermost of these frames
-pub entry_below : (n : ℕ) → 0 < n → (es : List Event) → AllEnterBelow n es → (root i : ℕ) (f : EntryFrame) (fs : List EntryFrame) (w : ℕ) → IsEntry es root i (f ∷ fs) w → f.site < n
+pub entry_below : (n : ℕ) → 0 < n → (es : List Event) → AllEnterBelow n es → (root i : ℕ) (f : EntryFrame) (fs : List EntryFrame) (w : ℕ) → IsEntry es unburdened root i (f ∷ fs) w → f.site < n
 entry_below n some es enter root i f fs w at =
     by at.0 (below_run n 0 (take i es) (root_frame root ∷ []) at.0 (first_enter n i es enter) (some, tt) at.1) at.2
   where

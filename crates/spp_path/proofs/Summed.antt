@@ -1,21 +1,21 @@
 -- What the pass that sums up the rows of the path keeps: the table and what the open entered frames owe are the shares
 -- so far.
 use Rattle.std.proofs.Common.{◌≡◌, ℕ, suc, ◌+◌, ◌-◌, ◌*◌, ◌<◌, ◌≤◌, ◌^◌, ◌↔◌, ◌&&◌, ◌||◌, Bool, true, false, cond, not, nat_eq, List, [], ◌∷◌, ◌++◌, length, map, Option, Some, None, refl, sym, ap, ap₂, subst, ◌∙◌, arith, inl, inr}
-use Rattle.std.proofs.lemmas.Bool.{eq-eqb, ne_eqb, cases_eq, cases_Bool, false_from_ne_true, cond-true, cond-false}
+use Rattle.std.proofs.lemmas.Bool.{eq-eqb, ne_eqb, cases_eq, cases_Bool, false_from_ne_true}
 use Rattle.spp_event.specs.declared.records.Event.{Event}
 use Rattle.spp_event.specs.declared.records.Event.TheVariants.{Strand, Call, Spawn, Ret, Sync}
-use Rattle.spp_maxplus.specs.State.{unburdened, close, after_strand, after_sync}
+use Rattle.spp_maxplus.specs.declared.state.Burdens.{Burdens}
+use Rattle.spp_maxplus.specs.State.{unburdened, close}
 use Rattle.spp_dag.specs.declared.row.Row.{Row}
 use Rattle.spp_dag.specs.declared.stack.EntryFrame.{EntryFrame}
 use Rattle.spp_dag.specs.declared.stack.FrameKind.{FrameKind}
 use Rattle.spp_dag.specs.declared.stack.FrameKind.TheVariants.{Called, Spawned}
-use Rattle.spp_dag.specs.Trace.{event_at, weight, weight_of, closing, IsWellFormed}
+use Rattle.spp_dag.specs.Trace.{event_at, weight_of, IsWellFormed}
 use Rattle.spp_dag.specs.Dag.{IsPath, On}
 use Rattle.spp_dag.specs.Rows.{AreSpans, contains}
-use Rattle.spp_dag.specs.Stack.{after_child}
 use Rattle.spp_dag.specs.Shares.{share, plus, zero_row}
-use Rattle.spp_dag.specs.Choices.{IsEntry, first_of}
-use Rattle.spp_dag.specs.Steps.{site_by, key_of, same_key, has_site, has_func, closed_row, strand_row, gain}
+use Rattle.spp_dag.specs.Choices.{IsEntry}
+use Rattle.spp_dag.specs.Steps.{stranded, waited, returned, site_by, key_of, same_key, has_site, has_func, closed_row, strand_row, gain}
 use Rattle.spp_dag.proofs.Profiles.{contains_passed}
 use Rattle.spp_dag.proofs.Shares.{shares_law}
 use Rattle.spp_dag.proofs.StepsShares.{share_follows}
@@ -23,22 +23,18 @@ use Rattle.spp_site.specs.Table.{Sums, row_at, IsAdded}
 use Rattle.spp_site.proofs.Rows.{plus-zero}
 use Rattle.spp_path.specs.declared.rows.EnteredFrame.{EnteredFrame}
 use Rattle.spp_site.specs.Profiles.{key_row}
-use Rattle.spp_path.specs.Rows.{Told, entered_row, runs, strand_told, beside_told, enter_told, entered_frame, skip_told, wait_told, sync_told, leave_told, IsReturned}
-use Rattle.spp_path.proofs.PathSpans.{passed, entered_span}
+use Rattle.spp_path.specs.Rows.{Told, entered_row, runs, enter_told, entered_frame, skip_told, leave_told, IsReturned}
 use Rattle.spp_site.proofs.RowSums.{full_row, strand_owed, none_owed, closed_owed, Low, low_zero, low_plus, low_strand, low_closed}
 use Rattle.spp_site.specs.Marks.{with_mark, without}
 use Rattle.spp_site.proofs.Marked.{marked_more, marked_less}
-use Rattle.spp_path.proofs.Places.{PathFrame, AreMarked, entries, first, new_frame, with_state, Place, not_on, is_on, strand_out, sync_out, call_out, spawn_out, return_out, return_back, strand_in, sync_in, call_in, call_beside, spawn_in, spawn_beside, return_closing, return_in}
+use Rattle.spp_path.proofs.Events.{StrandDone, SyncDone, CallDone, SpawnDone, ReturnDone, HasFirst}
+use Rattle.spp_path.proofs.OpenWeights.{ClosesIn}
+use Rattle.spp_path.proofs.Places.{PathFrame, AreMarked, entries, first, new_frame, with_entry, Place, not_on, is_on, strand_out, sync_out, call_out, spawn_out, return_out, return_back, strand_in, sync_in, call_in, call_beside, spawn_in, spawn_beside, return_in}
 
 -- what the open frames owe the row of a key: the path's strands directly in them
 abbrev pub owed : List PathFrame → Option ℕ → Row
 owed [] key = zero_row
 owed (k ∷ ks) key = plus (cond (same_key (key_of k.entry) key) (strand_row k.local) zero_row) (owed ks key)
-
--- without weight a position adds nothing
-pub no_weight : (b : Bool) (n : ℕ) → n ≡ 0 → cond b n 0 ≡ 0
-no_weight true n e = e
-no_weight false n e = refl
 
 turned : (a b : ℕ) → nat_eq a b ≡ nat_eq b a
 turned a b = elim (cases_eq a b) [
@@ -53,34 +49,7 @@ added o site r t u k h None = h.root ∙ ap (λ x. cond (same_key x None) (plus 
 added o site r t u k h (Some s) =
     h.sites s ∙ ap (λ x. cond x (plus (row_at t s) r) (row_at t s)) (turned s site ∙ ap (λ x. same_key x (Some s)) (sym k))
 
--- ---- what an event makes of what the pass has
-
--- a strand
-abbrev pub StrandDone : ℕ → Told → Told → Type 0
-StrandDone n old new = (runs old ≡ true → new ≡ strand_told n old) × (runs old ≡ false → new ≡ beside_told n old)
-
--- a sync
-abbrev pub SyncDone : Told → Told → Type 0
-SyncDone old new = (old.skipped ≡ 0 → new ≡ sync_told old) × (0 < old.skipped → new ≡ old)
-
--- a call
-abbrev pub CallDone : ℕ → ℕ → Told → Told → Type 0
-CallDone site func old new = (runs old ≡ true → new ≡ enter_told site func old) × (runs old ≡ false → new ≡ skip_told old)
-
--- a spawn of a child that the path enters, or doesn't
-abbrev pub SpawnDone : Bool → ℕ → ℕ → Told → Told → Type 0
-SpawnDone enters site func old new =
-    ((nat_eq old.skipped 0 && enters) ≡ true → new ≡ enter_told site func (wait_told old)) × ((nat_eq old.skipped 0 && enters) ≡ false → new ≡ skip_told old)
-
--- a return, where f is the innermost entered frame
-abbrev pub ReturnDone : EnteredFrame → Told → Told → Type 0
-ReturnDone f old new = (old.skipped ≡ 0 → IsReturned f old new) × (0 < old.skipped → new ≡ leave_told old)
-
--- f is the innermost entered frame
-abbrev pub HasFirst : EnteredFrame → Told → Type 0
-HasFirst f t = (fs : List EnteredFrame) × (t.frames ≡ f ∷ fs)
-
-module _ (es : List Event) (wf : IsWellFormed es) (root : ℕ) (span : ℕ → ℕ) (spans : AreSpans es span) (rest : List ℕ) (path : IsPath es unburdened 0 (length es) rest) where
+module _ (es : List Event) (wf : IsWellFormed es) (root : ℕ) (span : ℕ → ℕ) (spans : AreSpans es span) (bd : Burdens) (rest : List ℕ) (path : IsPath es bd 0 (length es) rest) where
   -- the positions of the path
   abbrev pub on : ℕ → Bool
   on = contains (0 ∷ rest)
@@ -102,19 +71,17 @@ module _ (es : List Event) (wf : IsWellFormed es) (root : ℕ) (span : ℕ → �
     top_func = k.top_func;
     running = k.running;
     work_before = k.entry.before;
-    weight_before = passed es on (first k.entry);
     local = k.local;
   }
 
   -- what the pass has, where the machine has the frames `outs` open, which the path doesn't enter, within `ks`
-  abbrev pub tell : List EntryFrame → List PathFrame → (ℕ → Bool) → (ℕ → Bool) → ℕ → ℕ → Sums → Told
-  tell outs ks a b w v t = record {
+  abbrev pub tell : List EntryFrame → List PathFrame → (ℕ → Bool) → (ℕ → Bool) → ℕ → Sums → Told
+  tell outs ks a b w t = record {
     frames = map shown ks;
     skipped = length outs;
     open_sites = a;
     open_funcs = b;
     work = w;
-    weight = v;
     table = t;
   }
 
@@ -122,37 +89,35 @@ module _ (es : List Event) (wf : IsWellFormed es) (root : ℕ) (span : ℕ → �
   abbrev pub shares_to : ℕ → Option ℕ → Row
   shares_to i key = share es root span on key 0 i
 
-  -- before the event at i: the open frames, and what the counts, the work, the weight and the table are
-  pub record At (i : ℕ) (outs : List EntryFrame) (ks : List PathFrame) (a b : ℕ → Bool) (w v : ℕ) (t : Sums) : Type 0 where
-    pub place : Place es wf root rest path i w outs ks
+  -- before the event at i: the open frames, and what the counts, the work and the table are
+  pub record At (i : ℕ) (outs : List EntryFrame) (ks : List PathFrame) (a b : ℕ → Bool) (w : ℕ) (t : Sums) : Type 0 where
+    pub place : Place es wf root bd rest path i w outs ks
     pub rows : (key : Option ℕ) → plus (key_row t key) (owed ks key) ≡ shares_to i key
     pub low : (key : Option ℕ) → Low i w (shares_to i key)
     pub sites : (s : ℕ) → a s ≡ has_site (entries ks) s
     pub funcs : (s : ℕ) → b s ≡ has_func (entries ks) s
     pub marked : AreMarked ks
-    pub weight_is : v ≡ passed es on i
-    pub light : v ≤ w
     pub small : w ≤ 18446744073709551616 * i
 
   -- before the event at i the pass may have t
   pub record Summed (i : ℕ) (t : Told) : Type 0 where
     pub outs : List EntryFrame
     pub ks : List PathFrame
-    pub is : t ≡ tell outs ks t.open_sites t.open_funcs t.work t.weight t.table
-    pub at : At i outs ks t.open_sites t.open_funcs t.work t.weight t.table
+    pub is : t ≡ tell outs ks t.open_sites t.open_funcs t.work t.table
+    pub at : At i outs ks t.open_sites t.open_funcs t.work t.table
 
-  summed : (i : ℕ) (t : Told) (outs : List EntryFrame) (ks : List PathFrame) (a b : ℕ → Bool) (w v : ℕ) (u : Sums)
-      → t ≡ tell outs ks a b w v u → At i outs ks a b w v u → Summed i t
-  summed i t outs ks a b w v u e h = subst (λ x. Summed i x) (sym e) (record { outs = outs; ks = ks; is = refl; at = h })
+  summed : (i : ℕ) (t : Told) (outs : List EntryFrame) (ks : List PathFrame) (a b : ℕ → Bool) (w : ℕ) (u : Sums)
+      → t ≡ tell outs ks a b w u → At i outs ks a b w u → Summed i t
+  summed i t outs ks a b w u e h = subst (λ x. Summed i x) (sym e) (record { outs = outs; ks = ks; is = refl; at = h })
 
   -- ---- the sums
 
   module _ (i : ℕ) where
     -- the shares, with what the event adds
-    share_next : (e : Event) → event_at es i ≡ Some e → (f : EntryFrame) (fs : List EntryFrame) (w : ℕ) → IsEntry es root i (f ∷ fs) w → (key : Option ℕ)
+    share_next : (e : Event) → event_at es i ≡ Some e → (f : EntryFrame) (fs : List EntryFrame) (w : ℕ) → IsEntry es unburdened root i (f ∷ fs) w → (key : Option ℕ)
         → plus (shares_to i key) (gain on key i e f w) ≡ shares_to (suc i) key
     share_next e is f fs w at key =
-        ap (λ r. plus (shares_to i key) r) (sym (share_follows es wf root span spans on key i e is f fs w at))
+        ap (λ r. plus (shares_to i key) r) (sym (share_follows es wf unburdened root span spans on key i e is f fs w at))
         ∙ sym (shares_law es root span on key 0 i (suc i) (omega arith) (omega arith))
 
     -- the bounds, with those of what the event adds
@@ -167,20 +132,17 @@ module _ (es : List Event) (wf : IsWellFormed es) (root : ℕ) (span : ℕ → �
       is : event_at es i ≡ Some e
       gains : (key : Option ℕ) → gain on key i e f w ≡ zero_row
       short : weight_of (Some e) < 2 ^ 64
-      passes_none : cond (on i) (weight es i) 0 ≡ 0
 
-    still : (e : Event) (f : EntryFrame) (fs : List EntryFrame) (outs xs : List EntryFrame) (ks ys : List PathFrame) (a b c d : ℕ → Bool) (w u v : ℕ) (t : Sums)
-        → Still e f fs w → outs ++ entries ks ≡ f ∷ fs → u ≡ w + weight_of (Some e) → At i outs ks a b w v t
-        → Place es wf root rest path (suc i) u xs ys → ((key : Option ℕ) → owed ys key ≡ owed ks key)
+    still : (e : Event) (f : EntryFrame) (fs : List EntryFrame) (outs xs : List EntryFrame) (ks ys : List PathFrame) (a b c d : ℕ → Bool) (w u : ℕ) (t : Sums)
+        → Still e f fs w → outs ++ entries ks ≡ f ∷ fs → u ≡ w + weight_of (Some e) → At i outs ks a b w t
+        → Place es wf root bd rest path (suc i) u xs ys → ((key : Option ℕ) → owed ys key ≡ owed ks key)
         → ((s : ℕ) → c s ≡ has_site (entries ys) s) → ((s : ℕ) → d s ≡ has_func (entries ys) s) → AreMarked ys
-        → At (suc i) xs ys c d u v t
-    still e f fs outs xs ks ys a b c d w u v t s heads same h place owes sites funcs marked =
-        let at : IsEntry es root i (f ∷ fs) w = subst (λ gs. IsEntry es root i gs w) heads h.place.entry in
+        → At (suc i) xs ys c d u t
+    still e f fs outs xs ks ys a b c d w u t s heads same h place owes sites funcs marked =
+        let at : IsEntry es unburdened root i (f ∷ fs) w = subst (λ gs. IsEntry es unburdened root i gs w) heads h.place.entry in
         let more = λ (key : Option ℕ). let z : plus (shares_to i key) zero_row ≡ shares_to (suc i) key = ap (λ r. plus (shares_to i key) r) (sym (s.gains key)) ∙ share_next e s.is f fs w at key in z in
         let m = h.small in
         let n = s.short in
-        let l = h.light in
-        let p = s.passes_none in
         record {
           place = place;
           rows = λ key. ap (λ r. plus (key_row t key) r) (owes key) ∙ h.rows key ∙ sym (plus-zero (shares_to i key)) ∙ more key;
@@ -188,14 +150,8 @@ module _ (es : List Event) (wf : IsWellFormed es) (root : ℕ) (span : ℕ → �
           sites = sites;
           funcs = funcs;
           marked = marked;
-          weight_is = (let z = h.weight_is in omega arith);
-          light = omega arith;
           small = omega arith;
         }
-
-    -- an event without weight passes none
-    none_of : (e : Event) → event_at es i ≡ Some e → weight_of (Some e) ≡ 0 → cond (on i) (weight es i) 0 ≡ 0
-    none_of e is z = no_weight (on i) (weight es i) (ap weight_of is ∙ z)
 
     -- where the path doesn't pass a strand
     strand_still : (n : ℕ) → event_at es i ≡ Some (Strand n) → n < 2 ^ 64 → on i ≡ false → (f : EntryFrame) (fs : List EntryFrame) (w : ℕ) → Still (Strand n) f fs w
@@ -203,20 +159,19 @@ module _ (es : List Event) (wf : IsWellFormed es) (root : ℕ) (span : ℕ → �
       is = is;
       gains = λ key. ap (λ b. cond (b && same_key (key_of f) key) (strand_row n) zero_row) off;
       short = short;
-      passes_none = cond-false (on i) _ _ off;
     }
 
     -- nor do a call, a spawn and a sync add anything
     call_still : (site func : ℕ) → event_at es i ≡ Some (Call site func) → (f : EntryFrame) (fs : List EntryFrame) (w : ℕ) → Still (Call site func) f fs w
     call_still site func is f fs w =
-        record { is = is; gains = λ key. refl; short = omega arith; passes_none = none_of (Call site func) is refl }
+        record { is = is; gains = λ key. refl; short = omega arith }
 
     spawn_still : (site func : ℕ) → event_at es i ≡ Some (Spawn site func) → (f : EntryFrame) (fs : List EntryFrame) (w : ℕ) → Still (Spawn site func) f fs w
     spawn_still site func is f fs w =
-        record { is = is; gains = λ key. refl; short = omega arith; passes_none = none_of (Spawn site func) is refl }
+        record { is = is; gains = λ key. refl; short = omega arith }
 
     sync_still : event_at es i ≡ Some Sync → (f : EntryFrame) (fs : List EntryFrame) (w : ℕ) → Still Sync f fs w
-    sync_still is f fs w = record { is = is; gains = λ key. refl; short = omega arith; passes_none = none_of Sync is refl }
+    sync_still is f fs w = record { is = is; gains = λ key. refl; short = omega arith }
 
     -- a return of a frame that isn't entered
     return_still : event_at es i ≡ Some Ret → (f : EntryFrame) (fs : List EntryFrame) (w : ℕ) → (On 0 rest (first f) → ⊥) → Still Ret f fs w
@@ -224,7 +179,6 @@ module _ (es : List Event) (wf : IsWellFormed es) (root : ℕ) (span : ℕ → �
       is = is;
       gains = λ key. ap (λ b. cond (b && same_key (key_of f) key) (closed_row f w) zero_row) (on_false (first f) off);
       short = omega arith;
-      passes_none = none_of Ret is refl;
     }
 
     -- ---- a strand
@@ -235,62 +189,58 @@ module _ (es : List Event) (wf : IsWellFormed es) (root : ℕ) (span : ℕ → �
 
     -- the frame, with a strand on the path
     abbrev strand_frame : ℕ → PathFrame → PathFrame
-    strand_frame n k = record k { entry = record k.entry { state = after_strand n k.entry.state }; local = k.local + n }
+    strand_frame n k = record k { entry = stranded n k.entry; local = k.local + n }
 
     -- a strand on the path
-    strand_on : (n : ℕ) → event_at es i ≡ Some (Strand n) → n < 2 ^ 64 → on i ≡ true → (k : PathFrame) (ks : List PathFrame) (a b : ℕ → Bool) (w v : ℕ) (t : Sums)
-        → At i [] (k ∷ ks) a b w v t → At (suc i) [] (strand_frame n k ∷ ks) a b (w + n) (v + n) t
-    strand_on n is short p k ks a b w v t h =
+    strand_on : (n : ℕ) → event_at es i ≡ Some (Strand n) → n < 2 ^ 64 → on i ≡ true → (k : PathFrame) (ks : List PathFrame) (a b : ℕ → Bool) (w : ℕ) (t : Sums)
+        → At i [] (k ∷ ks) a b w t → At (suc i) [] (strand_frame n k ∷ ks) a b (w + n) t
+    strand_on n is short p k ks a b w t h =
         let key_on = λ (key : Option ℕ). let z : gain on key i (Strand n) k.entry w ≡ cond (same_key (key_of k.entry) key) (strand_row n) zero_row = ap (λ c. cond (c && same_key (key_of k.entry) key) (strand_row n) zero_row) p in z in
         let more = λ (key : Option ℕ). let z : plus (shares_to i key) (cond (same_key (key_of k.entry) key) (strand_row n) zero_row) ≡ shares_to (suc i) key = ap (λ r. plus (shares_to i key) r) (sym (key_on key)) ∙ share_next (Strand n) is k.entry (entries ks) w h.place.entry key in z in
         let m = h.small in
-        let l = h.light in
-        let here : cond (on i) (weight es i) 0 ≡ n = cond-true (on i) _ _ p ∙ ap weight_of is in
         record {
-          place = strand_in es wf root rest path i w k ks h.place n (k.local + n) is;
+          place = strand_in es wf root bd rest path i w k ks h.place n (k.local + n) is;
           rows = λ key. strand_owed (same_key (key_of k.entry) key) k.local n (key_row t key) (owed ks key)
               ∙ ap (λ r. plus r (cond (same_key (key_of k.entry) key) (strand_row n) zero_row)) (h.rows key) ∙ more key;
           low = λ key. low_next key n w (w + n) _ refl (more key) (h.low key) (low_strand (same_key (key_of k.entry) key) n);
           sites = h.sites;
           funcs = h.funcs;
           marked = h.marked;
-          weight_is = (let z = h.weight_is in omega arith);
-          light = omega arith;
           small = omega arith;
         }
 
     -- which frames run on, as the pass tells it
-    runs_out : (o : EntryFrame) (os : List EntryFrame) (ks : List PathFrame) (a b : ℕ → Bool) (w v : ℕ) (t : Sums) → runs (tell (o ∷ os) ks a b w v t) ≡ false
-    runs_out o os [] a b w v t = ap (λ c. c && false) (not_zero (length os))
-    runs_out o os (k ∷ ks) a b w v t = ap (λ c. c && k.running) (not_zero (length os))
+    runs_out : (o : EntryFrame) (os : List EntryFrame) (ks : List PathFrame) (a b : ℕ → Bool) (w : ℕ) (t : Sums) → runs (tell (o ∷ os) ks a b w t) ≡ false
+    runs_out o os [] a b w t = ap (λ c. c && false) (not_zero (length os))
+    runs_out o os (k ∷ ks) a b w t = ap (λ c. c && k.running) (not_zero (length os))
 
     pub strand_next : (n : ℕ) → event_at es i ≡ Some (Strand n) → n < 2 ^ 64 → (old new : Told) → Summed i old → StrandDone n old new → Summed (suc i) new
     strand_next n is short old new s d =
         by s.outs s.ks s.at (subst (λ x. StrandDone n x new) s.is d)
       where
-        by : (outs : List EntryFrame) (ks : List PathFrame) → At i outs ks old.open_sites old.open_funcs old.work old.weight old.table
-            → StrandDone n (tell outs ks old.open_sites old.open_funcs old.work old.weight old.table) new → Summed (suc i) new
+        by : (outs : List EntryFrame) (ks : List PathFrame) → At i outs ks old.open_sites old.open_funcs old.work old.table
+            → StrandDone n (tell outs ks old.open_sites old.open_funcs old.work old.table) new → Summed (suc i) new
         by (o ∷ os) ks h d =
-            let off = on_false i (not_on es wf root rest path i old.work o os ks h.place (Strand n) is refl) in
-            summed (suc i) new (record o { state = after_strand n o.state } ∷ os) ks old.open_sites old.open_funcs (old.work + n) old.weight old.table
-            (d.1 (runs_out o os ks old.open_sites old.open_funcs old.work old.weight old.table))
-            (still (Strand n) o (os ++ entries ks) (o ∷ os) _ ks ks old.open_sites old.open_funcs old.open_sites old.open_funcs old.work (old.work + n) old.weight old.table
+            let off = on_false i (not_on es wf root bd rest path i old.work o os ks h.place (Strand n) is refl) in
+            summed (suc i) new (stranded n o ∷ os) ks old.open_sites old.open_funcs (old.work + n) old.table
+            (d.1 (runs_out o os ks old.open_sites old.open_funcs old.work old.table))
+            (still (Strand n) o (os ++ entries ks) (o ∷ os) _ ks ks old.open_sites old.open_funcs old.open_sites old.open_funcs old.work (old.work + n) old.table
             (strand_still n is short off o (os ++ entries ks) old.work) refl refl h
-            (strand_out es wf root rest path i old.work o os ks h.place n is) (λ key. refl) h.sites h.funcs h.marked)
+            (strand_out es wf root bd rest path i old.work o os ks h.place n is) (λ key. refl) h.sites h.funcs h.marked)
         by [] [] h d = absurd h.place.open_frames
         by [] (k ∷ ks) h d = elim (cases_Bool k.running) [
           | inl r ↦
-              let p = on_true i ((is_on es wf root rest path i old.work k ks h.place (Strand n) is refl).0 r) in
-              summed (suc i) new [] (strand_frame n k ∷ ks) old.open_sites old.open_funcs (old.work + n) (old.weight + n) old.table
-              (d.0 r) (strand_on n is short p k ks old.open_sites old.open_funcs old.work old.weight old.table h)
+              let p = on_true i ((is_on es wf root bd rest path i old.work k ks h.place (Strand n) is refl).0 r) in
+              summed (suc i) new [] (strand_frame n k ∷ ks) old.open_sites old.open_funcs (old.work + n) old.table
+              (d.0 r) (strand_on n is short p k ks old.open_sites old.open_funcs old.work old.table h)
           | inr r ↦
-              let off = on_false i (λ x. let z : true ≡ false = sym ((is_on es wf root rest path i old.work k ks h.place (Strand n) is refl).1 x) ∙ r in cc) in
-              summed (suc i) new [] (record k { entry = record k.entry { state = after_strand n k.entry.state } } ∷ ks)
-              old.open_sites old.open_funcs (old.work + n) old.weight old.table
+              let off = on_false i (λ x. let z : true ≡ false = sym ((is_on es wf root bd rest path i old.work k ks h.place (Strand n) is refl).1 x) ∙ r in cc) in
+              summed (suc i) new [] (record k { entry = stranded n k.entry } ∷ ks)
+              old.open_sites old.open_funcs (old.work + n) old.table
               (d.1 r)
-              (still (Strand n) k.entry (entries ks) [] _ (k ∷ ks) _ old.open_sites old.open_funcs old.open_sites old.open_funcs old.work (old.work + n) old.weight old.table
+              (still (Strand n) k.entry (entries ks) [] _ (k ∷ ks) _ old.open_sites old.open_funcs old.open_sites old.open_funcs old.work (old.work + n) old.table
               (strand_still n is short off k.entry (entries ks) old.work) refl refl h
-              (strand_in es wf root rest path i old.work k ks h.place n k.local is) (λ key. refl) h.sites h.funcs h.marked)
+              (strand_in es wf root bd rest path i old.work k ks h.place n k.local is) (λ key. refl) h.sites h.funcs h.marked)
         ]
 
     -- ---- a sync
@@ -302,22 +252,22 @@ module _ (es : List Event) (wf : IsWellFormed es) (root : ℕ) (span : ℕ → �
         same : old.work ≡ old.work + weight_of (Some Sync)
         same = omega arith
 
-        by : (outs : List EntryFrame) (ks : List PathFrame) → At i outs ks old.open_sites old.open_funcs old.work old.weight old.table
-            → SyncDone (tell outs ks old.open_sites old.open_funcs old.work old.weight old.table) new → Summed (suc i) new
+        by : (outs : List EntryFrame) (ks : List PathFrame) → At i outs ks old.open_sites old.open_funcs old.work old.table
+            → SyncDone (tell outs ks old.open_sites old.open_funcs old.work old.table) new → Summed (suc i) new
         by (o ∷ os) ks h d =
-            summed (suc i) new (record o { state = after_sync o.state } ∷ os) ks old.open_sites old.open_funcs old.work old.weight old.table
+            summed (suc i) new (waited o ∷ os) ks old.open_sites old.open_funcs old.work old.table
             (d.1 (omega arith))
-            (still Sync o (os ++ entries ks) (o ∷ os) _ ks ks old.open_sites old.open_funcs old.open_sites old.open_funcs old.work old.work old.weight old.table
+            (still Sync o (os ++ entries ks) (o ∷ os) _ ks ks old.open_sites old.open_funcs old.open_sites old.open_funcs old.work old.work old.table
             (sync_still is o (os ++ entries ks) old.work) refl same h
-            (sync_out es wf root rest path i old.work o os ks h.place is) (λ key. refl) h.sites h.funcs h.marked)
+            (sync_out es wf root bd rest path i old.work o os ks h.place is) (λ key. refl) h.sites h.funcs h.marked)
         by [] [] h d = absurd h.place.open_frames
         by [] (k ∷ ks) h d =
-            summed (suc i) new [] (record k { entry = record k.entry { state = after_sync k.entry.state }; running = true } ∷ ks)
-            old.open_sites old.open_funcs old.work old.weight old.table
+            summed (suc i) new [] (record k { entry = waited k.entry; running = true } ∷ ks)
+            old.open_sites old.open_funcs old.work old.table
             (d.0 refl)
-            (still Sync k.entry (entries ks) [] _ (k ∷ ks) _ old.open_sites old.open_funcs old.open_sites old.open_funcs old.work old.work old.weight old.table
+            (still Sync k.entry (entries ks) [] _ (k ∷ ks) _ old.open_sites old.open_funcs old.open_sites old.open_funcs old.work old.work old.table
             (sync_still is k.entry (entries ks) old.work) refl same h
-            (sync_in es wf root rest path i old.work k ks h.place is) (λ key. refl) h.sites h.funcs h.marked)
+            (sync_in es wf root bd rest path i old.work k ks h.place is) (λ key. refl) h.sites h.funcs h.marked)
 
     -- ---- a call, and a spawn
 
@@ -325,15 +275,12 @@ module _ (es : List Event) (wf : IsWellFormed es) (root : ℕ) (span : ℕ → �
     keyed o site s e = ap (λ k. same_key k (Some s)) (sym e)
 
     -- a new frame has what the pass gives it
-    new_shown : (kind : FrameKind) (site func : ℕ) (k : PathFrame) (ks : List PathFrame) (a b : ℕ → Bool) (w v : ℕ) (t : Sums) → first_of kind i ≡ suc i → weight es i ≡ 0
-        → At i [] (k ∷ ks) a b w v t → entered_frame site func (tell [] (k ∷ ks) a b w v t) (shown k) ≡ shown (new_frame kind i site func w k.entry (entries ks))
-    new_shown kind site func k ks a b w v t f z h =
+    new_shown : (kind : FrameKind) (site func : ℕ) (k : PathFrame) (ks : List PathFrame) (a b : ℕ → Bool) (w : ℕ) (t : Sums)
+        → At i [] (k ∷ ks) a b w t → entered_frame site func (tell [] (k ∷ ks) a b w t) (shown k) ≡ shown (new_frame kind i site func w k.entry (entries ks))
+    new_shown kind site func k ks a b w t h =
         let by_site : not (a site) ≡ not (has_site (entries (k ∷ ks)) site) = ap not (h.sites site) in
         let by_caller : k.top_func ≡ not (has_func (entries ks) k.entry.func) = h.marked.1 in
         let by_func : not (b func) ≡ not (has_func (entries (k ∷ ks)) func) = ap not (h.funcs func) in
-        let here : cond (on i) (weight es i) 0 ≡ 0 = no_weight (on i) (weight es i) z in
-        let so_far : v ≡ passed es on (suc i) = (let z = h.weight_is in omega arith) in
-        let weighs : v ≡ passed es on (first_of kind i) = so_far ∙ ap (λ n. passed es on n) (sym f) in
         λ j. record {
           site = site;
           func = func;
@@ -342,23 +289,21 @@ module _ (es : List Event) (wf : IsWellFormed es) (root : ℕ) (span : ℕ → �
           top_func = by_func j;
           running = true;
           work_before = w;
-          weight_before = weighs j;
           local = 0;
         }
 
     -- and the pass has it on top, whether its parent runs on or not
-    enter_is : (kind : FrameKind) (site func : ℕ) (k : PathFrame) (ks : List PathFrame) (a b : ℕ → Bool) (w v : ℕ) (t : Sums) → first_of kind i ≡ suc i → weight es i ≡ 0
-        → At i [] (k ∷ ks) a b w v t
-        → (r : Bool) → enter_told site func (tell [] (record k { running = r } ∷ ks) a b w v t)
-        ≡ tell [] (new_frame kind i site func w k.entry (entries ks) ∷ record k { running = r } ∷ ks) (with_mark site a) (with_mark func b) w v t
-    enter_is kind site func k ks a b w v t f z h r =
-        ap (λ (x : EnteredFrame). let u : Told = record { frames = x ∷ map shown (record k { running = r } ∷ ks); skipped = 0; open_sites = with_mark site a; open_funcs = with_mark func b; work = w; weight = v; table = t } in u)
-        (new_shown kind site func k ks a b w v t f z h)
+    enter_is : (kind : FrameKind) (site func : ℕ) (k : PathFrame) (ks : List PathFrame) (a b : ℕ → Bool) (w : ℕ) (t : Sums) → At i [] (k ∷ ks) a b w t
+        → (r : Bool) → enter_told site func (tell [] (record k { running = r } ∷ ks) a b w t)
+        ≡ tell [] (new_frame kind i site func w k.entry (entries ks) ∷ record k { running = r } ∷ ks) (with_mark site a) (with_mark func b) w t
+    enter_is kind site func k ks a b w t h r =
+        ap (λ (x : EnteredFrame). let u : Told = record { frames = x ∷ map shown (record k { running = r } ∷ ks); skipped = 0; open_sites = with_mark site a; open_funcs = with_mark func b; work = w; table = t } in u)
+        (new_shown kind site func k ks a b w t h)
 
     -- one more frame is open that the path doesn't enter
-    skip_is : (outs : List EntryFrame) (ks : List PathFrame) (a b : ℕ → Bool) (w v : ℕ) (t : Sums) → skip_told (tell outs ks a b w v t) ≡ record (tell outs ks a b w v t) { skipped = suc (length outs) }
-    skip_is outs ks a b w v t =
-        ap (λ (n : ℕ). let u : Told = record { frames = map shown ks; skipped = n; open_sites = a; open_funcs = b; work = w; weight = v; table = t } in u)
+    skip_is : (outs : List EntryFrame) (ks : List PathFrame) (a b : ℕ → Bool) (w : ℕ) (t : Sums) → skip_told (tell outs ks a b w t) ≡ record (tell outs ks a b w t) { skipped = suc (length outs) }
+    skip_is outs ks a b w t =
+        ap (λ (n : ℕ). let u : Told = record { frames = map shown ks; skipped = n; open_sites = a; open_funcs = b; work = w; table = t } in u)
         (let z : length outs + 1 ≡ suc (length outs) = omega arith in z)
 
     -- the marks, with a new frame
@@ -381,29 +326,29 @@ module _ (es : List Event) (wf : IsWellFormed es) (root : ℕ) (span : ℕ → �
         same : old.work ≡ old.work + weight_of (Some (Call site func))
         same = omega arith
 
-        by : (outs : List EntryFrame) (ks : List PathFrame) → At i outs ks old.open_sites old.open_funcs old.work old.weight old.table
-            → CallDone site func (tell outs ks old.open_sites old.open_funcs old.work old.weight old.table) new → Summed (suc i) new
+        by : (outs : List EntryFrame) (ks : List PathFrame) → At i outs ks old.open_sites old.open_funcs old.work old.table
+            → CallDone site func (tell outs ks old.open_sites old.open_funcs old.work old.table) new → Summed (suc i) new
         by (o ∷ os) ks h d =
-            summed (suc i) new _ ks old.open_sites old.open_funcs old.work old.weight old.table
-            (d.1 (runs_out o os ks old.open_sites old.open_funcs old.work old.weight old.table) ∙ skip_is (o ∷ os) ks old.open_sites old.open_funcs old.work old.weight old.table)
-            (still (Call site func) o (os ++ entries ks) (o ∷ os) _ ks ks old.open_sites old.open_funcs old.open_sites old.open_funcs old.work old.work old.weight old.table
+            summed (suc i) new _ ks old.open_sites old.open_funcs old.work old.table
+            (d.1 (runs_out o os ks old.open_sites old.open_funcs old.work old.table) ∙ skip_is (o ∷ os) ks old.open_sites old.open_funcs old.work old.table)
+            (still (Call site func) o (os ++ entries ks) (o ∷ os) _ ks ks old.open_sites old.open_funcs old.open_sites old.open_funcs old.work old.work old.table
             (call_still site func is o (os ++ entries ks) old.work) refl same h
-            (call_out es wf root rest path i old.work o os ks h.place site func is) (λ key. refl) h.sites h.funcs h.marked)
+            (call_out es wf root bd rest path i old.work o os ks h.place site func is) (λ key. refl) h.sites h.funcs h.marked)
         by [] [] h d = absurd h.place.open_frames
         by [] (k ∷ ks) h d = elim (cases_Bool k.running) [
           | inl r ↦
-              summed (suc i) new [] (new_frame Called i site func old.work k.entry (entries ks) ∷ k ∷ ks) (with_mark site old.open_sites) (with_mark func old.open_funcs) old.work old.weight old.table
-              (d.0 r ∙ enter_is Called site func k ks old.open_sites old.open_funcs old.work old.weight old.table refl (ap weight_of is) h k.running)
-              (still (Call site func) k.entry (entries ks) [] [] (k ∷ ks) _ old.open_sites old.open_funcs _ _ old.work old.work old.weight old.table
+              summed (suc i) new [] (new_frame Called i site func old.work k.entry (entries ks) ∷ k ∷ ks) (with_mark site old.open_sites) (with_mark func old.open_funcs) old.work old.table
+              (d.0 r ∙ enter_is Called site func k ks old.open_sites old.open_funcs old.work old.table h k.running)
+              (still (Call site func) k.entry (entries ks) [] [] (k ∷ ks) _ old.open_sites old.open_funcs _ _ old.work old.work old.table
               (call_still site func is k.entry (entries ks) old.work) refl same h
-              (call_in es wf root rest path i old.work k ks h.place site func is r) (λ key. none_owed (same_key (Some site) key) (owed (k ∷ ks) key))
+              (call_in es wf root bd rest path i old.work k ks h.place site func is r) (λ key. none_owed (same_key (Some site) key) (owed (k ∷ ks) key))
               (more_sites Called site func old.work k ks old.open_sites refl h.sites) (more_funcs Called site func old.work k ks old.open_funcs h.funcs) (refl, refl, h.marked))
           | inr r ↦
-              summed (suc i) new _ (k ∷ ks) old.open_sites old.open_funcs old.work old.weight old.table
-              (d.1 r ∙ skip_is [] (k ∷ ks) old.open_sites old.open_funcs old.work old.weight old.table)
-              (still (Call site func) k.entry (entries ks) [] _ (k ∷ ks) (k ∷ ks) old.open_sites old.open_funcs old.open_sites old.open_funcs old.work old.work old.weight old.table
+              summed (suc i) new _ (k ∷ ks) old.open_sites old.open_funcs old.work old.table
+              (d.1 r ∙ skip_is [] (k ∷ ks) old.open_sites old.open_funcs old.work old.table)
+              (still (Call site func) k.entry (entries ks) [] _ (k ∷ ks) (k ∷ ks) old.open_sites old.open_funcs old.open_sites old.open_funcs old.work old.work old.table
               (call_still site func is k.entry (entries ks) old.work) refl same h
-              (call_beside es wf root rest path i old.work k ks h.place site func is r) (λ key. refl) h.sites h.funcs h.marked)
+              (call_beside es wf root bd rest path i old.work k ks h.place site func is r) (λ key. refl) h.sites h.funcs h.marked)
         ]
 
     pub spawn_next : (enters : Bool) (site func : ℕ) → event_at es i ≡ Some (Spawn site func) → (enters ≡ true) ↔ On 0 rest (suc i)
@@ -415,145 +360,123 @@ module _ (es : List Event) (wf : IsWellFormed es) (root : ℕ) (span : ℕ → �
         same : old.work ≡ old.work + weight_of (Some (Spawn site func))
         same = omega arith
 
-        by : (outs : List EntryFrame) (ks : List PathFrame) → At i outs ks old.open_sites old.open_funcs old.work old.weight old.table
-            → SpawnDone enters site func (tell outs ks old.open_sites old.open_funcs old.work old.weight old.table) new → Summed (suc i) new
+        by : (outs : List EntryFrame) (ks : List PathFrame) → At i outs ks old.open_sites old.open_funcs old.work old.table
+            → SpawnDone enters site func (tell outs ks old.open_sites old.open_funcs old.work old.table) new → Summed (suc i) new
         by (o ∷ os) ks h d =
-            summed (suc i) new _ ks old.open_sites old.open_funcs old.work old.weight old.table
-            (d.1 (ap (λ c. c && enters) (not_zero (length os))) ∙ skip_is (o ∷ os) ks old.open_sites old.open_funcs old.work old.weight old.table)
-            (still (Spawn site func) o (os ++ entries ks) (o ∷ os) _ ks ks old.open_sites old.open_funcs old.open_sites old.open_funcs old.work old.work old.weight old.table
+            summed (suc i) new _ ks old.open_sites old.open_funcs old.work old.table
+            (d.1 (ap (λ c. c && enters) (not_zero (length os))) ∙ skip_is (o ∷ os) ks old.open_sites old.open_funcs old.work old.table)
+            (still (Spawn site func) o (os ++ entries ks) (o ∷ os) _ ks ks old.open_sites old.open_funcs old.open_sites old.open_funcs old.work old.work old.table
             (spawn_still site func is o (os ++ entries ks) old.work) refl same h
-            (spawn_out es wf root rest path i old.work o os ks h.place site func is) (λ key. refl) h.sites h.funcs h.marked)
+            (spawn_out es wf root bd rest path i old.work o os ks h.place site func is) (λ key. refl) h.sites h.funcs h.marked)
         by [] [] h d = absurd h.place.open_frames
         by [] (k ∷ ks) h d = elim (cases_Bool enters) [
           | inl r ↦
-              summed (suc i) new [] (new_frame Spawned i site func old.work k.entry (entries ks) ∷ record k { running = false } ∷ ks) (with_mark site old.open_sites) (with_mark func old.open_funcs) old.work old.weight old.table
-              (d.0 r ∙ enter_is Spawned site func k ks old.open_sites old.open_funcs old.work old.weight old.table refl (ap weight_of is) h false)
-              (still (Spawn site func) k.entry (entries ks) [] [] (k ∷ ks) _ old.open_sites old.open_funcs _ _ old.work old.work old.weight old.table
+              summed (suc i) new [] (new_frame Spawned i site func old.work k.entry (entries ks) ∷ record k { running = false } ∷ ks) (with_mark site old.open_sites) (with_mark func old.open_funcs) old.work old.table
+              (d.0 r ∙ enter_is Spawned site func k ks old.open_sites old.open_funcs old.work old.table h false)
+              (still (Spawn site func) k.entry (entries ks) [] [] (k ∷ ks) _ old.open_sites old.open_funcs _ _ old.work old.work old.table
               (spawn_still site func is k.entry (entries ks) old.work) refl same h
-              (spawn_in es wf root rest path i old.work k ks h.place site func is (marked.0 r)) (λ key. none_owed (same_key (Some site) key) (owed (k ∷ ks) key))
+              (spawn_in es wf root bd rest path i old.work k ks h.place site func is (marked.0 r)) (λ key. none_owed (same_key (Some site) key) (owed (k ∷ ks) key))
               (more_sites Spawned site func old.work k ks old.open_sites refl h.sites) (more_funcs Spawned site func old.work k ks old.open_funcs h.funcs) (refl, refl, h.marked))
           | inr r ↦
-              summed (suc i) new _ (k ∷ ks) old.open_sites old.open_funcs old.work old.weight old.table
-              (d.1 r ∙ skip_is [] (k ∷ ks) old.open_sites old.open_funcs old.work old.weight old.table)
-              (still (Spawn site func) k.entry (entries ks) [] _ (k ∷ ks) (k ∷ ks) old.open_sites old.open_funcs old.open_sites old.open_funcs old.work old.work old.weight old.table
+              summed (suc i) new _ (k ∷ ks) old.open_sites old.open_funcs old.work old.table
+              (d.1 r ∙ skip_is [] (k ∷ ks) old.open_sites old.open_funcs old.work old.table)
+              (still (Spawn site func) k.entry (entries ks) [] _ (k ∷ ks) (k ∷ ks) old.open_sites old.open_funcs old.open_sites old.open_funcs old.work old.work old.table
               (spawn_still site func is k.entry (entries ks) old.work) refl same h
-              (spawn_beside es wf root rest path i old.work k ks h.place site func is (λ x. let z : true ≡ false = sym (marked.1 x) ∙ r in cc)) (λ key. refl) h.sites h.funcs h.marked)
+              (spawn_beside es wf root bd rest path i old.work k ks h.place site func is (λ x. let z : true ≡ false = sym (marked.1 x) ∙ r in cc)) (λ key. refl) h.sites h.funcs h.marked)
         ]
 
     -- ---- a return
 
     -- one frame less is open that the path doesn't enter
-    leave_is : (o : EntryFrame) (os : List EntryFrame) (ks : List PathFrame) (a b : ℕ → Bool) (w v : ℕ) (t : Sums) → leave_told (tell (o ∷ os) ks a b w v t) ≡ tell os ks a b w v t
-    leave_is o os ks a b w v t =
-        ap (λ (n : ℕ). let u : Told = record { frames = map shown ks; skipped = n; open_sites = a; open_funcs = b; work = w; weight = v; table = t } in u)
+    leave_is : (o : EntryFrame) (os : List EntryFrame) (ks : List PathFrame) (a b : ℕ → Bool) (w : ℕ) (t : Sums) → leave_told (tell (o ∷ os) ks a b w t) ≡ tell os ks a b w t
+    leave_is o os ks a b w t =
+        ap (λ (n : ℕ). let u : Told = record { frames = map shown ks; skipped = n; open_sites = a; open_funcs = b; work = w; table = t } in u)
         (let z : suc (length os) - 1 ≡ length os = omega arith in z)
 
     -- the innermost frame is the first of those that the machine has
     pub heads : (f : EnteredFrame) (fs : List EnteredFrame) (k : PathFrame) (ks : List PathFrame) → map shown (k ∷ ks) ≡ f ∷ fs → f ≡ shown k
     heads f fs k ks e = (let z : shown k ≡ f = cc in sym z)
 
-    -- the frame that closes has the path's weight in it as its span
-    pub closes_with : event_at es i ≡ Some Ret → (k : PathFrame) (ks : List PathFrame) (a b : ℕ → Bool) (w v : ℕ) (t : Sums) → At i [] (k ∷ ks) a b w v t
-        → passed es on (first k.entry) + close k.entry.state ≡ v
-    closes_with is k ks a b w v t h =
-        let r = return_closing es wf root rest path i w k ks h.place is in
-        let law = entered_span es wf rest path (first k.entry) (close k.entry.state) r.0 h.place.entered.0 r.2 in
-        let at : passed es on (suc (closing es (first k.entry))) ≡ passed es on (suc i) = ap (λ n. passed es on (suc n)) r.1 in
-        let here = none_of Ret is refl in
-        let z = h.weight_is in
-        omega arith
+    -- the innermost frame closes with that span
+    abbrev Closes : ℕ → Type 0
+    Closes v = ClosesIn es root i v
 
-    -- and the pass gives it the row that it has
-    pub row_is : (k : PathFrame) (w v : ℕ) → passed es on (first k.entry) + close k.entry.state ≡ v → entered_row (shown k) w v ≡ full_row k.entry k.local w
-    row_is k w v e =
-        let s : v - passed es on (first k.entry) ≡ close k.entry.state = omega arith in
-        λ j. record {
-          count = 1;
-          local = k.local;
-          site_count = cond k.entry.top_site 1 0;
-          site_work = cond k.entry.top_site (w - k.entry.before) 0;
-          site_span = cond k.entry.top_site (s j) 0;
-          caller_count = cond k.entry.top_caller 1 0;
-          caller_work = cond k.entry.top_caller (w - k.entry.before) 0;
-          caller_span = cond k.entry.top_caller (s j) 0;
-        }
+    -- the pass gives it the row that it has
+    pub row_is : (k : PathFrame) (w v : ℕ) → close k.entry.state ≡ v → entered_row (shown k) w v ≡ full_row k.entry k.local w
+    row_is k w v e = ap (λ n. entered_row (shown k) w n) (sym e)
 
     -- the return of an entered frame adds its row to the table
     closed_gain : (k : PathFrame) (w : ℕ) → On 0 rest (first k.entry) → (key : Option ℕ) → gain on key i Ret k.entry w ≡ cond (same_key (key_of k.entry) key) (closed_row k.entry w) zero_row
     closed_gain k w e key = ap (λ c. cond (c && same_key (key_of k.entry) key) (closed_row k.entry w) zero_row) (on_true (first k.entry) e)
 
-    pub return_rows : event_at es i ≡ Some Ret → (k : PathFrame) (ks : List PathFrame) (a b : ℕ → Bool) (w v : ℕ) (t : Sums) → At i [] (k ∷ ks) a b w v t → (key : Option ℕ)
+    pub return_rows : event_at es i ≡ Some Ret → (k : PathFrame) (ks : List PathFrame) (a b : ℕ → Bool) (w : ℕ) (t : Sums) → At i [] (k ∷ ks) a b w t → (key : Option ℕ)
         → plus (cond (same_key (key_of k.entry) key) (plus (key_row t key) (full_row k.entry k.local w)) (key_row t key)) (owed ks key) ≡ shares_to (suc i) key
-    return_rows is k ks a b w v t h key =
+    return_rows is k ks a b w t h key =
         closed_owed (same_key (key_of k.entry) key) k.entry k.local w (key_row t key) (owed ks key)
         ∙ ap₂ (λ (x y : Row). plus x y) (h.rows key) (sym (closed_gain k w h.place.entered.0 key))
         ∙ share_next Ret is k.entry (entries ks) w h.place.entry key
 
-    pub return_low : event_at es i ≡ Some Ret → i ≤ 268435456 → (k : PathFrame) (ks : List PathFrame) (a b : ℕ → Bool) (w v : ℕ) (t : Sums) → At i [] (k ∷ ks) a b w v t → (key : Option ℕ)
+    pub return_low : event_at es i ≡ Some Ret → i ≤ 268435456 → (v : ℕ) → Closes v → v < 2 ^ 92 → (k : PathFrame) (ks : List PathFrame) (a b : ℕ → Bool) (w : ℕ) (t : Sums) → At i [] (k ∷ ks) a b w t → (key : Option ℕ)
         → Low (suc i) w (shares_to (suc i) key)
-    return_low is short k ks a b w v t h key =
-        let s = closes_with is k ks a b w v t h in
-        let l = h.light in
+    return_low is short v closes light k ks a b w t h key =
+        let s = closes k.entry (entries ks) w h.place.entry in
         let m = h.small in
         low_next key 0 w w (cond (same_key (key_of k.entry) key) (closed_row k.entry w) zero_row) (omega arith)
         (ap (λ r. plus (shares_to i key) r) (sym (closed_gain k w h.place.entered.0 key)) ∙ share_next Ret is k.entry (entries ks) w h.place.entry key)
         (h.low key) (low_closed (same_key (key_of k.entry) key) k.entry w (omega arith) (omega arith))
 
-    return_on : event_at es i ≡ Some Ret → i ≤ 268435456 → (k g : PathFrame) (ks : List PathFrame) (a b : ℕ → Bool) (w v : ℕ) (t : Sums) (new : Told)
-        → At i [] (k ∷ g ∷ ks) a b w v t → IsReturned (shown k) (tell [] (k ∷ g ∷ ks) a b w v t) new → Summed (suc i) new
-    return_on is short k g ks a b w v t new h r =
+    return_on : event_at es i ≡ Some Ret → i ≤ 268435456 → (v : ℕ) → Closes v → v < 2 ^ 92 → (k g : PathFrame) (ks : List PathFrame) (a b : ℕ → Bool) (w : ℕ) (t : Sums) (new : Told)
+        → At i [] (k ∷ g ∷ ks) a b w t → IsReturned (shown k) v (tell [] (k ∷ g ∷ ks) a b w t) new → Summed (suc i) new
+    return_on is short v closes light k g ks a b w t new h r =
         let key : key_of k.entry ≡ Some k.entry.site = h.place.open_frames.0 in
-        let s = closes_with is k (g ∷ ks) a b w v t h in
+        let s = closes k.entry (entries (g ∷ ks)) w h.place.entry in
         let table : IsAdded t new.table k.entry.site (full_row k.entry k.local w) = subst (λ x. IsAdded t new.table k.entry.site x) (row_is k w v s) r.table in
-        let here = none_of Ret is refl in
         let m = h.small in
-        let below : PathFrame = with_state (after_child unburdened k.entry.kind k.entry.at (close k.entry.state) g.entry.state) g in
-        summed (suc i) new [] (below ∷ ks) (without k.entry.top_site k.entry.site a) (without k.top_func k.entry.func b) w v new.table
-        (λ j. record { frames = r.frames j; skipped = r.skipped j; open_sites = r.open_sites j; open_funcs = r.open_funcs j; work = r.work j; weight = r.weight j; table = new.table })
+        let below : PathFrame = with_entry (returned unburdened k.entry g.entry) g in
+        summed (suc i) new [] (below ∷ ks) (without k.entry.top_site k.entry.site a) (without k.top_func k.entry.func b) w new.table
+        (λ j. record { frames = r.frames j; skipped = r.skipped j; open_sites = r.open_sites j; open_funcs = r.open_funcs j; work = r.work j; table = new.table })
         (record {
-          place = return_in es wf root rest path i w k g ks h.place is;
-          rows = λ o. ap (λ x. plus x (owed (g ∷ ks) o)) (added (key_of k.entry) k.entry.site (full_row k.entry k.local w) t new.table key table o) ∙ return_rows is k (g ∷ ks) a b w v t h o;
-          low = λ o. return_low is short k (g ∷ ks) a b w v t h o;
+          place = return_in es wf root bd rest path i w k g ks h.place is;
+          rows = λ o. ap (λ x. plus x (owed (g ∷ ks) o)) (added (key_of k.entry) k.entry.site (full_row k.entry k.local w) t new.table key table o) ∙ return_rows is k (g ∷ ks) a b w t h o;
+          low = λ o. return_low is short v closes light k (g ∷ ks) a b w t h o;
           sites = λ s. marked_less k.entry.top_site k.entry.site a (has_site (entries (g ∷ ks))) h.marked.0
               (λ y. h.sites y ∙ ap (λ c. c || has_site (entries (g ∷ ks)) y) (sym (keyed (key_of k.entry) k.entry.site y key))) s;
           funcs = λ s. marked_less k.top_func k.entry.func b (has_func (entries (g ∷ ks))) h.marked.1 h.funcs s;
           marked = h.marked.2;
-          weight_is = (let z = h.weight_is in omega arith);
-          light = h.light;
           small = omega arith;
         })
 
-    pub return_next : event_at es i ≡ Some Ret → i ≤ 268435456 → (f : EnteredFrame) (old new : Told) → HasFirst f old → Summed i old
+    pub return_next : event_at es i ≡ Some Ret → i ≤ 268435456 → (v : ℕ) → Closes v → v < 2 ^ 92 → (f : EnteredFrame) (old new : Told) → HasFirst f old → Summed i old
         → (old.skipped ≡ 0 → 1 < length old.frames)
-        → ReturnDone f old new → Summed (suc i) new
-    return_next is short f old new top s known d =
+        → ReturnDone f v old new → Summed (suc i) new
+    return_next is short v closes light f old new top s known d =
         by s.outs s.ks s.at (subst (λ x. HasFirst f x) s.is top)
         (subst (λ x. x.skipped ≡ 0 → 1 < length x.frames) s.is known)
-        (subst (λ x. ReturnDone f x new) s.is d)
+        (subst (λ x. ReturnDone f v x new) s.is d)
       where
         same : old.work ≡ old.work + weight_of (Some Ret)
         same = omega arith
 
-        by : (outs : List EntryFrame) (ks : List PathFrame) → At i outs ks old.open_sites old.open_funcs old.work old.weight old.table
-            → HasFirst f (tell outs ks old.open_sites old.open_funcs old.work old.weight old.table)
+        by : (outs : List EntryFrame) (ks : List PathFrame) → At i outs ks old.open_sites old.open_funcs old.work old.table
+            → HasFirst f (tell outs ks old.open_sites old.open_funcs old.work old.table)
             → (length outs ≡ 0 → 1 < length (map shown ks))
-            → ReturnDone f (tell outs ks old.open_sites old.open_funcs old.work old.weight old.table) new → Summed (suc i) new
+            → ReturnDone f v (tell outs ks old.open_sites old.open_funcs old.work old.table) new → Summed (suc i) new
         by (o ∷ p ∷ os) ks h top known d =
-            summed (suc i) new _ ks old.open_sites old.open_funcs old.work old.weight old.table
-            (d.1 (omega arith) ∙ leave_is o (p ∷ os) ks old.open_sites old.open_funcs old.work old.weight old.table)
-            (still Ret o (p ∷ os ++ entries ks) (o ∷ p ∷ os) _ ks ks old.open_sites old.open_funcs old.open_sites old.open_funcs old.work old.work old.weight old.table
+            summed (suc i) new _ ks old.open_sites old.open_funcs old.work old.table
+            (d.1 (omega arith) ∙ leave_is o (p ∷ os) ks old.open_sites old.open_funcs old.work old.table)
+            (still Ret o (p ∷ os ++ entries ks) (o ∷ p ∷ os) _ ks ks old.open_sites old.open_funcs old.open_sites old.open_funcs old.work old.work old.table
             (return_still is o (p ∷ os ++ entries ks) old.work h.place.beside.0) refl same h
-            (return_out es wf root rest path i old.work o p os ks h.place is) (λ key. refl) h.sites h.funcs h.marked)
+            (return_out es wf root bd rest path i old.work o p os ks h.place is) (λ key. refl) h.sites h.funcs h.marked)
         by (o ∷ []) [] h top known d = absurd h.place.open_frames
         by (o ∷ []) (k ∷ ks) h top known d =
-            summed (suc i) new [] (with_state (after_child unburdened o.kind o.at (close o.state) k.entry.state) k ∷ ks) old.open_sites old.open_funcs old.work old.weight old.table
-            (d.1 (omega arith) ∙ leave_is o [] (k ∷ ks) old.open_sites old.open_funcs old.work old.weight old.table)
-            (still Ret o (entries (k ∷ ks)) (o ∷ []) [] (k ∷ ks) _ old.open_sites old.open_funcs old.open_sites old.open_funcs old.work old.work old.weight old.table
+            summed (suc i) new [] (with_entry (returned unburdened o k.entry) k ∷ ks) old.open_sites old.open_funcs old.work old.table
+            (d.1 (omega arith) ∙ leave_is o [] (k ∷ ks) old.open_sites old.open_funcs old.work old.table)
+            (still Ret o (entries (k ∷ ks)) (o ∷ []) [] (k ∷ ks) _ old.open_sites old.open_funcs old.open_sites old.open_funcs old.work old.work old.table
             (return_still is o (entries (k ∷ ks)) old.work h.place.beside.0) refl same h
-            (return_back es wf root rest path i old.work o k ks h.place is) (λ key. refl) h.sites h.funcs h.marked)
+            (return_back es wf root bd rest path i old.work o k ks h.place is) (λ key. refl) h.sites h.funcs h.marked)
         by [] [] h top known d = absurd h.place.open_frames
         by [] (k ∷ []) h top known d = absurd (let z = known refl in omega arith)
         by [] (k ∷ g ∷ ks) h top known d =
             let is_k : f ≡ shown k = heads f top.0 k (g ∷ ks) top.1 in
-            return_on is short k g ks old.open_sites old.open_funcs old.work old.weight old.table new h
-            (subst (λ x. IsReturned x (tell [] (k ∷ g ∷ ks) old.open_sites old.open_funcs old.work old.weight old.table) new) is_k (d.0 refl))
+            return_on is short v closes light k g ks old.open_sites old.open_funcs old.work old.table new h
+            (subst (λ x. IsReturned x v (tell [] (k ∷ g ∷ ks) old.open_sites old.open_funcs old.work old.table) new) is_k (d.0 refl))

@@ -1,3 +1,4 @@
 pub mod Entered
 pub mod Settling
+pub mod Spans
 pub mod Rows

@@ -1,7 +1,6 @@
 -- What the pass that sums up the rows of the path has between two events, and what each event does to it.
 use Rattle.std.specs.Prelude.{◌≡◌, ℕ, ◌+◌, ◌-◌, ◌<◌, ◌≤◌, ◌^◌, Bool, true, false, not, ◌&&◌, cond, nat_eq, List, [], ◌∷◌, length, reverse, Ok}
 use Rattle.spp_event.specs.declared.records.Event.{Event}
-use Rattle.spp_event.specs.declared.records.Event.TheVariants.{Strand, Call, Spawn, Ret, Sync}
 use Rattle.spp_event.specs.Records.{IsEventOf}
 use Rattle.spp_event.specs.Recordings.{Recording, record_at}
 use Rattle.spp_dag.specs.declared.row.Row.{Row}
@@ -13,15 +12,13 @@ use Rattle.spp_path.specs.declared.rows.EnteredFrame.{EnteredFrame}
 use Rattle.spp_path.specs.declared.rows.PathRows.{PathRows}
 
 -- the open frames that the path enters, innermost first; how many frames are open within these that it doesn't enter;
--- the sites by which the entered ones were entered, and the functions that they run; the work so far, and the weight of
--- the path so far; and the table
+-- the sites by which the entered ones were entered, and the functions that they run; the work so far; and the table
 pub record Told : Type 0 where
   pub frames : List EnteredFrame
   pub skipped : ℕ
   pub open_sites : ℕ → Bool
   pub open_funcs : ℕ → Bool
   pub work : ℕ
-  pub weight : ℕ
   pub table : Sums
 
 abbrev pub told : PathRows → Told
@@ -31,7 +28,6 @@ told s = record {
   open_sites = is_marked s.open_sites;
   open_funcs = is_marked s.open_funcs;
   work = s.work;
-  weight = s.weight;
   table = s.table;
 }
 
@@ -44,17 +40,17 @@ OnTop P (f ∷ fs) = P f
 abbrev pub IsOpen : Told → Type 0
 IsOpen t = OnTop (λ f. Unit {0}) t.frames
 
--- the row of a frame, which closes when these are the work and the weight of the path so far
+-- the row of a frame, which closes with that span when this is the work so far
 abbrev pub entered_row : EnteredFrame → ℕ → ℕ → Row
-entered_row f work weight = record {
+entered_row f work span = record {
   count = 1;
   local = f.local;
   site_count = cond f.top_site 1 0;
   site_work = cond f.top_site (work - f.work_before) 0;
-  site_span = cond f.top_site (weight - f.weight_before) 0;
+  site_span = cond f.top_site span 0;
   caller_count = cond f.top_caller 1 0;
   caller_work = cond f.top_caller (work - f.work_before) 0;
-  caller_span = cond f.top_caller (weight - f.weight_before) 0;
+  caller_span = cond f.top_caller span 0;
 }
 
 -- before the first event the root frame is open, which runs `root`, and the path is in it
@@ -68,14 +64,12 @@ start_told root = record {
     top_func = true;
     running = true;
     work_before = 0;
-    weight_before = 0;
     local = 0;
   } ∷ [];
   skipped = 0;
   open_sites = λ site. false;
   open_funcs = with_mark root (λ func. false);
   work = 0;
-  weight = 0;
   table = empty;
 }
 
@@ -96,7 +90,7 @@ strand_frames count (f ∷ fs) = record f { local = f.local + count } ∷ fs
 
 abbrev pub strand_told : ℕ → Told → Told
 strand_told count t =
-    record t { frames = strand_frames count t.frames; work = t.work + count; weight = t.weight + count }
+    record t { frames = strand_frames count t.frames; work = t.work + count }
 
 -- a strand beside the path is work alone
 abbrev pub beside_told : ℕ → Told → Told
@@ -111,7 +105,6 @@ local_of (f ∷ fs) = f.local
 pub record CanAdd (count : ℕ) (t : Told) : Type 0 where
   pub local : local_of t.frames + count < 2 ^ 128
   pub work : t.work + count < 2 ^ 128
-  pub weight : t.weight + count < 2 ^ 128
 
 -- the innermost frame runs on, or doesn't
 abbrev pub set_running : Bool → List EnteredFrame → List EnteredFrame
@@ -138,7 +131,6 @@ entered_frame site func t f = record {
   top_func = not (t.open_funcs func);
   running = true;
   work_before = t.work;
-  weight_before = t.weight;
   local = 0;
 }
 
@@ -176,52 +168,31 @@ abbrev pub frames_below : List EnteredFrame → List EnteredFrame
 frames_below [] = []
 frames_below (f ∷ fs) = fs
 
--- the innermost entered frame f can close
-pub record CanReturn (f : EnteredFrame) (t : Told) : Type 0 where
+-- the innermost entered frame f can close with that span
+pub record CanReturn (f : EnteredFrame) (span : ℕ) (t : Told) : Type 0 where
   pub deep : 1 < length t.frames
   pub work_before : f.work_before ≤ t.work
-  pub weight_before : f.weight_before ≤ t.weight
   pub site : f.site < 65536
-  pub row : Fits (plus (row_at t.table f.site) (entered_row f t.work t.weight))
+  pub row : Fits (plus (row_at t.table f.site) (entered_row f t.work span))
 
 -- it has closed, and the table has its row
-pub record IsReturned (f : EnteredFrame) (old new : Told) : Type 0 where
+pub record IsReturned (f : EnteredFrame) (span : ℕ) (old new : Told) : Type 0 where
   pub frames : new.frames ≡ frames_below old.frames
   pub skipped : new.skipped ≡ old.skipped
   pub open_sites : new.open_sites ≡ without f.top_site f.site old.open_sites
   pub open_funcs : new.open_funcs ≡ without f.top_func f.func old.open_funcs
   pub work : new.work ≡ old.work
-  pub weight : new.weight ≡ old.weight
-  pub table : IsAdded old.table new.table f.site (entered_row f old.work old.weight)
+  pub table : IsAdded old.table new.table f.site (entered_row f old.work span)
 
 -- ---- the end
 
--- the frame f can close last
-pub record CanFinish (f : EnteredFrame) (t : Told) : Type 0 where
+-- the frame f can close last, with that span
+pub record CanFinish (f : EnteredFrame) (span : ℕ) (t : Told) : Type 0 where
   pub work_before : f.work_before ≤ t.work
-  pub weight_before : f.weight_before ≤ t.weight
-  pub row : Fits (plus t.table.root (entered_row f t.work t.weight))
+  pub row : Fits (plus t.table.root (entered_row f t.work span))
 
 -- ---- what is read
 
 -- the trace has that event there, which is of its sites and functions
 abbrev pub IsRead : Recording → ℕ → Event → Type 0
 IsRead trace i e = (record_at trace.records i ≡ Ok e) × IsEventOf (length trace.sites) (length trace.funcs) e
-
--- ---- within a frame that the path doesn't enter
-
--- there a strand is work alone, and a frame more or less is open
-abbrev pub passed_told : Event → Told → Told
-passed_told (Strand count) t = beside_told count t
-passed_told (Call site func) t = skip_told t
-passed_told (Spawn site func) t = skip_told t
-passed_told Ret t = leave_told t
-passed_told Sync t = t
-
--- such an event fits
-abbrev pub CanPass : Event → Told → Type 0
-CanPass (Strand count) t = t.work + count < 2 ^ 128
-CanPass (Call site func) t = t.skipped + 1 < 2 ^ 32
-CanPass (Spawn site func) t = t.skipped + 1 < 2 ^ 32
-CanPass Ret t = Unit {0}
-CanPass Sync t = Unit {0}

@@ -1,12 +1,12 @@
-//! The rows of a run on its first greatest path: a pass over the events of a trace that is known to be well-formed,
-//! where it is known which spawned children the path enters.
+//! The rows of a run on a path: a pass over the events of a trace that is known to be well-formed, where it is known
+//! which spawned children the path enters.
 
-ghost use Rattle.std.specs.Prelude.{◌≡◌, ◌<◌, ◌≤◌, ◌&&◌, nat_eq, true, false, List, length, OnOk, IfOk};
-ghost use Rattle.spp_event.specs.declared.records.Event.{Event};
-ghost use Rattle.spp_frame.specs.Nesting.{AreEvents, IsWellFormed};
+ghost use Rattle.std.specs.Prelude.{◌≡◌, ◌<◌, ◌≤◌, ◌&&◌, nat_eq, true, false, length, OnOk, IfOk};
+ghost use Rattle.spp_frame.specs.Nesting.{IsWellFormed};
+ghost use Rattle.spp_maxplus.specs.declared.state.Burdens.{Burdens};
 ghost use Rattle.spp_dag.specs.Shares.{plus};
 ghost use Rattle.spp_site.specs.Rows.{frame_row};
-ghost use Rattle.spp_path.specs.Entered.{AreEntered};
+ghost use Rattle.spp_path.specs.Entered.{AreMarks};
 ghost use Rattle.spp_site.specs.Profiles.{IsPathTable};
 ghost use Rattle.spp_path.specs.Rows.{
   told,
@@ -20,12 +20,10 @@ ghost use Rattle.spp_path.specs.Rows.{
   wait_told,
   sync_told,
   leave_told,
-  passed_told,
   OnTop,
   IsOpen,
   running_told,
   IsRead,
-  CanPass,
   CanAdd,
   CanSkip,
   CanReturn,
@@ -33,6 +31,8 @@ ghost use Rattle.spp_path.specs.Rows.{
   IsReturned,
 };
 
+use crate::spans::OpenSpans;
+use spp_dag::FrameKind;
 use spp_event::{Event, Trace};
 use spp_site::{ClosedFrame, Marks, Table};
 use std::alloc::{AllocError, Global};
@@ -54,25 +54,21 @@ struct EnteredFrame {
     running: bool,
     /// The counts of all strands of the trace before its first event.
     work_before: u128,
-    /// The counts of the path's strands before its first event.
-    weight_before: u128,
     /// The counts of the path's strands directly in it.
     local: u128,
 }
 
 impl EnteredFrame {
-    /// The frame as the table counts it, where it closes when `work` is the work so far, and `weight` that of the path
-    /// so far.
+    /// The frame as the table counts it, where it closes with that span when `work` is the work so far.
     #[inline(always)]
-    fn closed(&self, work: u128, weight: u128) -> ClosedFrame
-        requires work { self.now.work_before ≤ work }
-        requires weight { self.now.weight_before ≤ weight }
-        ensures { frame_row result ≡ entered_row self.now work weight }
+    fn closed(&self, work: u128, span: u128) -> ClosedFrame
+        requires { self.now.work_before ≤ work }
+        ensures { frame_row result ≡ entered_row self.now work span }
     {
         ClosedFrame {
             local: self.local,
             work: work - self.work_before,
-            span: weight - self.weight_before,
+            span,
             top_site: self.top_site,
             top_caller: self.top_caller,
         }
@@ -93,8 +89,6 @@ struct PathRows {
     open_funcs: Marks,
     /// The counts of all strands so far.
     work: u128,
-    /// The counts of the path's strands so far.
-    weight: u128,
     /// The rows of the entered frames that have closed.
     table: Table,
 }
@@ -115,7 +109,6 @@ impl PathRows {
             top_func: true,
             running: true,
             work_before: 0,
-            weight_before: 0,
             local: 0,
         })?;
         Ok(PathRows {
@@ -124,7 +117,6 @@ impl PathRows {
             open_sites: Marks::new(alloc),
             open_funcs,
             work: 0,
-            weight: 0,
             table: Table::new(alloc),
         })
     }
@@ -159,24 +151,8 @@ impl PathRows {
         let count = u128::from(count);
         self.work += count;
         if self.runs() {
-            self.weight += count;
             let last = self.frames.len() - 1;
             self.frames[last].local += count;
-        }
-    }
-
-    /// Any event while a frame is open that the path doesn't enter: strands are work alone.
-    #[inline(always)]
-    fn pass_by(&mut self, event: Event)
-        requires skipped { 0 < self.old.skipped }
-        requires fits { CanPass event (told self.old) }
-        ensures { told self.new ≡ passed_told event (told self.old) }
-    {
-        match event {
-            Event::Strand { count } => self.work += u128::from(count),
-            Event::Call { .. } | Event::Spawn { .. } => self.skipped += 1,
-            Event::Ret => self.skipped -= 1,
-            Event::Sync => {}
         }
     }
 
@@ -194,7 +170,6 @@ impl PathRows {
             top_func: !self.open_funcs.has(func),
             running: true,
             work_before: self.work,
-            weight_before: self.weight,
             local: 0,
         };
         self.frames.push(frame)?;
@@ -246,49 +221,48 @@ impl PathRows {
         }
     }
 
-    /// A return of a frame that isn't the root.
+    /// A return of a frame that isn't the root; `span` is the span with which the innermost open frame closes.
     #[inline(always)]
-    fn ret(&mut self) -> Result<(), AllocError>
-        requires { self.old.skipped ≡ 0 → OnTop (λ f. CanReturn f (told self.old)) (told self.old).frames }
-        ensures returned { OnOk result (self.old.skipped ≡ 0 → OnTop (λ f. IsReturned f (told self.old) (told self.new)) (told self.old).frames) }
+    fn ret(&mut self, span: u128) -> Result<(), AllocError>
+        requires { self.old.skipped ≡ 0 → OnTop (λ f. CanReturn f span (told self.old)) (told self.old).frames }
+        ensures returned { OnOk result (self.old.skipped ≡ 0 → OnTop (λ f. IsReturned f span (told self.old) (told self.new)) (told self.old).frames) }
         ensures skipped { OnOk result (0 < self.old.skipped → told self.new ≡ leave_told (told self.old)) }
     {
         if self.skipped > 0 {
             self.skipped -= 1;
             return Ok(());
         }
-        self.close()
+        self.close(span)
     }
 
-    /// The return of the innermost entered frame, which isn't the root.
+    /// The return of the innermost entered frame, which isn't the root and closes with that span.
     #[inline(always)]
-    fn close(&mut self) -> Result<(), AllocError>
-        requires { OnTop (λ f. CanReturn f (told self.old)) (told self.old).frames }
-        ensures { OnOk result (OnTop (λ f. IsReturned f (told self.old) (told self.new)) (told self.old).frames) }
+    fn close(&mut self, span: u128) -> Result<(), AllocError>
+        requires { OnTop (λ f. CanReturn f span (told self.old)) (told self.old).frames }
+        ensures { OnOk result (OnTop (λ f. IsReturned f span (told self.old) (told self.new)) (told self.old).frames) }
     {
         let last = self.frames.len() - 1;
         let child = &self.frames[last];
         self.table
-            .close(child.site, &child.closed(self.work, self.weight))?;
+            .close(child.site, &child.closed(self.work, span))?;
         self.open_sites.remove_if(child.top_site, child.site);
         self.open_funcs.remove_if(child.top_func, child.func);
         self.frames.truncate(last);
         Ok(())
     }
 
-    /// The table, where the last open frame, the root, closes.
-    fn finish(self) -> Table
-        requires { OnTop (λ f. CanFinish f (told self)) (told self).frames }
-        ensures { OnTop (λ f. result ≡ record self.table { root = plus self.table.root (entered_row f self.work self.weight) }) (told self).frames }
+    /// The table, where the last open frame, the root, closes with that span.
+    fn finish(self, span: u128) -> Table
+        requires { OnTop (λ f. CanFinish f span (told self)) (told self).frames }
+        ensures { OnTop (λ f. result ≡ record self.table { root = plus self.table.root (entered_row f self.work span) }) (told self).frames }
     {
         let root = self.frames[self.frames.len() - 1];
         let PathRows {
             mut table,
             work,
-            weight,
             ..
         } = self;
-        table.add_root(&root.closed(work, weight).row());
+        table.add_root(&root.closed(work, span).row());
         table
     }
 }
@@ -303,35 +277,48 @@ fn known_event(trace: &Trace<'_>, at: u32) -> Event
     trace.known_event(at)
 }
 
-/// The rows of a run on its first greatest path. Its trace is known to be well-formed, and `entered` has a mark for
-/// each event, true at the spawns of the children that the path enters.
+/// The rows of a run on the path that enters these spawned children: `entered` has a mark for each event, true at the
+/// spawns of the children that the first greatest path under some burdens enters. It is the table of that path, whatever
+/// the burdens are; spans have none. The trace is known to be well-formed.
 ///
 /// The events are read once, each in constant time, amortized, behind a step for each site and function. The memory is
-/// linear in the number of frames that are open at a time and that the path enters, and in the numbers of sites and
-/// functions.
+/// linear in the number of frames that are open at a time, and in the numbers of sites and functions.
 ///
 /// # Errors
 ///
 /// Where a growth was refused.
 pub fn path_table(alloc: Global, trace: &Trace<'_>, entered: &[bool]) -> Result<Table, AllocError>
     requires formed { IsWellFormed trace.now.records }
-    requires marks { (es : List Event) → AreEvents trace.now.records es → AreEntered es entered.now }
-    ensures { IfOk result (λ t. IsPathTable trace.now t) }
+    requires marks { (burdens : Burdens) × AreMarks trace.now burdens entered.now }
+    ensures { IfOk result (λ t. (burdens : Burdens) → AreMarks trace.now burdens entered.now → IsPathTable trace.now burdens t) }
 {
     let count = trace.count();
+    let mut spans = OpenSpans::new(alloc)?;
     let mut rows = PathRows::new(alloc, trace.root())?;
     for at in 0..count {
-        if rows.skipped > 0 {
-            rows.pass_by(known_event(trace, at));
-            continue;
-        }
         match known_event(trace, at) {
-            Event::Strand { count } => rows.strand(count),
-            Event::Call { site, func } => rows.call(site, func)?,
-            Event::Spawn { site, func } => rows.spawn(entered[at as usize], site, func)?,
-            Event::Ret => rows.ret()?,
-            Event::Sync => rows.sync(),
+            Event::Strand { count } => {
+                spans.strand(count);
+                rows.strand(count);
+            }
+            Event::Call { site, func } => {
+                spans.open(FrameKind::Called)?;
+                rows.call(site, func)?;
+            }
+            Event::Spawn { site, func } => {
+                spans.open(FrameKind::Spawned)?;
+                rows.spawn(entered[at as usize], site, func)?;
+            }
+            Event::Ret => {
+                let span = spans.innermost();
+                spans.ret(span);
+                rows.ret(span)?;
+            }
+            Event::Sync => {
+                spans.sync();
+                rows.sync();
+            }
         }
     }
-    Ok(rows.finish())
+    Ok(rows.finish(spans.innermost()))
 }

@@ -3,11 +3,12 @@
 ghost use Rattle.std.specs.Prelude.{◌≡◌, ℕ, List, length, set, true, IfOk};
 ghost use Rattle.spp_event.specs.declared.records.Event.{Event};
 ghost use Rattle.spp_dag.specs.Trace.{IsWellFormed};
-ghost use Rattle.spp_dag.specs.ChoiceLists.{AreChoices};
+ghost use Rattle.spp_dag.specs.ChoiceLists.{AreEnds, AreJoins};
+ghost use Rattle.spp_maxplus.specs.declared.state.Burdens.{Burdens};
 ghost use Rattle.spp_path.specs.Entered.{AreEntered};
 ghost use Rattle.spp_path.specs.Settling.{last, later, ended, runs_to};
 
-use spp_dag::{Choice, Choices, End};
+use spp_dag::{Choice, End};
 use std::alloc::{AllocError, Global};
 
 /// How the path of a run goes, told from the end backwards.
@@ -75,29 +76,35 @@ fn mark(marks: &mut Vec<bool>, spawn: u32)
     }
 }
 
-/// Which spawned children the path of a run enters, told by its choices: one mark for each event, true at the spawns of
-/// those children. `count` is the number of events. It goes over the choices once, from the last to the first, with no
-/// stack: it takes time linear in the numbers of events and choices, and memory for the marks alone.
+/// Which spawned children the path of a run enters, told by the returns of its spawned children and the choices of that
+/// path where they join: one mark for each event, true at the spawns of those children. `count` is the number of events.
+/// It goes over the choices once, from the last to the first, with no stack: it takes time linear in the numbers of
+/// events and choices, and memory for the marks alone.
 ///
 /// # Errors
 ///
 /// Where an allocation was refused.
-pub fn settle(alloc: Global, count: u32, choices: &Choices) -> Result<Vec<bool>, AllocError>
+pub fn settle(
+    alloc: Global,
+    count: u32,
+    ends: &[End],
+    joins: &[Choice],
+) -> Result<Vec<bool>, AllocError>
     ensures length { IfOk result (λ marks. length marks.items ≡ count) }
-    ensures entered { IfOk result (λ marks. (es : List Event) → IsWellFormed es → length es ≡ count → AreChoices es choices.now → AreEntered es marks.items) }
+    ensures entered { IfOk result (λ marks. (es : List Event) (burdens : Burdens) → IsWellFormed es → length es ≡ count → AreEnds es ends.now → AreJoins es burdens joins.now → AreEntered es burdens marks.items) }
 {
     let mut marks = vec![in alloc; false; count as usize]?;
-    let mut ends = choices.ends.len();
-    let mut joins = choices.joins.len();
+    let mut ends_left = ends.len();
+    let mut joins_left = joins.len();
     let mut onward = Onward::Live;
-    while let Some(note) = last_note(&choices.ends[..ends], &choices.joins[..joins]) {
+    while let Some(note) = last_note(&ends[..ends_left], &joins[..joins_left]) {
         match note {
             Note::End(end) => {
-                ends -= 1;
+                ends_left -= 1;
                 onward = pass(end, onward);
             }
             Note::Join(join) => {
-                joins -= 1;
+                joins_left -= 1;
                 if comes_to(join.at, onward) {
                     onward = match join.taken {
                         Some(spawn) => {

@@ -289,41 +289,40 @@ pub default_is : (b : Burdens) → (b.continuation ≡ 0) × (b.join ≡ 0) → 
 default_is b h = ap₂ (λ (x y : ℕ). let r : Burdens = record { continuation = x; join = y } in r) h.0 h.1
 
 -- the code goes along an edge of the path
-abbrev pub Goes : List Event → ℕ → Option Edge → Type 0
-Goes es at taken = (v : ℕ) × (c : ℕ) × (taken ≡ Some (edge v c)) × (at < v) × (v ≤ length es) × Reaches es unburdened v (length es)
-    × ((rest : List ℕ) → IsPath es unburdened v (length es) rest → IsPath es unburdened at (length es) (v ∷ rest))
+abbrev pub Goes : List Event → Burdens → ℕ → Option Edge → Type 0
+Goes es b at taken = (v : ℕ) × (c : ℕ) × (taken ≡ Some (edge v c)) × (at < v) × (v ≤ length es) × Reaches es b v (length es)
+    × ((rest : List ℕ) → IsPath es b v (length es) rest → IsPath es b at (length es) (v ∷ rest))
 
-pub goes_to : (es : List Event) (at : ℕ) (taken : Option Edge) → Goes es at taken → (e : Edge) → taken ≡ Some e
-    → (at < e.to) × (e.to ≤ length es) × Reaches es unburdened e.to (length es)
-    × ((rest : List ℕ) → IsPath es unburdened e.to (length es) rest → IsPath es unburdened at (length es) (e.to ∷ rest))
-goes_to es at taken k e q =
+pub goes_to : (es : List Event) (b : Burdens) (at : ℕ) (taken : Option Edge) → Goes es b at taken → (e : Edge) → taken ≡ Some e
+    → (at < e.to) × (e.to ≤ length es) × Reaches es b e.to (length es)
+    × ((rest : List ℕ) → IsPath es b e.to (length es) rest → IsPath es b at (length es) (e.to ∷ rest))
+goes_to es b at taken k e q =
     let f : edge k.0 k.1 ≡ e = cc (k.2, q) in
-    subst (λ (v : ℕ). (at < v) × (v ≤ length es) × Reaches es unburdened v (length es)
-    × ((rest : List ℕ) → IsPath es unburdened v (length es) rest → IsPath es unburdened at (length es) (v ∷ rest)))
+    subst (λ (v : ℕ). (at < v) × (v ≤ length es) × Reaches es b v (length es)
+    × ((rest : List ℕ) → IsPath es b v (length es) rest → IsPath es b at (length es) (v ∷ rest)))
     (ap (λ (x : Edge). x.to) f) (k.3, k.4, k.5, k.6)
 
-pub goes_somewhere : (es : List Event) (at : ℕ) (taken : Option Edge) → Goes es at taken → taken ≡ None → ⊥
-goes_somewhere es at taken k q = let f : None ≡ Some (edge k.0 k.1) = sym q ∙ k.2 in cc
+pub goes_somewhere : (es : List Event) (b : Burdens) (at : ℕ) (taken : Option Edge) → Goes es b at taken → taken ≡ None → ⊥
+goes_somewhere es b at taken k q = let f : None ≡ Some (edge k.0 k.1) = sym q ∙ k.2 in cc
 
 -- the edge that the code takes
 pub next_edge : (es : List Event) (b : Burdens) (at : ℕ) (best : List (Option ℕ)) (edges : Edges) (first second : Option ℕ) (le : Bool) (taken : Option Edge)
-    → (b.continuation ≡ 0) × (b.join ≡ 0) → at < length es → length best ≡ suc (length es)
-    → ((x : ℕ) → x ≤ length es → IsBest es unburdened x (length es) (get_or best x None)) → Reaches es unburdened at (length es)
+    → at < length es → length best ≡ suc (length es)
+    → ((x : ℕ) → x ≤ length es → IsBest es b x (length es) (get_or best x None)) → Reaches es b at (length es)
     → ((v c : ℕ) → dag.Edge es b at v c ↔ HasEdge edges v c) → IsInOrder edges
     → first ≡ weight_along edges.first best → second ≡ weight_along edges.second best → le ≡ at_most second first
     → ((le ≡ true) × (taken ≡ edges.first)) ⊎ ((le ≡ false) × (taken ≡ edges.second))
-    → Goes es at taken
-next_edge es b at best edges first second le taken zeros l n known r are order f s q branch =
-    let are' = subst (λ (k : Burdens). (v c : ℕ) → dag.Edge es k at v c ↔ HasEdge edges v c) (default_is b zeros) are in
+    → Goes es b at taken
+next_edge es b at best edges first second le taken l n known r are order f s q branch =
     let beyond = λ (x : ℕ) (m : length es < x). get_or_past best x None (omega arith) in
     let known' = λ (x : ℕ) (m : at < x) (k : x ≤ length es). known x k in
     let test : le ≡ at_most (weight_along edges.second best) (weight_along edges.first best) = q ∙ ap₂ at_most s f in
     elim branch [
       | inl h ↦
-          let t = next_first es unburdened at (length es) best edges l known' beyond are' order r (sym test ∙ h.0) in
+          let t = next_first es b at (length es) best edges l known' beyond are order r (sym test ∙ h.0) in
           (t.0, t.1, h.1 ∙ t.2.is, t.2.onward, t.2.within, t.2.reaches, t.2.first)
       | inr h ↦
-          let t = next_second es unburdened at (length es) best edges l known' beyond are' (sym test ∙ h.0) in
+          let t = next_second es b at (length es) best edges l known' beyond are (sym test ∙ h.0) in
           (t.0, t.1, h.1 ∙ t.2.is, t.2.onward, t.2.within, t.2.reaches, t.2.first)
     ]
 
@@ -374,9 +373,6 @@ entries_fit es b sm ar end best l n known x w e = elim (cases_lt end x) [
   | inl m ↦ (let z : None ≡ Some w = sym (get_or_past best x None (omega arith)) ∙ e in cc)
   | inr m ↦ (let f = best_fits es b sm ar x end w l (subst (λ o. IsBest es b x end o) e (known x m)) in omega arith)
 ]
-
-pub unburdened_small : AreSmall unburdened
-unburdened_small = record { continuation = omega arith; join = omega arith }
 
 -- the table in the making: at first only the last entry
 pub filled_first : (es : List Event) (b : Burdens) → IsSmall es → AreSmall b → (end from n : ℕ) (best : List (Option ℕ)) (w : ℕ) → end ≤ length es → from ≡ end

@@ -4,7 +4,6 @@ use Rattle.std.proofs.lemmas.Bool.{cases_lt, both_ways}
 use Rattle.std.proofs.lemmas.Option.{slice_get_past, get_or_from_slice_get}
 use Rattle.std.proofs.lemmas.List.{take_more, map-append, get_or_append_left}
 use Rattle.spp_event.specs.declared.records.Event.{Event}
-use Rattle.spp_event.specs.declared.records.Event.TheVariants.{Strand, Call, Spawn, Ret, Sync}
 use Rattle.spp_event.specs.declared.records.EventFault.TheVariants.{Truncated}
 use Rattle.spp_event.specs.Records.{IsEventOf}
 use Rattle.spp_event.specs.Recordings.{Record, record_at}

@@ -22,6 +22,8 @@ pub record Parts (es : List Event) (root sites : ℕ) (burdens : Burdens) (spans
   pub marks : Lists (length es) (contains r.path.items) r.marks.items
   pub dag_rows : AreRows (row es root (λ f. get_or spans f 0) everywhere) sites r.dag_rows
   pub path_rows : AreRows (row es root (λ f. get_or spans f 0) (contains r.path.items)) sites r.path_rows
+  pub burdened_path : (rest : List ℕ) × IsPath es burdens 0 (length es) rest
+      × AreRows (row es root (λ f. get_or spans f 0) (contains (0 ∷ rest))) sites r.burdened_path_rows
 
 pub parts_are : (es : List Event) (root sites : ℕ) (burdens : Burdens) (spans : List ℕ) (r : Reference)
     → Parts es root sites burdens spans r → IsProfiled es root sites burdens r
@@ -34,6 +36,7 @@ parts_are es root sites burdens spans r p =
         burdened_span = r.burdened_span;
         dag = row es root span everywhere;
         path = row es root span (contains (0 ∷ p.path.0));
+        burdened_path = row es root span (contains (0 ∷ p.burdened_path.0));
       };
       is_profile = record {
         well_formed = p.well_formed;
@@ -46,6 +49,9 @@ parts_are es root sites burdens spans r p =
         is_path = p.path.2;
         dag = λ key. refl;
         path = λ key. refl;
+        burdened_rest = p.burdened_path.0;
+        is_burdened_path = p.burdened_path.1;
+        burdened_path = λ key. refl;
       };
       work_is = refl;
       span_is = refl;
@@ -54,4 +60,5 @@ parts_are es root sites burdens spans r p =
       marks_are = p.marks;
       dag_rows_are = p.dag_rows;
       path_rows_are = subst (λ (ps : List ℕ). AreRows (row es root span (contains ps)) sites r.path_rows) p.path.1 p.path_rows;
+      burdened_path_rows_are = p.burdened_path.2;
     }

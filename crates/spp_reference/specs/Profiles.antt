@@ -16,7 +16,7 @@ pub record AreRows (row : Option ℕ → Row) (count : ℕ) (t : SiteRows) : Typ
   pub root : t.root ≡ row None
   pub sites : Lists count (λ site. row (Some site)) t.sites.items
 
--- the profile of the dag of these events, with its path
+-- the profile of the dag of these events, with its path without burdens
 pub record IsProfiled (events : List Event) (root sites : ℕ) (burdens : Burdens) (r : Reference) : Type 0 where
   pub profile : Profile
   pub is_profile : IsProfile events root burdens profile
@@ -27,6 +27,7 @@ pub record IsProfiled (events : List Event) (root sites : ℕ) (burdens : Burden
   pub marks_are : Lists (length events) (contains r.path.items) r.marks.items
   pub dag_rows_are : AreRows profile.dag sites r.dag_rows
   pub path_rows_are : AreRows profile.path sites r.path_rows
+  pub burdened_path_rows_are : AreRows profile.burdened_path sites r.burdened_path_rows
 
 -- the profile of the trace
 abbrev pub IsReference : Recording → Burdens → Reference → Type 0

@@ -48,6 +48,8 @@ pub struct Reference {
     pub dag_rows: SiteRows,
     /// The rows on the path.
     pub path_rows: SiteRows,
+    /// The rows on the first path that is greatest under the burdens.
+    pub burdened_path_rows: SiteRows,
 }
 
 /// The events of a well-formed trace.
@@ -135,12 +137,15 @@ fn profiled(
     ensures { IfOk result (λ r. IsProfiled dag.now root sites burdens r) }
 {
     let spans = spans(alloc, dag)?;
-    let path = path(alloc, dag)?;
+    let burdened_path = path(alloc, dag, burdens)?;
+    let path = path(alloc, dag, Burdens::default())?;
     let burdened_span = span(alloc, dag, burdens, 0)?;
     let dag_rows = rows_of(alloc, dag, root, spans.as_slice(), Places::All, sites)?;
     let on_path = Places::On(path.as_slice());
     let path_rows = rows_of(alloc, dag, root, spans.as_slice(), on_path, sites)?;
     let marks = marks(alloc, path.as_slice(), dag.end())?;
+    let on_path = Places::On(burdened_path.as_slice());
+    let burdened_path_rows = rows_of(alloc, dag, root, spans.as_slice(), on_path, sites)?;
     Ok(Reference {
         work: work(dag, 0),
         span: spans[0],
@@ -149,6 +154,7 @@ fn profiled(
         marks,
         dag_rows,
         path_rows,
+        burdened_path_rows,
     })
 }
 

@@ -2,7 +2,7 @@
 //! with.
 //!
 //! It makes no use of the stack machine: spans are the greatest weights of walks, found from their ends backwards, and
-//! the path goes from position to position along the first edge that a greatest walk takes.
+//! a path goes from position to position along the first edge that a greatest walk takes.
 #![tactic(auto)]
 
 mod answers;

@@ -1,4 +1,4 @@
-//! The rows of the two tables.
+//! The rows of the tables.
 
 ghost use Rattle.std.specs.Prelude.{◌≡◌, ◌≤◌, ◌<◌, ◌+◌, ◌^◌, suc, length, true, ℕ, get_or, nat_le, nat_eq, ◌&&◌, cond};
 ghost use Rattle.spp_dag.specs.Ranges.{sum_where};

@@ -1,8 +1,7 @@
-//! The greatest weights of walks, and the path.
+//! The greatest weights of walks, and paths.
 
 ghost use Rattle.std.specs.Prelude.{◌≡◌, ◌+◌, ◌≤◌, ◌<◌, ◌^◌, suc, ◌∷◌, length, List, ℕ, true, Some, None, get_or, IfOk};
 ghost use Rattle.std.specs.Option.{option_map};
-ghost use Rattle.spp_maxplus.specs.State.{unburdened};
 ghost use Rattle.spp_dag.specs.Trace.{is_frame, closing};
 ghost use Rattle.spp_dag.specs.Dag.{IsGreatest, IsPath};
 ghost use Rattle.spp_reference.specs.Walks.{IsBest, Reaches, weight_along};
@@ -74,20 +73,20 @@ pub(crate) fn span(
     }
 }
 
-/// The position that comes after `at` on the first greatest path without burdens to the end; `best` has, for each
-/// position, the greatest weight from there to the end.
-fn next(dag: &Dag<'_>, best: &[Option<u128>], at: usize) -> usize
+/// The position that comes after `at` on the first path to the end that is greatest under the burdens; `best` has, for
+/// each position, the greatest weight from there to the end.
+fn next(dag: &Dag<'_>, burdens: Burdens, best: &[Option<u128>], at: usize) -> usize
     requires within { at < length dag.now }
     requires count { length best.now ≡ suc (length dag.now) }
-    requires best { (x : ℕ) → x ≤ length dag.now → IsBest dag.now unburdened x (length dag.now) (get_or best.now x None) }
-    requires reaches { Reaches dag.now unburdened at (length dag.now) }
+    requires best { (x : ℕ) → x ≤ length dag.now → IsBest dag.now burdens x (length dag.now) (get_or best.now x None) }
+    requires reaches { Reaches dag.now burdens at (length dag.now) }
     ensures onward { at < result }
     ensures within { result ≤ length dag.now }
-    ensures reaches { Reaches dag.now unburdened result (length dag.now) }
-    ensures first { (rest : List ℕ) → IsPath dag.now unburdened result (length dag.now) rest → IsPath dag.now unburdened at (length dag.now) (result ∷ rest) }
+    ensures reaches { Reaches dag.now burdens result (length dag.now) }
+    ensures first { (rest : List ℕ) → IsPath dag.now burdens result (length dag.now) rest → IsPath dag.now burdens at (length dag.now) (result ∷ rest) }
 {
     prove!(at < dag.end());
-    let edges = dag.edges(Burdens::default(), at);
+    let edges = dag.edges(burdens, at);
     let first = along(edges.first, best);
     let second = along(edges.second, best);
     let taken = if second <= first {
@@ -101,17 +100,17 @@ fn next(dag: &Dag<'_>, best: &[Option<u128>], at: usize) -> usize
     }
 }
 
-/// The positions of the first greatest path without burdens, from 0 to the end.
-pub(crate) fn path(alloc: Global, dag: &Dag<'_>) -> Result<Vec<usize>, AllocError>
-    ensures { IfOk result (λ ps. (rest : List ℕ) × (ps.items ≡ 0 ∷ rest) × IsPath dag.now unburdened 0 (length dag.now) rest) }
+/// The positions of the first path that is greatest under the burdens, from 0 to the end.
+pub(crate) fn path(alloc: Global, dag: &Dag<'_>, burdens: Burdens) -> Result<Vec<usize>, AllocError>
+    ensures { IfOk result (λ ps. (rest : List ℕ) × (ps.items ≡ 0 ∷ rest) × IsPath dag.now burdens 0 (length dag.now) rest) }
 {
     let end = dag.end();
-    let best = greatest_weights(alloc, dag, Burdens::default(), end)?;
+    let best = greatest_weights(alloc, dag, burdens, end)?;
     let mut path = Vec::new(alloc);
     path.push(0)?;
     let mut at = 0;
     while at < end {
-        at = next(dag, best.as_slice(), at);
+        at = next(dag, burdens, best.as_slice(), at);
         path.push(at)?;
     }
     Ok(path)

@@ -4,7 +4,7 @@ use Rattle.std.specs.Prelude.{Bool, ◌||◌, nat_eq, nat_lt, cond, decimal, zer
 use Rattle.std.specs.Fmt.{digits, digits_onto, digit_glyph}
 use Rattle.std.specs.List.{AllByRecursion, list_any, flat_map, range_with_len}
 use Rattle.std.specs.Io.KnownBytes.{Appends}
-use Rattle.std.specs.Prelude.{◌+◌, Result, Option, Ok, Err, OnOk, is_ok, ◌≢◌}
+use Rattle.std.specs.Prelude.{◌+◌, Result, Option, Ok, Err, IfOk, MatchResult, OnOk, is_ok, ◌≢◌}
 use Rattle.csv.specs.declared.writer.QuoteStyle.TheVariants as style
 use Rattle.csv.specs.declared.writer.Writer.{Writer}
 use Rattle.csv.specs.declared.writer.WriterBuilder.{WriterBuilder}
@@ -123,3 +123,14 @@ pub wrote_parts : {T E : Type 0} (r : Result T E) (a b c d : Option (List ℕ)) 
     → Appends a b xs → Appends b c ys → OnOk r (Appends c d zs) → OnOk r (Appends a d (xs ++ ys ++ zs))
 wrote_parts (Ok x) a b c d xs ys zs p q h = appends_both a c d (xs ++ ys) zs (appends_both a b c xs ys p q) h
 wrote_parts (Err x) a b c d xs ys zs p q h = tt
+
+-- what was given back, where another error is told in place of its error
+pub gave_back : {V E F : Type 0} (r : Result V E) (s : Result V F) (P : V → Type 0) (Q : E → Type 0)
+    → is_ok s ≡ is_ok r → MatchResult r (λ x. s ≡ Ok x) Q → IfOk r P → IfOk s P
+gave_back (Ok x) s P Q e m h = subst (λ o. IfOk o P) (sym m) h
+gave_back (Err x) (Ok y) P Q e m h = cc e
+gave_back (Err x) (Err y) P Q e m h = tt
+
+-- a text behind nothing
+pub behind_nothing : (here all before pending text : List ℕ) → here ≡ all → all ≡ (before ++ pending) ++ text → before ≡ [] → pending ≡ [] → here ≡ text
+behind_nothing here all before pending text e f b p = rw (e, f, b, p) refl

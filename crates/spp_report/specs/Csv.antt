@@ -3,7 +3,8 @@ use Rattle.std.specs.Prelude.{ℕ, ◌||◌, nat_eq, cond, List, [], ◌∷◌, 
 use Rattle.std.specs.List.{flat_map, list_any, range_with_len}
 use Rattle.spp_event.specs.Recordings.{Recording}
 use Rattle.spp_dag.specs.declared.row.Row.{Row}
-use Rattle.spp_site.specs.Table.{Sums, row_at}
+use Rattle.spp_site.specs.declared.profile.Profile.{Profile}
+use Rattle.spp_site.specs.Table.{row_at}
 
 abbrev pub comma : ℕ
 comma = 44
@@ -37,7 +38,7 @@ numbers r = r.count ∷ r.local ∷ r.site_count ∷ r.site_work ∷ r.site_span
 abbrev pub cells : Row → List (List ℕ)
 cells r = map decimal (numbers r)
 
--- the names of the eight numbers on the whole dag, and on the first greatest path
+-- the names of the eight numbers on the whole dag, on the first greatest path, and on the first greatest burdened path
 abbrev pub dag_columns : List (List ℕ)
 dag_columns = codes "count" ∷ codes "local" ∷ codes "site_count" ∷ codes "site_work" ∷ codes "site_span"
     ∷ codes "caller_count" ∷ codes "caller_work" ∷ codes "caller_span" ∷ []
@@ -45,20 +46,24 @@ dag_columns = codes "count" ∷ codes "local" ∷ codes "site_count" ∷ codes "
 abbrev pub path_columns : List (List ℕ)
 path_columns = map (λ name. codes "path_" ++ name) dag_columns
 
+abbrev pub burdened_path_columns : List (List ℕ)
+burdened_path_columns = map (λ name. codes "burdened_" ++ name) path_columns
+
 -- the names of the columns
 abbrev pub columns : List (List ℕ)
-columns = codes "name" ∷ dag_columns ++ path_columns
+columns = codes "name" ∷ dag_columns ++ path_columns ++ burdened_path_columns
 
 -- the record of a name, with its row in each table
-abbrev pub named_record : List ℕ → Row → Row → List ℕ
-named_record name dag path = record_text (name ∷ cells dag ++ cells path)
+abbrev pub named_record : List ℕ → Row → Row → Row → List ℕ
+named_record name dag path burdened_path = record_text (name ∷ cells dag ++ cells path ++ cells burdened_path)
 
 -- the record of a site
-abbrev pub site_record : Recording → Sums → Sums → ℕ → List ℕ
-site_record trace dag path site = named_record (slice_index_or trace.sites site []) (row_at dag site) (row_at path site)
+abbrev pub site_record : Recording → Profile → ℕ → List ℕ
+site_record trace p site =
+    named_record (slice_index_or trace.sites site []) (row_at p.dag site) (row_at p.path site) (row_at p.burdened_path site)
 
 -- the columns, the root's rows, and the rows of each site in order
-abbrev pub csv_text : Recording → Sums → Sums → List ℕ
-csv_text trace dag path =
-    record_text columns ++ named_record (codes "(root)") dag.root path.root
-    ++ flat_map (site_record trace dag path) (range_with_len 0 (length trace.sites))
+abbrev pub csv_text : Recording → Profile → List ℕ
+csv_text trace p =
+    record_text columns ++ named_record (codes "(root)") p.dag.root p.path.root p.burdened_path.root
+    ++ flat_map (site_record trace p) (range_with_len 0 (length trace.sites))

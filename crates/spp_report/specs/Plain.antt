@@ -2,8 +2,8 @@
 use Rattle.std.specs.Prelude.{ℕ, ◌-◌, nat_eq, cond, List, [], ◌++◌, length, replicate, slice_index_or, codes}
 use Rattle.std.specs.List.{flat_map, range_with_len}
 use Rattle.spp_event.specs.Recordings.{Recording}
+use Rattle.spp_site.specs.declared.profile.Profile.{Profile}
 use Rattle.spp_site.specs.Table.{Sums, row_at}
-use Rattle.spp_dag.specs.declared.figures.Figures.{Figures}
 use Rattle.spp_report.specs.Csv.{cells, dag_columns}
 use Rattle.spp_report.specs.Figures.{line, figures_text}
 
@@ -38,7 +38,8 @@ table_text trace t =
 abbrev pub titled_table : List ℕ → Recording → Sums → List ℕ
 titled_table title trace t = line [] ++ line title ++ table_text trace t
 
--- the figures, the table of the whole dag, and the table of the path
-abbrev pub plain_text : Recording → Figures → Sums → Sums → List ℕ
-plain_text trace figures dag path =
-    figures_text figures ++ titled_table (codes "whole dag") trace dag ++ titled_table (codes "first greatest path") trace path
+-- the figures, the table of the whole dag, the table of the path, and that of the burdened path
+abbrev pub plain_text : Recording → Profile → List ℕ
+plain_text trace p =
+    figures_text p.figures ++ titled_table (codes "whole dag") trace p.dag ++ titled_table (codes "first greatest path") trace p.path
+    ++ titled_table (codes "first greatest burdened path") trace p.burdened_path

@@ -1,4 +1,4 @@
-//! Both tables of a run as comma-separated values.
+//! The tables of a run as comma-separated values.
 
 ghost use Rattle.std.specs.Prelude.{◌≡◌, ◌∷◌, ◌++◌, [], length, IfOk, OnOk};
 ghost use Rattle.std.specs.Io.KnownBytes.{Appends};
@@ -18,7 +18,7 @@ use std::alloc::{AllocError, Global};
 use std::io::Write;
 
 /// The names of the columns.
-const COLUMNS: [&[u8]; 17] = [
+const COLUMNS: [&[u8]; 25] = [
     b"name",
     b"count",
     b"local",
@@ -36,6 +36,14 @@ const COLUMNS: [&[u8]; 17] = [
     b"path_caller_count",
     b"path_caller_work",
     b"path_caller_span",
+    b"burdened_path_count",
+    b"burdened_path_local",
+    b"burdened_path_site_count",
+    b"burdened_path_site_work",
+    b"burdened_path_site_span",
+    b"burdened_path_caller_count",
+    b"burdened_path_caller_work",
+    b"burdened_path_caller_span",
 ];
 
 /// Adds the eight numbers of a row to a record.
@@ -60,23 +68,25 @@ fn write_columns<W: Write + Drop>(writer: &mut Writer<W>) -> Result<(), AllocErr
     writer.write_fields(&COLUMNS).map_err(|_| AllocError)
 }
 
-/// Writes the record of a name and its rows in both tables. What `fields` held before is lost.
+/// Writes the record of a name and its rows in the three tables. What `fields` held before is lost.
 fn write_rows<W: Write + Drop>(
     writer: &mut Writer<W>,
     fields: &mut ByteRecord,
     name: &str,
     dag: &Row,
     path: &Row,
+    burdened_path: &Row,
 ) -> Result<(), AllocError>
     requires ready { AwaitsRecord writer.old }
     requires plain { IsPlain name.now }
-    ensures text { OnOk result (Appends (text_written W.contents writer.old) (text_written W.contents writer.new) (named_record name.now dag.now path.now)) }
+    ensures text { OnOk result (Appends (text_written W.contents writer.old) (text_written W.contents writer.new) (named_record name.now dag.now path.now burdened_path.now)) }
     ensures next { OnOk result (AwaitsRecord writer.new) }
 {
     fields.clear();
     fields.push_field(name.as_bytes())?;
     push_cells(fields, dag)?;
     push_cells(fields, path)?;
+    push_cells(fields, burdened_path)?;
     writer.write_byte_record(fields).map_err(|_| AllocError)
 }
 
@@ -88,12 +98,14 @@ fn write_sites<W: Write + Drop>(
 ) -> Result<(), AllocError>
     requires ready { AwaitsRecord writer.old }
     requires names { HasGoodNames named.now.trace.now }
-    ensures { OnOk result (Appends (text_written W.contents writer.old) (text_written W.contents writer.new) (flat_map (site_record named.now.trace.now named.now.profile.now.dag named.now.profile.now.path) (range_with_len 0 (length named.now.trace.now.sites)))) }
+    ensures { OnOk result (Appends (text_written W.contents writer.old) (text_written W.contents writer.new) (flat_map (site_record named.now.trace.now named.now.profile.now) (range_with_len 0 (length named.now.trace.now.sites)))) }
 {
     let Named { trace, profile } = *named;
     for site in 0..trace.sites() {
         let (dag, path) = (profile.dag.row(site), profile.path.row(site));
-        write_rows(writer, fields, trace.site_name(site), &dag, &path)?;
+        let burdened_path = profile.burdened_path.row(site);
+        let name = trace.site_name(site);
+        write_rows(writer, fields, name, &dag, &path, &burdened_path)?;
     }
     Ok(())
 }
@@ -106,25 +118,27 @@ fn write_tables<W: Write + Drop>(
 ) -> Result<(), AllocError>
     requires ready { AwaitsRecord writer.old }
     requires names { HasGoodNames named.now.trace.now }
-    ensures { OnOk result (Appends (text_written W.contents writer.old) (text_written W.contents writer.new) (csv_of_profile named.now.trace.now named.now.profile.now.dag named.now.profile.now.path)) }
+    ensures { OnOk result (Appends (text_written W.contents writer.old) (text_written W.contents writer.new) (csv_of_profile named.now.trace.now named.now.profile.now)) }
 {
     write_columns(writer)?;
     let profile = named.profile;
     let (dag, path) = (profile.dag.root_row(), profile.path.root_row());
-    write_rows(writer, fields, "(root)", &dag, &path)?;
+    let burdened_path = profile.burdened_path.root_row();
+    write_rows(writer, fields, "(root)", &dag, &path, &burdened_path)?;
     write_sites(writer, fields, named)
 }
 
-/// Both tables of a run as comma-separated values: a header of seventeen columns, a record for the root frame under the
+/// The tables of a run as comma-separated values: a header of twenty-five columns, a record for the root frame under the
 /// name `(root)`, and one for each site in the order of the trace. A record has the name, the eight numbers of its row
-/// on the whole dag, and the eight of its row on the first greatest path. A name stands in double quotes where it has a
-/// comma or a double quote, with each quote of it doubled. It takes memory and time linear in the text.
+/// on the whole dag, the eight of its row on the first greatest path, and the eight of its row on the first greatest
+/// burdened path. A name stands in double quotes where it has a comma or a double quote, with each quote of it doubled.
+/// It takes memory and time linear in the text.
 ///
 /// # Errors
 ///
 /// No memory was left.
 pub fn csv_text(alloc: Global, named: &Named<'_, '_>) -> Result<Vec<u8>, AllocError>
-    ensures { IfOk result (λ text. text.items ≡ csv_of_profile named.now.trace.now named.now.profile.now.dag named.now.profile.now.path) }
+    ensures { IfOk result (λ text. text.items ≡ csv_of_profile named.now.trace.now named.now.profile.now) }
 {
     named.trace.keeps_limits();
     let mut writer = WriterBuilder::new().from_writer(Vec::new(alloc));

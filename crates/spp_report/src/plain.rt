@@ -1,4 +1,4 @@
-//! The figures and both tables of a run as text for a reader.
+//! The figures and tables of a run as text for a reader.
 
 ghost use Rattle.std.specs.Prelude.{◌≡◌, ◌++◌, ◌<◌, ◌^◌, length, codes, IfOk, OnOk};
 ghost use Rattle.std.specs.List.{flat_map, range_with_len};
@@ -74,9 +74,9 @@ fn push_table(
     push_sites(text, trace, table)
 }
 
-/// The profile of a run as text: the five lines of [`figures_text`], the table on the whole dag, and the table on the
-/// first greatest path. A table has a line for the root frame, and one for each site with a frame in that table, in the
-/// order of the trace; its columns are right-aligned in at least 12 places. Counts are of frames; local counts, works
+/// The profile of a run as text: the five lines of [`figures_text`], the table on the whole dag, the table on the first
+/// greatest path, and the table on the first greatest burdened path. A table has a line for the root frame, and one for
+/// each site with a frame in that table, in the order of the trace; its columns are right-aligned in at least 12 places. Counts are of frames; local counts, works
 /// and spans are in instructions. The work is below 2^120. It takes memory linear in the text, and time linear in the
 /// text and the number of sites.
 ///
@@ -85,11 +85,18 @@ fn push_table(
 /// No memory was left.
 pub fn plain_text(alloc: Global, named: &Named<'_, '_>) -> Result<Vec<u8>, AllocError>
     requires { named.now.profile.now.figures.work < 2 ^ 120 }
-    ensures { IfOk result (λ text. text.items ≡ text_of_profile named.now.trace.now named.now.profile.now.figures named.now.profile.now.dag named.now.profile.now.path) }
+    ensures { IfOk result (λ text. text.items ≡ text_of_profile named.now.trace.now named.now.profile.now) }
 {
     let Named { trace, profile } = *named;
     let mut text = figures_text(alloc, &profile.figures)?;
     push_table(&mut text, "whole dag", trace, &profile.dag)?;
     push_table(&mut text, "first greatest path", trace, &profile.path)?;
+    let burdened_path = &profile.burdened_path;
+    push_table(
+        &mut text,
+        "first greatest burdened path",
+        trace,
+        burdened_path,
+    )?;
     Ok(text)
 }

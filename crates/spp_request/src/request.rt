@@ -3,6 +3,7 @@ ghost use Rattle.std.specs.Prelude.{◌≡◌};
 ghost use Rattle.spp_request.specs.declared.request.UsageFault.TheVariants.{Memory};
 
 use spp_cut::Parts;
+use spp_maxplus::Burdens;
 use std::alloc::{AllocError, AllocFailed};
 use thiserror::Error;
 
@@ -13,7 +14,7 @@ pub enum Command {
     Check,
     /// Print the work, the span and the burdened span of a run.
     Figures,
-    /// Print the figures of a run and two tables of its call sites.
+    /// Print the figures of a run and three tables of its call sites.
     Profile,
     /// Read a trace as text and write its bytes.
     Encode,
@@ -26,8 +27,9 @@ pub struct Request {
     pub command: Command,
     /// The paths of its inputs, in order; where there is none, standard input is read.
     pub files: Vec<String>,
-    /// What each continuation edge and each return edge bears, in instructions; 15,000 where none is given.
-    pub burden: u32,
+    /// What continuation edges and return edges bear, in instructions: 15,000 where no number is given, and the same on
+    /// both where none is given for return edges alone.
+    pub burdens: Burdens,
     /// Into how many parts the trace is cut, which changes no answer; 16 where no number is given.
     pub parts: Parts,
     /// Whether comma-separated values are asked for.

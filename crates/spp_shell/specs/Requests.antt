@@ -2,18 +2,18 @@
 use Rattle.std.specs.Prelude.{ℕ, Bool, List}
 use Rattle.spp_request.specs.declared.request.Command.{Command}
 use Rattle.spp_request.specs.declared.request.Command.TheVariants.{Check, Figures, Profile, Encode}
-use Rattle.spp_maxplus.specs.State.{equal}
+use Rattle.spp_maxplus.specs.declared.state.Burdens.{Burdens}
 use Rattle.spp_shell.specs.Check.{IsCheckText, IsCheckLine}
 use Rattle.spp_shell.specs.Encode.{IsEncodeText, IsEncodeLine}
 use Rattle.spp_shell.specs.Figures.{IsFiguresText}
 use Rattle.spp_shell.specs.Profiles.{IsProfileText}
 
--- the text of the answer, with that burden, and as comma-separated values or not, where the command asks for these
-abbrev pub text_for : Command → ℕ → Bool → List (List ℕ) → List ℕ → Type 0
-text_for Check burden csv = IsCheckText
-text_for Figures burden csv = IsFiguresText (equal burden)
-text_for Profile burden csv = IsProfileText (equal burden) csv
-text_for Encode burden csv = IsEncodeText
+-- the text of the answer, with these burdens, and as comma-separated values or not, where the command asks for these
+abbrev pub text_for : Command → Burdens → Bool → List (List ℕ) → List ℕ → Type 0
+text_for Check burdens csv = IsCheckText
+text_for Figures burdens csv = IsFiguresText burdens
+text_for Profile burdens csv = IsProfileText burdens csv
+text_for Encode burdens csv = IsEncodeText
 
 -- the line of fault of inputs that are refused
 abbrev pub line_for : Command → List (List ℕ) → List ℕ → Type 0

@@ -2,7 +2,6 @@
 //! fault.
 ghost use Rattle.std.specs.Prelude.{◌≡◌, IfErr};
 ghost use Rattle.spp_shell.specs.Tasks.{IfLine};
-ghost use Rattle.spp_maxplus.specs.State.{equal};
 ghost use Rattle.spp_shell.specs.Check.{IsCheckLine};
 ghost use Rattle.spp_shell.specs.Figures.{IsFiguresText};
 
@@ -28,11 +27,11 @@ pub(crate) struct FiguresTask {
 impl FiguresTask {
     /// The task that is asked for.
     pub(crate) fn of(request: &Request) -> Self
-        ensures burdens { result.burdens ≡ equal request.now.burden }
+        ensures burdens { result.burdens ≡ request.now.burdens }
         ensures parts { result.parts ≡ request.now.parts }
     {
         FiguresTask {
-            burdens: Burdens::equal(request.burden),
+            burdens: request.burdens,
             parts: request.parts,
         }
     }

@@ -1,6 +1,5 @@
-//! The task `profile`: the figures and both tables of a run, or its trace's first fault.
+//! The task `profile`: the figures and tables of a run, or its trace's first fault.
 ghost use Rattle.std.specs.Prelude.{◌≡◌, ◌<◌, ◌^◌, IfOk};
-ghost use Rattle.spp_maxplus.specs.State.{equal};
 ghost use Rattle.spp_shell.specs.Check.{IsCheckLine};
 ghost use Rattle.spp_shell.specs.Profiles.{IsProfileText, report_text};
 
@@ -25,11 +24,11 @@ pub(crate) struct ProfileTask {
 impl ProfileTask {
     /// The task that is asked for.
     pub(crate) fn of(request: &Request) -> Self
-        ensures burdens { result.burdens ≡ equal request.now.burden }
+        ensures burdens { result.burdens ≡ request.now.burdens }
         ensures csv { result.csv ≡ request.now.csv }
     {
         ProfileTask {
-            burdens: Burdens::equal(request.burden),
+            burdens: request.burdens,
             csv: request.csv,
         }
     }
@@ -38,7 +37,7 @@ impl ProfileTask {
 /// The tables alone as comma-separated values, where `csv` says so, or else the figures and tables as text.
 fn report(alloc: Global, named: &Named<'_, '_>, csv: bool) -> Result<Vec<u8>, AllocError>
     requires { named.now.profile.now.figures.work < 2 ^ 120 }
-    ensures { IfOk result (λ text. text.items ≡ report_text csv named.now.trace.now named.now.profile.now.figures named.now.profile.now.dag named.now.profile.now.path) }
+    ensures { IfOk result (λ text. text.items ≡ report_text csv named.now.trace.now named.now.profile.now) }
 {
     if csv {
         csv_text(alloc, named)

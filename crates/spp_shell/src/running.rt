@@ -54,7 +54,7 @@ pub fn run<S: Source, O: Sink, E: Sink>(
     out: &mut O,
     err: &mut E,
 ) -> u8
-    ensures ends { RunEnds (devices_of S.answered S.failures first.old first.new (taking_of O.took O.finished O.failures out.old out.new) (taking_of E.took E.finished E.failures err.old err.new)) (text_for request.now.command request.now.burden request.now.csv) (line_for request.now.command) result }
+    ensures ends { RunEnds (devices_of S.answered S.failures first.old first.new (taking_of O.took O.finished O.failures out.old out.new) (taking_of E.took E.finished E.failures err.old err.new)) (text_for request.now.command request.now.burdens request.now.csv) (line_for request.now.command) result }
 {
     match request.command {
         Command::Check => run_task(alloc, &Check, first, out, err),

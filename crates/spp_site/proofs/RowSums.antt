@@ -97,7 +97,7 @@ cond_le : (b : Bool) (n m : ℕ) → n ≤ m → cond b n 0 ≤ m
 cond_le true n m h = h
 cond_le false n m h = omega arith
 
-pub low_closed : (b : Bool) (f : EntryFrame) (w : ℕ) → w ≤ 4951760157141521099596496896 → close f.state ≤ w → Low 1 0 (cond b (closed_row f w) zero_row)
+pub low_closed : (b : Bool) (f : EntryFrame) (w : ℕ) → w ≤ 4951760157141521099596496896 → close f.state ≤ 4951760157141521099596496896 → Low 1 0 (cond b (closed_row f w) zero_row)
 low_closed true f w l c =
     let p : w - f.before ≤ 4951760157141521099596496896 * 1 = omega arith in
     let q : close f.state ≤ 4951760157141521099596496896 * 1 = omega arith in

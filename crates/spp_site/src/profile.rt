@@ -12,4 +12,7 @@ pub struct Profile {
     pub dag: Table,
     /// Its rows on its first greatest path, the critical path (Cilkprof's profile on the span).
     pub path: Table,
+    /// Its rows on the first path that is greatest under the burdens (the critical path of Cilkview's burdened dag). The
+    /// burdens decide which path that is, and no row bears any.
+    pub burdened_path: Table,
 }

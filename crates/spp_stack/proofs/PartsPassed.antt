@@ -14,41 +14,26 @@ use Rattle.spp_maxplus.specs.declared.state.Burdens.{Burdens}
 use Rattle.spp_dag.specs.declared.stack.EntryFrame.{EntryFrame}
 use Rattle.spp_dag.specs.Trace.{records, weight_of}
 use Rattle.spp_dag.specs.Limits as limits
+use Rattle.spp_dag.specs.Limits.{AreSmall}
 use Rattle.spp_dag.specs.Stack.{root_frame}
 use Rattle.std.proofs.lemmas.Option.{slice_get_within}
 use Rattle.spp_dag.proofs.Bounds.{work_fits}
-use Rattle.spp_piece.specs.declared.pieces.Frame.{Frame}
-use Rattle.spp_piece.specs.declared.pieces.Unmatched.{Unmatched}
 use Rattle.spp_piece.specs.Account.{Account}
 use Rattle.spp_piece.specs.Machine.{event, events}
 use Rattle.spp_piece.specs.Summary.{Sum, empty, summary_ops, summary_of, play, play_fault, play_frames, play_returns}
-use Rattle.spp_piece.specs.Bound.{IsSmall, IsCount, worst, load, load_returns, load_frames, most_before}
+use Rattle.spp_piece.specs.Bound.{IsSmall, IsCount, worst, load, most_before}
 use Rattle.spp_piece.proofs.Small.{small_event, small_empty}
 use Rattle.spp_stack.specs.declared.node.Node.{Node}
 use Rattle.spp_stack.specs.declared.stacks.Start.{Start}
 use Rattle.spp_stack.specs.declared.stack_builder.StackBuilder.{StackBuilder}
 use Rattle.spp_stack.specs.Chain.{IsChain}
 use Rattle.spp_stack.specs.Parts.{AreAccounts, AreOfParts, begin_of, open_count, IsEntryOf}
-use Rattle.spp_stack.specs.Machine.{Now, now, entry_ops, IsOpen, peaks, rises, frame_peaks, plain_load, root_entry}
+use Rattle.spp_stack.specs.Machine.{Now, now, entry_ops, IsOpen, peaks, root_entry}
 use Rattle.spp_stack.specs.StackBuilder.{HoldsAll, Stands, IsKept, AreKept}
 use Rattle.spp_stack.proofs.Chains.{get_more, get_last}
 use Rattle.spp_stack.proofs.Following.{Follows, next, part_follows, open_entry, entry_fits}
 
 -- ---- a summary's weights
-
-rises_le : (burdens : Burdens) (rs : List Unmatched) → rises rs ≤ load_returns burdens rs
-rises_le burdens [] = omega arith
-rises_le burdens (r ∷ rs) = let h = rises_le burdens rs in omega arith
-
-peaks_le : (fs : List Frame) → frame_peaks fs ≤ load_frames fs
-peaks_le [] = omega arith
-peaks_le (f ∷ fs) = let h = peaks_le fs in omega arith
-
-load_le : (burdens : Burdens) (s : Sum) → plain_load s ≤ load burdens s
-load_le burdens s =
-    let a = rises_le burdens s.returns in
-    let b = peaks_le s.frames in
-    omega arith
 
 count_is : (e : Event) → weight_of (Some e) < 2 ^ 64 → IsCount (Ok e)
 count_is (Strand n) h = h
@@ -69,34 +54,35 @@ small_part es small burdens n i (r ∷ rs) more s d h =
     subst (λ k. IsSmall burdens k (events (summary_ops burdens) (i + 1) rs (event (summary_ops burdens) i r s))) (let z : n + 1 + length rs ≡ n + suc (length rs) = omega arith in z)
     (small_part es small burdens (n + 1) (i + 1) rs more (event (summary_ops burdens) i r s) left (small_event burdens n i r s count h))
 
-open_sound : (s : Sum) (x : Now) → IsOpen (play entry_ops s x).frames → s.fault ≡ None
-open_sound s x h = by s.fault refl
+open_sound : (burdens : Burdens) (s : Sum) (x : Now) → IsOpen (play (entry_ops burdens) s x).frames → s.fault ≡ None
+open_sound burdens s x h = by s.fault refl
   where
     by : (q : Option (ℕ × EventFault)) → s.fault ≡ q → s.fault ≡ None
     by None e = e
     by (Some q) e =
-        let y = entry_ops.worked s.work (play_frames entry_ops s.frames (entry_ops.along s.middle (play_returns entry_ops s.returns x))) in
-        absurd (subst (λ o. IsOpen (play_fault entry_ops o y).frames) e h)
+        let o = entry_ops burdens in
+        let y = o.worked s.work (play_frames o s.frames (o.along s.middle (play_returns o s.returns x))) in
+        absurd (subst (λ q. IsOpen (play_fault (entry_ops burdens) q y).frames) e h)
 
 -- ---- the parts so far
 
-pub record Gone (es : List Event) (root : ℕ) (accounts : List Account) (i : ℕ) (w : StackBuilder) : Type 0 where
+pub record Gone (es : List Event) (burdens : Burdens) (root : ℕ) (accounts : List Account) (i : ℕ) (w : StackBuilder) : Type 0 where
   pub at : Now
-  pub follows : Follows es root (begin_of accounts i) at
+  pub follows : Follows es burdens root (begin_of accounts i) at
   pub stands : Stands w at
-  pub rest : AreAccounts (begin_of accounts i) (drop (begin_of accounts i) (records es)) (drop i accounts)
+  pub rest : AreAccounts burdens (begin_of accounts i) (drop (begin_of accounts i) (records es)) (drop i accounts)
   pub opened : open_count (take i accounts) ≤ begin_of accounts i
 
-pub record Going (es : List Event) (root : ℕ) (accounts : List Account) (i : ℕ) (a : Account) (x : Now) : Type 0 where
+pub record Going (es : List Event) (burdens : Burdens) (root : ℕ) (accounts : List Account) (i : ℕ) (a : Account) (x : Now) : Type 0 where
   pub sound : a.sum.fault ≡ None
-  pub goes : IsOpen (play entry_ops a.sum x).frames
-  pub load : worst a.burdens < 2 ^ 33 → peaks x.frames + plain_load a.sum < 2 ^ 127
+  pub goes : IsOpen (play (entry_ops a.burdens) a.sum x).frames
+  pub load : AreSmall a.burdens → peaks x.frames + load a.burdens a.sum < 2 ^ 127
   pub frames : open_count (take i accounts) + length a.sum.frames ≤ 2 ^ 28
   pub before : x.work + most_before a.sum.frames < 2 ^ 128
   pub work : x.work + a.sum.work < 2 ^ 128
   pub opened : open_count (take (i + 1) accounts) ≡ open_count (take i accounts) + length a.sum.frames
   pub begin : begin_of accounts (i + 1) ≡ begin_of accounts i + a.events
-  pub next : (v : StackBuilder) → Stands v (play entry_ops a.sum x) → Gone es root accounts (i + 1) v
+  pub next : (v : StackBuilder) → Stands v (play (entry_ops a.burdens) a.sum x) → Gone es burdens root accounts (i + 1) v
 
 sum_more : (f : Account → ℕ) (accounts : List Account) (i : ℕ) (a : Account) → i < length accounts → a ≡ get_or accounts i a
     → sum_by f (take (i + 1) accounts) ≡ sum_by f (take i accounts) + f a
@@ -104,44 +90,47 @@ sum_more f accounts i a lt is =
     ap (sum_by f) (take_more accounts i a lt) ∙ sum_by-append f (take i accounts) (get_or accounts i a ∷ [])
     ∙ ap (λ k. sum_by f (take i accounts) + k) (let q = ap f is in let z : 0 + f (get_or accounts i a) ≡ f a = omega arith in z)
 
-pub going : (es : List Event) (root : ℕ) (accounts : List Account) → AreOfParts es accounts → (i : ℕ) (a : Account) (w : StackBuilder) → i < length accounts → a ≡ get_or accounts i a
-    → (g : Gone es root accounts i w) → Going es root accounts i a g.at
-going es root accounts p i a w lt is g =
+pub going : (es : List Event) (burdens : Burdens) (root : ℕ) (accounts : List Account) → AreOfParts es burdens accounts → (i : ℕ) (a : Account) (w : StackBuilder) → i < length accounts → a ≡ get_or accounts i a
+    → (g : Gone es burdens root accounts i w) → Going es burdens root accounts i a g.at
+going es burdens root accounts p i a w lt is g =
     let b = begin_of accounts i in
     let rs = drop b (records es) in
     let e : drop i accounts ≡ a ∷ drop (i + 1) accounts = drop_more accounts i a lt ∙ ap (λ q. q ∷ drop (i + 1) accounts) (sym is) in
-    let both : AreAccounts b rs (a ∷ drop (i + 1) accounts) = subst (λ l. AreAccounts b rs l) e g.rest in
+    let both : AreAccounts burdens b rs (a ∷ drop (i + 1) accounts) = subst (λ l. AreAccounts burdens b rs l) e g.rest in
     let part = take a.events rs in
     let events_are : a.events ≡ length part = ap (λ (c : Account). c.events) both.0 in
-    let sum_is : a.sum ≡ summary_of a.burdens b part = ap (λ (c : Account). c.sum) both.0 in
+    let same : a.burdens ≡ burdens = ap (λ (c : Account). c.burdens) both.0 in
+    let sum_is : a.sum ≡ summary_of burdens b part = ap (λ (c : Account). c.sum) both.0 in
     let split : drop b (records es) ≡ part ++ drop a.events rs = sym (take-append-drop a.events rs) in
-    let after : Follows es root (b + length part) (play entry_ops (summary_of a.burdens b part) g.at) = part_follows es p.well_formed root b part (drop a.events rs) a.burdens g.at split g.follows in
+    let after : Follows es burdens root (b + length part) (play (entry_ops burdens) (summary_of burdens b part) g.at) = part_follows es p.well_formed burdens root b part (drop a.events rs) g.at split g.follows in
     let begin : begin_of accounts (i + 1) ≡ b + a.events = sum_more (λ c. c.events) accounts i a lt is in
     let there : b + length part ≡ begin_of accounts (i + 1) = ap (λ k. b + k) (sym events_are) ∙ sym begin in
-    let follows : Follows es root (begin_of accounts (i + 1)) (play entry_ops a.sum g.at) =
-    subst (λ k. Follows es root k (play entry_ops a.sum g.at)) there (subst (λ (s : Sum). Follows es root (b + length part) (play entry_ops s g.at)) (sym sum_is) after) in
-    let goes = open_entry es p.well_formed root (begin_of accounts (i + 1)) follows.within _ _ follows.is in
-    let small : IsSmall a.burdens (0 + length part) (summary_of a.burdens b part) = small_part es p.small a.burdens 0 b part (drop a.events rs) empty split (small_empty a.burdens) in
-    let fits : IsSmall a.burdens a.events a.sum = subst (λ (s : Sum). IsSmall a.burdens a.events s) (sym sum_is) (subst (λ k. IsSmall a.burdens k (summary_of a.burdens b part)) (let z : 0 + length part ≡ a.events = omega arith in z) small) in
+    let follows : Follows es burdens root (begin_of accounts (i + 1)) (play (entry_ops a.burdens) a.sum g.at) =
+    subst (λ (c : Burdens). Follows es burdens root (begin_of accounts (i + 1)) (play (entry_ops c) a.sum g.at)) (sym same)
+    (subst (λ k. Follows es burdens root k (play (entry_ops burdens) a.sum g.at)) there
+    (subst (λ (s : Sum). Follows es burdens root (b + length part) (play (entry_ops burdens) s g.at)) (sym sum_is) after)) in
+    let goes = open_entry es p.well_formed burdens root (begin_of accounts (i + 1)) follows.within _ _ follows.is in
+    let small : IsSmall burdens (0 + length part) (summary_of burdens b part) = small_part es p.small burdens 0 b part (drop a.events rs) empty split (small_empty burdens) in
+    let fits : IsSmall a.burdens a.events a.sum = subst (λ (c : Burdens). IsSmall c a.events a.sum) (sym same)
+    (subst (λ (s : Sum). IsSmall burdens a.events s) (sym sum_is) (subst (λ k. IsSmall burdens k (summary_of burdens b part)) (let z : 0 + length part ≡ a.events = omega arith in z) small)) in
     let within = follows.within in
     let events_le = p.small.events in
     let all_work = work_fits es p.small in
     let opened = sum_more (λ c. length c.sum.frames) accounts i a lt is in
     let work_is = g.follows.is.3 in
     let work_small = sum_by-take-le nesting.weight (records es) b in
-    let weights = load_le a.burdens a.sum in
-    let now_fits = entry_fits es p.well_formed p.small root b g.at g.follows in
     let f1 = fits.work in
     let f2 = fits.load in
     let f3 = fits.depth in
     let f4 = fits.before in
     let o = g.opened in
     record {
-      sound = open_sound a.sum g.at goes;
+      sound = open_sound a.burdens a.sum g.at goes;
       goes = goes;
-      load = λ burdens.
+      load = λ light.
+          let now_fits = entry_fits es p.well_formed p.small burdens (subst (λ (c : Burdens). AreSmall c) same light) root b g.at g.follows in
           let few : a.events ≤ 268435456 = omega arith in
-          let cap : worst a.burdens ≤ 8589934592 = omega arith in
+          let cap : worst a.burdens ≤ 8589934592 = omega (arith, light.continuation, light.join) in
           let product : worst a.burdens * a.events ≤ 8589934592 * 268435456 = grind arith in
           omega arith;
       frames = omega arith;
@@ -150,10 +139,10 @@ going es root accounts p i a w lt is g =
       opened = opened;
       begin = begin;
       next = λ v s. record {
-        at = play entry_ops a.sum g.at;
+        at = play (entry_ops a.burdens) a.sum g.at;
         follows = follows;
         stands = s;
-        rest = subst (λ k. AreAccounts k (drop k (records es)) (drop (i + 1) accounts)) (sym begin) (subst (λ l. AreAccounts (b + a.events) l (drop (i + 1) accounts)) (drop-drop a.events b (records es)) both.1);
+        rest = subst (λ k. AreAccounts burdens k (drop k (records es)) (drop (i + 1) accounts)) (sym begin) (subst (λ l. AreAccounts burdens (b + a.events) l (drop (i + 1) accounts)) (drop-drop a.events b (records es)) both.1);
         opened = omega arith;
       };
     }
@@ -173,9 +162,9 @@ start_chain w x kept s n last = by x.frames s.frames
     by (f ∷ fs) h = (w.top, get, h.top, s.tree n w.top get, h.rest)
 
 -- what was told is told still
-pub told_more : (es : List Event) (root : ℕ) (accounts : List Account) (nodes more : List Node) (starts : List Start) (start : Start) (k : ℕ) → AreKept nodes more
-    → IsEntryOf es root accounts (record { nodes = nodes; starts = starts }) k → IsEntryOf es root accounts (record { nodes = more; starts = starts ++ start ∷ [] }) k
-told_more es root accounts nodes more starts start k kept h = record {
+pub told_more : (es : List Event) (burdens : Burdens) (root : ℕ) (accounts : List Account) (nodes more : List Node) (starts : List Start) (start : Start) (k : ℕ) → AreKept nodes more
+    → IsEntryOf es burdens root accounts (record { nodes = nodes; starts = starts }) k → IsEntryOf es burdens root accounts (record { nodes = more; starts = starts ++ start ∷ [] }) k
+told_more es burdens root accounts nodes more starts start k kept h = record {
   frames = h.frames;
   work = h.work;
   is = h.is;
@@ -188,10 +177,10 @@ told_more es root accounts nodes more starts start k kept h = record {
   };
 }
 
-pub told_last : (es : List Event) (root : ℕ) (accounts : List Account) (w : StackBuilder) (starts : List Start) (top at work i : ℕ) (g : Gone es root accounts i w) → IsKept w
+pub told_last : (es : List Event) (burdens : Burdens) (root : ℕ) (accounts : List Account) (w : StackBuilder) (starts : List Start) (top at work i : ℕ) (g : Gone es burdens root accounts i w) → IsKept w
     → top + 1 ≡ length w.nodes.items → at ≡ begin_of accounts i → work ≡ w.work → length starts ≡ i
-    → IsEntryOf es root accounts (record { nodes = w.nodes.items; starts = starts ++ record { top = top; at = at; work = work } ∷ [] }) i
-told_last es root accounts w starts top at work i g kept last begins same long = record {
+    → IsEntryOf es burdens root accounts (record { nodes = w.nodes.items; starts = starts ++ record { top = top; at = at; work = work } ∷ [] }) i
+told_last es burdens root accounts w starts top at work i g kept last begins same long = record {
   frames = g.at.frames;
   work = g.at.work;
   is = g.follows.is;
@@ -204,8 +193,8 @@ told_last es root accounts w starts top at work i g kept last begins same long =
   };
 }
 
-pub gone_first : (es : List Event) (root : ℕ) (accounts : List Account) → AreOfParts es accounts → (w : StackBuilder) → Stands w (now (root_entry root ∷ []) 0) → Gone es root accounts 0 w
-gone_first es root accounts p w s = record {
+pub gone_first : (es : List Event) (burdens : Burdens) (root : ℕ) (accounts : List Account) → AreOfParts es burdens accounts → (w : StackBuilder) → Stands w (now (root_entry root ∷ []) 0) → Gone es burdens root accounts 0 w
+gone_first es burdens root accounts p w s = record {
   at = now (root_entry root ∷ []) 0;
   follows = record { within = omega arith; is = (root_frame root ∷ [], refl, refl, refl) };
   stands = s;
@@ -220,24 +209,24 @@ tops_more [] s m n le lt old (suc k) t h = let l = slice_get_within (s ∷ []) (
 tops_more (x ∷ xs) s m n le lt old zero t h = let l = old zero t h in omega arith
 tops_more (x ∷ xs) s m n le lt old (suc k) t h = tops_more xs s m n le lt (λ j u g. old (suc j) u g) k t h
 
-pub told_next : (es : List Event) (root : ℕ) (accounts : List Account) (w v : StackBuilder) (starts all : List Start) (top at work i : ℕ) → ((k : ℕ) → k ≤ i → IsEntryOf es root accounts (record { nodes = w.nodes.items; starts = starts }) k)
-    → AreKept w.nodes.items v.nodes.items → Gone es root accounts (i + 1) v → IsKept v → top + 1 ≡ length v.nodes.items → at ≡ begin_of accounts (i + 1) → work ≡ v.work → length starts ≡ i + 1
+pub told_next : (es : List Event) (burdens : Burdens) (root : ℕ) (accounts : List Account) (w v : StackBuilder) (starts all : List Start) (top at work i : ℕ) → ((k : ℕ) → k ≤ i → IsEntryOf es burdens root accounts (record { nodes = w.nodes.items; starts = starts }) k)
+    → AreKept w.nodes.items v.nodes.items → Gone es burdens root accounts (i + 1) v → IsKept v → top + 1 ≡ length v.nodes.items → at ≡ begin_of accounts (i + 1) → work ≡ v.work → length starts ≡ i + 1
     → all ≡ starts ++ record { top = top; at = at; work = work } ∷ []
-    → (k : ℕ) → k ≤ i + 1 → IsEntryOf es root accounts (record { nodes = v.nodes.items; starts = all }) k
-told_next es root accounts w v starts all top at work i old chains g kept last begins same long is k le =
-    subst (λ l. IsEntryOf es root accounts (record { nodes = v.nodes.items; starts = l }) k) (sym is)
+    → (k : ℕ) → k ≤ i + 1 → IsEntryOf es burdens root accounts (record { nodes = v.nodes.items; starts = all }) k
+told_next es burdens root accounts w v starts all top at work i old chains g kept last begins same long is k le =
+    subst (λ l. IsEntryOf es burdens root accounts (record { nodes = v.nodes.items; starts = l }) k) (sym is)
     (elim (cases_lt k (i + 1)) [
-      | inl l ↦ told_more es root accounts w.nodes.items v.nodes.items starts (record { top = top; at = at; work = work }) k chains (old k (omega arith))
+      | inl l ↦ told_more es burdens root accounts w.nodes.items v.nodes.items starts (record { top = top; at = at; work = work }) k chains (old k (omega arith))
       | inr l ↦
           let here : i + 1 ≡ k = omega arith in
-          subst (λ j. IsEntryOf es root accounts (record { nodes = v.nodes.items; starts = starts ++ record { top = top; at = at; work = work } ∷ [] }) j) here
-          (told_last es root accounts v starts top at work (i + 1) g kept last begins same long)
+          subst (λ j. IsEntryOf es burdens root accounts (record { nodes = v.nodes.items; starts = starts ++ record { top = top; at = at; work = work } ∷ [] }) j) here
+          (told_last es burdens root accounts v starts top at work (i + 1) g kept last begins same long)
     ])
 
-pub told_first : (es : List Event) (root : ℕ) (accounts : List Account) (w : StackBuilder) (all : List Start) → Gone es root accounts 0 w → IsKept w → 1 ≡ length w.nodes.items → 0 ≡ w.work
-    → all ≡ record { top = 0; at = 0; work = 0 } ∷ [] → (k : ℕ) → k ≤ 0 → IsEntryOf es root accounts (record { nodes = w.nodes.items; starts = all }) k
-told_first es root accounts w all g kept one none is k le =
+pub told_first : (es : List Event) (burdens : Burdens) (root : ℕ) (accounts : List Account) (w : StackBuilder) (all : List Start) → Gone es burdens root accounts 0 w → IsKept w → 1 ≡ length w.nodes.items → 0 ≡ w.work
+    → all ≡ record { top = 0; at = 0; work = 0 } ∷ [] → (k : ℕ) → k ≤ 0 → IsEntryOf es burdens root accounts (record { nodes = w.nodes.items; starts = all }) k
+told_first es burdens root accounts w all g kept one none is k le =
     let at : 0 ≡ k = omega arith in
-    subst (λ l. IsEntryOf es root accounts (record { nodes = w.nodes.items; starts = l }) k) (sym is)
-    (subst (λ j. IsEntryOf es root accounts (record { nodes = w.nodes.items; starts = record { top = 0; at = 0; work = 0 } ∷ [] }) j) at
-    (told_last es root accounts w [] 0 0 0 0 g kept (omega arith) refl none refl))
+    subst (λ l. IsEntryOf es burdens root accounts (record { nodes = w.nodes.items; starts = l }) k) (sym is)
+    (subst (λ j. IsEntryOf es burdens root accounts (record { nodes = w.nodes.items; starts = record { top = 0; at = 0; work = 0 } ∷ [] }) j) at
+    (told_last es burdens root accounts w [] 0 0 0 0 g kept (omega arith) refl none refl))

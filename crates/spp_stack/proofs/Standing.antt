@@ -1,15 +1,14 @@
 -- What the steps of the walk do to the stack that stands.
-use Rattle.std.proofs.Common.{cond, ◌≡◌, ℕ, ◌+◌, ◌-◌, ◌<◌, ◌≤◌, Bool, not, ◌||◌, nat_eq, List, [], ◌∷◌, ◌++◌, length, get_or, Some, refl, sym, ap, subst, ◌∙◌, arith}
+use Rattle.std.proofs.Common.{cond, ◌≡◌, ℕ, ◌+◌, ◌-◌, ◌<◌, ◌≤◌, Bool, not, ◌||◌, nat_eq, List, [], ◌∷◌, ◌++◌, length, get_or, Some, refl, sym, ap, ap₂, subst, ◌∙◌, arith}
 use Rattle.std.specs.Prelude.{slice_get}
 use Rattle.std.proofs.lemmas.Option.{slice_get_read}
-use Rattle.spp_maxplus.specs.declared.seg.Seg.{Seg}
-use Rattle.spp_maxplus.specs.Seg.{act, peak}
-use Rattle.spp_maxplus.specs.State.{unburdened, close}
+use Rattle.spp_maxplus.specs.declared.state.Burdens.{Burdens}
+use Rattle.spp_maxplus.specs.Seg.{peak}
+use Rattle.spp_piece.specs.declared.segs.Segs.{Segs}
 use Rattle.spp_dag.specs.declared.stack.EntryFrame.{EntryFrame}
 use Rattle.spp_dag.specs.declared.stack.FrameKind.{FrameKind}
 use Rattle.spp_dag.specs.declared.stack.FrameKind.TheVariants as kind
-use Rattle.spp_dag.specs.Stack.{after_child}
-use Rattle.spp_dag.specs.Steps.{has_site, has_func, same_key, site_by}
+use Rattle.spp_dag.specs.Steps.{has_site, has_func, same_key, site_by, returned}
 use Rattle.spp_piece.specs.declared.pieces.Frame.{Frame}
 use Rattle.spp_maxplus.specs.declared.child.ChildKind.{ChildKind}
 use Rattle.spp_maxplus.specs.declared.child.ChildKind.TheVariants.{Called, Spawned}
@@ -18,14 +17,14 @@ use Rattle.spp_stack.specs.declared.node.Node.{Node}
 use Rattle.spp_stack.specs.declared.stack_builder.StackBuilder.{StackBuilder}
 use Rattle.spp_site.specs.Marks.{is_marked, with_mark, without}
 use Rattle.spp_stack.specs.Chain.{IsNodeOf, IsUnder, IsChain, IsLink, AreLinks, IsTree, AreLinked, IsMarked, opens_site}
-use Rattle.spp_stack.specs.Machine.{Now, entered, along_by, push_by, ret_by, worked_by, IsOpen, peaks}
+use Rattle.spp_stack.specs.Machine.{Now, moved_by, entered, along_by, push_by, ret_by, worked_by, IsOpen, peaks}
 use Rattle.spp_stack.specs.StackBuilder.{HoldsAll, Stands, IsKept, Unmarked, moved}
 use Rattle.spp_stack.proofs.Chains.{chain_more, links_more, tree_more, linked_more, under_more, under_either, chain_depth, link}
 use Rattle.spp_site.proofs.Marked.{marked_more, marked_less}
 
 -- ---- the innermost frame's state changes
 
-pub moved_stands : (w : StackBuilder) (g : Seg) (x : Now) → Stands w x → Stands (moved g w) (along_by x.frames g x.work)
+pub moved_stands : (w : StackBuilder) (g : Segs) (x : Now) → Stands w x → Stands (moved g w) (along_by x.frames g x.work)
 moved_stands w g x s = by x.frames s.frames
   where
     by : (fs : List EntryFrame) → HoldsAll w fs → Stands (moved g w) (along_by fs g x.work)
@@ -33,7 +32,7 @@ moved_stands w g x s = by x.frames s.frames
     by (f ∷ fs) h = record {
       frames = record {
         top = record {
-          frame = ap (λ (z : EntryFrame). record z { state = act g z.state }) h.top.frame;
+          frame = ap (moved_by g) h.top.frame;
           depth = h.top.depth;
           top_func = h.top.top_func;
           top_site = h.top.top_site;
@@ -49,12 +48,14 @@ moved_stands w g x s = by x.frames s.frames
       work = s.work;
     }
 
-pub top_peak : (w : StackBuilder) (x : Now) → Stands w x → peak w.top.frame.state ≤ peaks x.frames
+pub top_peak : (w : StackBuilder) (x : Now) → Stands w x → peak w.top.frame.state + peak w.top.frame.burdened ≤ peaks x.frames
 top_peak w x s = by x.frames s.frames
   where
-    by : (fs : List EntryFrame) → HoldsAll w fs → peak w.top.frame.state ≤ peaks fs
+    by : (fs : List EntryFrame) → HoldsAll w fs → peak w.top.frame.state + peak w.top.frame.burdened ≤ peaks fs
     by [] h = absurd h
-    by (f ∷ fs) h = let e : peak w.top.frame.state ≡ peak f.state = ap (λ (z : EntryFrame). peak z.state) h.top.frame in omega arith
+    by (f ∷ fs) h =
+        let e : peak w.top.frame.state + peak w.top.frame.burdened ≡ peak f.state + peak f.burdened = ap (λ (z : EntryFrame). peak z.state + peak z.burdened) h.top.frame in
+        omega arith
 
 -- ---- a node is added
 
@@ -118,6 +119,7 @@ made w x = record {
   func = x.func;
   before = w.work + x.before;
   state = x.states.plain;
+  burdened = x.states.burdened;
   top_site = not (is_marked w.sites x.site);
   top_caller = w.top.top_func;
 }
@@ -186,7 +188,7 @@ key_marked kind.Root top site g fs h = absurd (cc)
 key_marked kind.Called top site g fs h = (h, λ y. refl)
 key_marked kind.Spawned top site g fs h = (h, λ y. refl)
 
-pub record Closed (w u v : StackBuilder) : Type 0 where
+pub record Closed (burdens : Burdens) (w u v : StackBuilder) : Type 0 where
   pub cleared : Unmarked w u
   pub nodes : v.nodes ≡ w.nodes
   pub work : v.work ≡ w.work
@@ -201,12 +203,13 @@ pub record Closed (w u v : StackBuilder) : Type 0 where
   pub top_func : v.top.top_func ≡ node.top_func
   pub site_link : v.top.site_link ≡ node.site_link
   pub func_link : v.top.func_link ≡ node.func_link
-  pub frame : v.top.frame ≡ record node.frame { state = after_child unburdened w.top.frame.kind w.top.frame.at (close w.top.frame.state) node.frame.state }
+  pub frame : v.top.frame ≡ returned burdens w.top.frame node.frame
 
-pub closed_stands : (w u v : StackBuilder) → Closed w u v → (x : Now) → Stands w x → IsOpen (ret_by x.frames x.work).frames → Stands v (ret_by x.frames x.work)
-closed_stands w u v e x s = by x.frames s.frames
+pub closed_stands : (burdens : Burdens) (w u v : StackBuilder) → Closed burdens w u v → (x : Now) → Stands w x → IsOpen (ret_by burdens x.frames x.work).frames
+    → Stands v (ret_by burdens x.frames x.work)
+closed_stands burdens w u v e x s = by x.frames s.frames
   where
-    by : (fs : List EntryFrame) → HoldsAll w fs → IsOpen (ret_by fs x.work).frames → Stands v (ret_by fs x.work)
+    by : (fs : List EntryFrame) → HoldsAll w fs → IsOpen (ret_by burdens fs x.work).frames → Stands v (ret_by burdens fs x.work)
     by [] h goes = absurd h
     by (f ∷ []) h goes = absurd goes
     by (f ∷ g ∷ fs) h goes =
@@ -221,10 +224,7 @@ closed_stands w u v e x s = by x.frames s.frames
         record {
           frames = record {
             top = record {
-              frame = e.frame ∙ subst (λ (z : EntryFrame). record e.node.frame { state = after_child unburdened w.top.frame.kind w.top.frame.at (close w.top.frame.state) e.node.frame.state }
-                  ≡ record g { state = after_child unburdened z.kind z.at (close z.state) g.state }) is
-                  (subst (λ (z : EntryFrame). record e.node.frame { state = after_child unburdened w.top.frame.kind w.top.frame.at (close w.top.frame.state) e.node.frame.state }
-                  ≡ record z { state = after_child unburdened w.top.frame.kind w.top.frame.at (close w.top.frame.state) z.state }) parent refl);
+              frame = e.frame ∙ ap₂ (returned burdens) is parent;
               depth = e.depth ∙ l.is.depth;
               top_func = e.top_func ∙ l.is.top_func;
               top_site = l.is.top_site;

@@ -1,17 +1,15 @@
 -- What the actions of a summary do to an entry.
 use Rattle.std.specs.Prelude.{ℕ, ◌+◌, true, not, List, [], ◌∷◌}
-use Rattle.spp_maxplus.specs.declared.seg.Seg.{Seg}
-use Rattle.spp_maxplus.specs.State.{unburdened, close, start}
-use Rattle.spp_maxplus.specs.Seg.{act, rise, peak}
+use Rattle.spp_maxplus.specs.declared.state.Burdens.{Burdens}
+use Rattle.spp_maxplus.specs.State.{start}
+use Rattle.spp_maxplus.specs.Seg.{act, peak}
 use Rattle.spp_dag.specs.declared.stack.EntryFrame.{EntryFrame}
 use Rattle.spp_dag.specs.declared.stack.FrameKind.TheVariants.{Root}
-use Rattle.spp_dag.specs.Stack.{after_child}
-use Rattle.spp_dag.specs.Steps.{has_site, has_func}
+use Rattle.spp_dag.specs.Steps.{has_site, has_func, returned}
 use Rattle.spp_piece.specs.declared.pieces.Frame.{Frame}
-use Rattle.spp_piece.specs.declared.pieces.Unmatched.{Unmatched}
+use Rattle.spp_piece.specs.declared.segs.Segs.{Segs}
 use Rattle.spp_piece.specs.Machine.{Ops}
 use Rattle.spp_piece.specs.Model.{kind_of}
-use Rattle.spp_piece.specs.Summary.{Sum}
 
 -- the open frames, the innermost first, and the work before; no frames where something was wrong
 pub record Now : Type 0 where
@@ -21,17 +19,20 @@ pub record Now : Type 0 where
 abbrev pub now : List EntryFrame → ℕ → Now
 now frames work = record { frames = frames; work = work }
 
--- the innermost frame's state changes
-abbrev pub along_by : List EntryFrame → Seg → ℕ → Now
+-- both states of the frame change
+abbrev pub moved_by : Segs → EntryFrame → EntryFrame
+moved_by g f = record f { state = act g.plain f.state; burdened = act g.burdened f.burdened }
+
+-- the innermost frame's states change
+abbrev pub along_by : List EntryFrame → Segs → ℕ → Now
 along_by [] g work = now [] work
-along_by (f ∷ fs) g work = now (record f { state = act g f.state } ∷ fs) work
+along_by (f ∷ fs) g work = now (moved_by g f ∷ fs) work
 
 -- the innermost frame returns to the one below it
-abbrev pub ret_by : List EntryFrame → ℕ → Now
-ret_by [] work = now [] work
-ret_by (f ∷ []) work = now [] 0
-ret_by (f ∷ g ∷ fs) work =
-    now (record g { state = after_child unburdened f.kind f.at (close f.state) g.state } ∷ fs) work
+abbrev pub ret_by : Burdens → List EntryFrame → ℕ → Now
+ret_by burdens [] work = now [] work
+ret_by burdens (f ∷ []) work = now [] 0
+ret_by burdens (f ∷ g ∷ fs) work = now (returned burdens f g ∷ fs) work
 
 -- the frame as an entry tells it, opened over these frames, where that is the work before the part
 abbrev pub entered : Frame → List EntryFrame → EntryFrame → List EntryFrame → ℕ → EntryFrame
@@ -42,6 +43,7 @@ entered x all f fs work = record {
   func = x.func;
   before = work + x.before;
   state = x.states.plain;
+  burdened = x.states.burdened;
   top_site = not (has_site all x.site);
   top_caller = not (has_func fs f.func);
 }
@@ -54,10 +56,10 @@ abbrev pub worked_by : List EntryFrame → ℕ → ℕ → Now
 worked_by [] n work = now [] work
 worked_by (f ∷ fs) n work = now (f ∷ fs) (work + n)
 
-abbrev pub entry_ops : Ops Now
-entry_ops = record {
-  along = λ g x. along_by x.frames g.plain x.work;
-  ret = λ at x. ret_by x.frames x.work;
+abbrev pub entry_ops : Burdens → Ops Now
+entry_ops burdens = record {
+  along = λ g x. along_by x.frames g x.work;
+  ret = λ at x. ret_by burdens x.frames x.work;
   push = λ f x. push_by x.frames f x.work;
   worked = λ n x. worked_by x.frames n x.work;
   fail = λ q x. now [] 0;
@@ -72,6 +74,7 @@ root_entry func = record {
   func = func;
   before = 0;
   state = start;
+  burdened = start;
   top_site = true;
   top_caller = true;
 }
@@ -85,16 +88,4 @@ IsOpen (f ∷ fs) = Unit {0}
 -- the weights of the open frames, all together
 abbrev pub peaks : List EntryFrame → ℕ
 peaks [] = 0
-peaks (f ∷ fs) = peak f.state + peaks fs
-
-abbrev pub rises : List Unmatched → ℕ
-rises [] = 0
-rises (r ∷ rs) = rise r.segs.plain + rises rs
-
-abbrev pub frame_peaks : List Frame → ℕ
-frame_peaks [] = 0
-frame_peaks (f ∷ fs) = peak f.states.plain + frame_peaks fs
-
--- what a part can add to them
-abbrev pub plain_load : Sum → ℕ
-plain_load s = rises s.returns + rise s.middle.plain + frame_peaks s.frames
+peaks (f ∷ fs) = peak f.state + peak f.burdened + peaks fs

@@ -6,9 +6,8 @@ use Rattle.spp_stack.specs.declared.node.Node.{Node}
 use Rattle.spp_stack.specs.declared.stack_builder.StackBuilder.{StackBuilder}
 use Rattle.spp_site.specs.Marks.{is_marked, without}
 use Rattle.spp_stack.specs.Chain.{IsNodeOf, IsUnder, IsChain, AreLinks, IsTree, AreLinked}
-use Rattle.spp_stack.specs.Machine.{Now}
-use Rattle.spp_maxplus.specs.declared.seg.Seg.{Seg}
-use Rattle.spp_maxplus.specs.Seg.{act}
+use Rattle.spp_stack.specs.Machine.{Now, moved_by}
+use Rattle.spp_piece.specs.declared.segs.Segs.{Segs}
 
 -- the innermost frame is f, and fs are below it
 pub record Holds (w : StackBuilder) (f : EntryFrame) (fs : List EntryFrame) : Type 0 where
@@ -33,9 +32,9 @@ pub record Stands (w : StackBuilder) (x : Now) : Type 0 where
 abbrev pub IsKept : StackBuilder → Type 0
 IsKept w = (0 < length w.nodes.items) × (slice_get w.nodes.items (length w.nodes.items - 1) ≡ Some w.top)
 
--- the same with another state of the innermost frame
-abbrev pub moved : Seg → StackBuilder → StackBuilder
-moved g w = record w { top = record w.top { frame = record w.top.frame { state = act g w.top.frame.state } } }
+-- the same with other states of the innermost frame
+abbrev pub moved : Segs → StackBuilder → StackBuilder
+moved g w = record w { top = record w.top { frame = moved_by g w.top.frame } }
 
 -- all stacks of the one list of nodes are in the other
 abbrev pub AreKept : List Node → List Node → Type 0

@@ -1,20 +1,20 @@
 //! The stack of open frames while the parts are gone through.
 
 ghost use Rattle.std.specs.Prelude.{◌≡◌, ℕ, ◌+◌, ◌<◌, ◌≤◌, ◌^◌, ◌++◌, [], ◌∷◌, length, reverse, cond, IfOk, OnOk, Some, None};
-ghost use Rattle.spp_maxplus.specs.State.{unburdened};
-ghost use Rattle.spp_maxplus.specs.Seg.{peak, rise};
+ghost use Rattle.spp_maxplus.specs.Seg.{peak};
 ghost use Rattle.spp_dag.specs.Stack.{after_child as child_returned};
-ghost use Rattle.spp_piece.specs.Bound.{most_before};
+ghost use Rattle.spp_dag.specs.Steps.{returned as frame_returned};
+ghost use Rattle.spp_piece.specs.Bound.{cost, load, load_returns, most_before};
 ghost use Rattle.spp_piece.specs.Model.{kind_of as frame_kind};
 ghost use Rattle.spp_piece.specs.Summary.{play_returns, play_frames, play};
 ghost use Rattle.spp_stack.specs.Chain.{IsNodeOf};
-ghost use Rattle.spp_stack.specs.Machine.{Now, now, ret_by, push_by, entry_ops, root_entry, IsOpen, peaks, rises, plain_load};
+ghost use Rattle.spp_stack.specs.Machine.{Now, now, ret_by, push_by, entry_ops, root_entry, IsOpen, peaks};
 ghost use Rattle.spp_stack.specs.StackBuilder.{Stands, IsKept, AreKept, moved, Unmarked};
 
 use crate::node::Node;
 use spp_dag::{EntryFrame, FrameKind};
-use spp_maxplus::{Burdens, ChildKind, Seg, State};
-use spp_piece::Frame;
+use spp_maxplus::{Burdens, ChildKind, State};
+use spp_piece::{Frame, Segs};
 use spp_site::Marks;
 use spp_summary::Summary;
 use std::alloc::{AllocError, Global};
@@ -47,6 +47,7 @@ fn root_node(root: u32) -> Node
             func: root,
             before: 0,
             state: State::start(),
+            burdened: State::start(),
             top_site: true,
             top_caller: true,
         },
@@ -68,18 +69,35 @@ fn kind_of(kind: ChildKind) -> FrameKind
     }
 }
 
-/// What the return of a frame that was entered at the position `at` and closed with that weight does to its parent.
-fn after_child(kind: FrameKind, at: u32, weight: u128, parent: State) -> State
-    requires { parent.spine + weight < 2 ^ 128 }
-    ensures { result ≡ child_returned unburdened kind at weight parent }
+/// What the return of a frame that was entered at the position `at` and closed with that weight does to its parent. The
+/// burdens are those of the state.
+fn after_child(kind: FrameKind, at: u32, weight: u128, burdens: Burdens, parent: State) -> State
+    requires { parent.spine + weight < 2 ^ 127 }
+    ensures { result ≡ child_returned burdens kind at weight parent }
 {
     let mut state = parent;
     match kind {
         FrameKind::Root => {}
-        FrameKind::Called => state.receive(ChildKind::Called, at, weight, Burdens::default()),
-        FrameKind::Spawned => state.receive(ChildKind::Spawned, at, weight, Burdens::default()),
+        FrameKind::Called => state.receive(ChildKind::Called, at, weight, burdens),
+        FrameKind::Spawned => state.receive(ChildKind::Spawned, at, weight, burdens),
     }
     state
+}
+
+/// The frame `parent`, where the frame `child` that it opened has returned to it.
+fn after_return(burdens: Burdens, child: EntryFrame, parent: EntryFrame) -> EntryFrame
+    requires plain { parent.state.spine + peak child.state < 2 ^ 127 }
+    requires burdened { parent.burdened.spine + peak child.burdened < 2 ^ 127 }
+    ensures { result ≡ frame_returned burdens child parent }
+{
+    let EntryFrame { kind, at, .. } = child;
+    let plain = child.state.close();
+    let burdened = child.burdened.close();
+    EntryFrame {
+        state: after_child(kind, at, plain, Burdens::default(), parent.state),
+        burdened: after_child(kind, at, burdened, burdens, parent.burdened),
+        ..parent
+    }
 }
 
 /// The link of a node over one that is marked or not, from that one's own.
@@ -122,12 +140,14 @@ impl StackBuilder {
         })
     }
 
-    /// The innermost frame's state changes.
-    fn along(&mut self, segs: &Seg)
-        requires { peak self.old.top.frame.state + rise segs.now < 2 ^ 127 }
+    /// The innermost frame's states change.
+    fn along(&mut self, segs: &Segs)
+        requires { peak self.old.top.frame.state + peak self.old.top.frame.burdened + cost segs.now < 2 ^ 127 }
         ensures { self.new ≡ moved segs.now self.old }
     {
-        self.top.frame.state = segs.apply(self.top.frame.state);
+        let frame = self.top.frame;
+        self.top.frame.state = segs.plain.apply(frame.state);
+        self.top.frame.burdened = segs.burdened.apply(frame.burdened);
     }
 
     /// The innermost frame's site and function are no longer marked, where no frame below it has them.
@@ -140,9 +160,9 @@ impl StackBuilder {
     }
 
     /// The innermost frame returns to the one below it.
-    fn close(&mut self)
-        requires { (x : Now) × Stands self.old x × IsOpen (ret_by x.frames x.work).frames × (peaks x.frames < 2 ^ 127) }
-        ensures stands { (x : Now) → Stands self.old x → IsOpen (ret_by x.frames x.work).frames → Stands self.new (ret_by x.frames x.work) }
+    fn close(&mut self, burdens: Burdens)
+        requires { (x : Now) × Stands self.old x × IsOpen (ret_by burdens x.frames x.work).frames × (peaks x.frames < 2 ^ 127) }
+        ensures stands { (x : Now) → Stands self.old x → IsOpen (ret_by burdens x.frames x.work).frames → Stands self.new (ret_by burdens x.frames x.work) }
         ensures nodes { self.new.nodes ≡ self.old.nodes }
         ensures work { self.new.work ≡ self.old.work }
     {
@@ -152,8 +172,7 @@ impl StackBuilder {
         self.unmark();
         let child = self.top.frame;
         self.top = self.nodes[below as usize];
-        let parent = self.top.frame.state;
-        self.top.frame.state = after_child(child.kind, child.at, child.state.close(), parent);
+        self.top.frame = after_return(burdens, child, self.top.frame);
     }
 
     /// The innermost frame becomes a node.
@@ -198,6 +217,7 @@ impl StackBuilder {
                 func: frame.func,
                 before: self.work + frame.before,
                 state: frame.states.plain,
+                burdened: frame.states.burdened,
                 top_site: !self.sites.has(frame.site),
                 top_caller: self.top.top_func,
             },
@@ -232,14 +252,15 @@ impl StackBuilder {
 
     /// The returns of a part that close frames opened before it.
     fn close_all(&mut self, summary: &Summary)
-        requires { (x : Now) × Stands self.old x × IsOpen (play_returns entry_ops summary.now.sum.returns x).frames × (peaks x.frames + rises summary.now.sum.returns < 2 ^ 127) }
-        ensures stands { (x : Now) → Stands self.old x → IsOpen (play_returns entry_ops summary.now.sum.returns x).frames → Stands self.new (play_returns entry_ops summary.now.sum.returns x) }
+        requires { (x : Now) × Stands self.old x × IsOpen (play_returns (entry_ops summary.now.burdens) summary.now.sum.returns x).frames × (peaks x.frames + load_returns summary.now.burdens summary.now.sum.returns < 2 ^ 127) }
+        ensures stands { (x : Now) → Stands self.old x → IsOpen (play_returns (entry_ops summary.now.burdens) summary.now.sum.returns x).frames → Stands self.new (play_returns (entry_ops summary.now.burdens) summary.now.sum.returns x) }
         ensures nodes { self.new.nodes ≡ self.old.nodes }
         ensures work { self.new.work ≡ self.old.work }
     {
+        let burdens = summary.burdens();
         for unmatched in summary.returns() {
-            self.along(&unmatched.segs.plain);
-            self.close();
+            self.along(&unmatched.segs);
+            self.close(burdens);
         }
     }
 
@@ -249,7 +270,7 @@ impl StackBuilder {
         requires kept { IsKept self.old }
         requires few { length self.old.nodes.items + length summary.now.sum.frames ≤ 2 ^ 32 }
         requires work { self.old.work + most_before summary.now.sum.frames < 2 ^ 128 }
-        ensures stands { OnOk result ((x : Now) → Stands self.old x → Stands self.new (play_frames entry_ops summary.now.sum.frames x)) }
+        ensures stands { OnOk result ((x : Now) → Stands self.old x → Stands self.new (play_frames (entry_ops summary.now.burdens) summary.now.sum.frames x)) }
         ensures kept { OnOk result (IsKept self.new) }
         ensures chains { OnOk result (AreKept self.old.nodes.items self.new.nodes.items) }
         ensures count { OnOk result (length self.new.nodes.items ≡ length self.old.nodes.items + length summary.now.sum.frames) }
@@ -265,17 +286,17 @@ impl StackBuilder {
     /// A part.
     pub(crate) fn pass(&mut self, alloc: Global, summary: &Summary) -> Result<(), AllocError>
         requires sound { summary.now.sum.fault ≡ None }
-        requires stands { (x : Now) × Stands self.old x × IsOpen (play entry_ops summary.now.sum x).frames × (peaks x.frames + plain_load summary.now.sum < 2 ^ 127) }
+        requires stands { (x : Now) × Stands self.old x × IsOpen (play (entry_ops summary.now.burdens) summary.now.sum x).frames × (peaks x.frames + load summary.now.burdens summary.now.sum < 2 ^ 127) }
         requires few { length self.old.nodes.items + length summary.now.sum.frames < 2 ^ 32 }
         requires before { self.old.work + most_before summary.now.sum.frames < 2 ^ 128 }
         requires work { self.old.work + summary.now.sum.work < 2 ^ 128 }
-        ensures stands { OnOk result ((x : Now) → Stands self.old x → IsOpen (play entry_ops summary.now.sum x).frames → Stands self.new (play entry_ops summary.now.sum x)) }
+        ensures stands { OnOk result ((x : Now) → Stands self.old x → IsOpen (play (entry_ops summary.now.burdens) summary.now.sum x).frames → Stands self.new (play (entry_ops summary.now.burdens) summary.now.sum x)) }
         ensures kept { OnOk result (IsKept self.new) }
         ensures chains { OnOk result (AreKept self.old.nodes.items self.new.nodes.items) }
         ensures count { OnOk result (length self.new.nodes.items ≡ length self.old.nodes.items + 1 + length summary.now.sum.frames) }
     {
         self.close_all(summary);
-        self.along(&summary.middle().plain);
+        self.along(&summary.middle());
         self.keep()?;
         self.open_all(alloc, summary)?;
         self.work += summary.work();

@@ -27,7 +27,7 @@ fn measured<R: Clock>(rt: &R, alloc: Global, trace: &Trace<'_>, parts: u32) -> O
     survey(alloc, &cut, Burdens::default()).ok()?;
     let first = start.elapsed(rt).ok()?.as_millis();
     let start = Instant::now(rt).ok()?;
-    let told = table_in_parts(alloc, &cut).ok()?;
+    let told = table_in_parts(alloc, &cut, Burdens::default()).ok()?;
     let both = start.elapsed(rt).ok()?.as_millis();
     Some(Timed { told, first, both })
 }

@@ -13,11 +13,14 @@ use spp_text::parse_text;
 use std::alloc::Global;
 use std::io;
 
-/// The burden of the first burdened span, on edges of both kinds.
-const BURDEN: u32 = 3;
+/// The burdens of the first answer.
+const EQUAL: Burdens = Burdens {
+    continuation: 3,
+    join: 3,
+};
 
 /// The burdens of the second.
-const BURDENS: Burdens = Burdens {
+const UNEQUAL: Burdens = Burdens {
     continuation: 2,
     join: 7,
 };
@@ -29,8 +32,7 @@ fn profiled(alloc: Global, text: &str, burdens: Burdens) -> Option<Reference> {
     profile(alloc, &trace, burdens).ok()
 }
 
-/// Whether a table of a profiler has the rows that were told, the root's and one for each of so many
-/// sites.
+/// Whether a table of a profiler has the rows that were told, the root's and one for each of so many sites.
 fn has_rows(table: &spp_site::Table, told: &SiteRows, sites: u32) -> bool {
     let mut same = table.root_row() == told.root;
     for site in 0..sites {
@@ -40,12 +42,12 @@ fn has_rows(table: &spp_site::Table, told: &SiteRows, sites: u32) -> bool {
     same
 }
 
-/// Whether the profiler on one thread has the same figures and the same rows, on the whole dag and on the path, for the
-/// trace that the text names, with that burden on edges of both kinds.
-fn is_confirmed(alloc: Global, text: &str, told: &Reference, burden: u32) -> Option<bool> {
+/// Whether the profiler on one thread has the same figures and the same rows, on the whole dag and on both paths, for
+/// the trace that the text names, with these burdens.
+fn is_confirmed(alloc: Global, text: &str, told: &Reference, burdens: Burdens) -> Option<bool> {
     let bytes = parse_text(alloc, text).ok()?;
     let trace = open_trace(alloc, bytes.as_slice()).ok()?;
-    let serial = profile_serial(alloc, &trace, Burdens::equal(burden)).ok()?;
+    let serial = profile_serial(alloc, &trace, burdens).ok()?;
     let figures = Figures {
         work: told.work,
         span: told.span,
@@ -54,7 +56,12 @@ fn is_confirmed(alloc: Global, text: &str, told: &Reference, burden: u32) -> Opt
     let same = serial.figures == figures
         && has_rows(&serial.dag, &told.dag_rows, trace.sites())
         && has_rows(&serial.path, &told.path_rows, trace.sites());
-    Some(same)
+    let same_under = has_rows(
+        &serial.burdened_path,
+        &told.burdened_path_rows,
+        trace.sites(),
+    );
+    Some(same && same_under)
 }
 
 /// Whether the parts of one event of the trace that the text names come to the same rows on the whole dag.
@@ -63,7 +70,7 @@ fn is_confirmed_by_parts(alloc: Global, text: &str, told: &Reference) -> Option<
     let trace = open_trace(alloc, bytes.as_slice()).ok()?;
     let parts = Parts::new(trace.count().clamp(1, Parts::MOST))?;
     let cut = cut_even(alloc, &trace, parts).ok()?;
-    let parts = table_in_parts(alloc, &cut).ok()?;
+    let parts = table_in_parts(alloc, &cut, EQUAL).ok()?;
     Some(has_rows(&parts.dag, &told.dag_rows, trace.sites()))
 }
 
@@ -109,7 +116,9 @@ fn print_profile(rt: &impl Print, one: &Reference, other: &Reference) -> io::Res
     }
     println!(rt; "")?;
     print_table(rt, "dag", &one.dag_rows)?;
-    print_table(rt, "path", &one.path_rows)
+    print_table(rt, "path", &one.path_rows)?;
+    print_table(rt, "path under 3 and 3", &one.burdened_path_rows)?;
+    print_table(rt, "path under 2 and 7", &other.burdened_path_rows)
 }
 
 /// Prints the answers for the traces of which that is the text. Whether it is text.
@@ -130,15 +139,16 @@ pub(crate) fn print(rt: &impl Print, alloc: Global, bytes: &[u8]) -> io::Result<
 
 /// Prints the answers for the trace that the text names.
 fn print_answers(rt: &impl Print, alloc: Global, text: &str) -> io::Result<()> {
-    let (Some(one), Some(other)) = (
-        profiled(alloc, text, Burdens::equal(BURDEN)),
-        profiled(alloc, text, BURDENS),
-    ) else {
+    let (Some(one), Some(other)) = (profiled(alloc, text, EQUAL), profiled(alloc, text, UNEQUAL))
+    else {
         return println!(rt; "no profile");
     };
     print_profile(rt, &one, &other)?;
-    if is_confirmed(alloc, text, &one, BURDEN) != Some(true) {
+    if is_confirmed(alloc, text, &one, EQUAL) != Some(true) {
         println!(rt; "the profiler on one thread differs")?;
+    }
+    if is_confirmed(alloc, text, &other, UNEQUAL) != Some(true) {
+        println!(rt; "the profiler on one thread differs under 2 and 7")?;
     }
     if is_confirmed_by_parts(alloc, text, &one) != Some(true) {
         println!(rt; "the parts of one event differ")?;

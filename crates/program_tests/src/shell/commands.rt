@@ -2,16 +2,17 @@
 
 use super::fakes::{dripping, empty_cup};
 use spp_cut::Parts;
+use spp_maxplus::Burdens;
 use spp_request::{Command, Request};
 use spp_shell::run;
 use std::alloc::Global;
 
-/// A request for this over standard input, with a burden of 3 and 16 parts.
+/// A request for this over standard input, with burdens of 3 and 16 parts.
 pub fn request_for(alloc: Global, command: Command) -> Request {
     Request {
         command,
         files: Vec::new(alloc),
-        burden: 3,
+        burdens: Burdens::equal(3),
         parts: Parts::default(),
         csv: false,
     }
@@ -39,7 +40,7 @@ pub fn request_ends_with(
     text: &[u8],
     line: &[u8],
 ) -> bool {
-    let (mut out, mut err) = (empty_cup(alloc, 1000), empty_cup(alloc, 100));
+    let (mut out, mut err) = (empty_cup(alloc, 2000), empty_cup(alloc, 100));
     let got = run(alloc, request, &mut dripping(bytes), &mut out, &mut err);
     got == ends && out.taken.as_slice() == text && err.taken.as_slice() == line
 }

@@ -2,6 +2,7 @@
 
 use super::commands::{command_ends_with, request_ends_with, request_for};
 use spp_cut::Parts;
+use spp_maxplus::Burdens;
 use spp_request::{Command, Request};
 use std::alloc::Global;
 
@@ -38,13 +39,28 @@ first greatest path
        count        local   site_count    site_work    site_span caller_count  caller_work  caller_span name
            1            3            1           17           13            1           17           13 (root)
            1           10            1           10           10            1           10           10 A
+
+first greatest burdened path
+       count        local   site_count    site_work    site_span caller_count  caller_work  caller_span name
+           1            3            1           17           13            1           17           13 (root)
+           1           10            1           10           10            1           10           10 A
 ";
 
 const CSV: &str =
     "name,count,local,site_count,site_work,site_span,caller_count,caller_work,caller_span,\
-path_count,path_local,path_site_count,path_site_work,path_site_span,path_caller_count,path_caller_work,path_caller_span
-(root),1,7,1,17,13,1,17,13,1,3,1,17,13,1,17,13
-A,1,10,1,10,10,1,10,10,1,10,1,10,10,1,10,10
+path_count,path_local,path_site_count,path_site_work,path_site_span,path_caller_count,path_caller_work,path_caller_span,\
+burdened_path_count,burdened_path_local,burdened_path_site_count,burdened_path_site_work,burdened_path_site_span,burdened_path_caller_count,burdened_path_caller_work,burdened_path_caller_span
+(root),1,7,1,17,13,1,17,13,1,3,1,17,13,1,17,13,1,3,1,17,13,1,17,13
+A,1,10,1,10,10,1,10,10,1,10,1,10,10,1,10,10,1,10,1,10,10,1,10,10
+";
+
+/// The same with 7 on continuation edges and nothing on return edges: the way past the child is then the greater.
+const CSV_PAST_THE_CHILD: &str =
+    "name,count,local,site_count,site_work,site_span,caller_count,caller_work,caller_span,\
+path_count,path_local,path_site_count,path_site_work,path_site_span,path_caller_count,path_caller_work,path_caller_span,\
+burdened_path_count,burdened_path_local,burdened_path_site_count,burdened_path_site_work,burdened_path_site_span,burdened_path_caller_count,burdened_path_caller_work,burdened_path_caller_span
+(root),1,7,1,17,13,1,17,13,1,3,1,17,13,1,17,13,1,7,1,17,13,1,17,13
+A,1,10,1,10,10,1,10,10,1,10,1,10,10,1,10,10,0,0,0,0,0,0,0,0
 ";
 
 /// Whether `figures` of the bytes ends with this status, output and line of fault, in so many parts.
@@ -129,6 +145,27 @@ fn a_good_trace_prints_its_tables_alone(rt: HostRuntime) {
         SMALL,
         0,
         CSV.as_bytes(),
+        b"".as_slice(),
+    );
+    assert!(rt; printed);
+}
+
+#[test]
+fn each_kind_of_edge_has_its_burden(rt: HostRuntime) {
+    let request = Request {
+        csv: true,
+        burdens: Burdens {
+            continuation: 7,
+            join: 0,
+        },
+        ..request_for(rt.alloc(), Command::Profile)
+    };
+    let printed = request_ends_with(
+        rt.alloc(),
+        &request,
+        SMALL,
+        0,
+        CSV_PAST_THE_CHILD.as_bytes(),
         b"".as_slice(),
     );
     assert!(rt; printed);

@@ -1,16 +1,18 @@
-use Rattle.std.proofs.Common.{◌≡◌, ◌∙◌, ◌==◌, refl, arith, subst, ℕ, true, false, List, [], ◌∷◌, Some, None, codes, ap}
+use Rattle.std.proofs.Common.{◌≡◌, ◌∙◌, ◌==◌, refl, sym, arith, subst, ℕ, true, false, List, [], ◌∷◌, Option, Some, None, unwrap_or, codes, ap, ap₂}
 use Rattle.std.specs.Str.{bytes_eq}
 use Rattle.clap.specs.Walk.{Row, Text}
 use Rattle.clap.specs.Simple.{subcommand_of}
 use Rattle.clap.specs.declared.parser.matches.ValueSource.TheVariants.{CommandLine, DefaultValue}
 use Rattle.clap.specs.declared.builder.value_parser.Reading.{Reading}
 use Rattle.clap.specs.declared.builder.value_parser.Reading.TheVariants.{AsWritten, WithoutMinus}
+use Rattle.spp_maxplus.specs.declared.state.Burdens.{Burdens}
+use Rattle.spp_maxplus.specs.State.{equal}
 use Rattle.spp_command_line.specs.Spprof.{spprof}
 use Rattle.spp_command_line.specs.Laws.{Ask, CommandAlone, Dash, Fail, Help, OneWord, TwoWords, name_of}
 use Rattle.clap.proofs.OnLiterals.{clap_on_literals}
 use Rattle.spp_request.specs.declared.request.Command.{Command}
 use Rattle.spp_request.specs.declared.request.Command.TheVariants.{Check, Figures, Profile, Encode}
-use Rattle.spp_command_line.specs.Usage.{IsRequestOf, paths_of, IsNamed, IsNumberIn}
+use Rattle.spp_command_line.specs.Usage.{Gives, IsFlag, IsNamed, IsNumberIn, IsNumberOr, IsRequestOf, number_of, paths_of}
 use Rattle.clap.specs.declared.error.kind.ErrorKind.TheVariants.{DisplayHelp}
 use Rattle.spp_command_line.proofs.laws.word_laws.Goals as goal
 
@@ -63,6 +65,23 @@ is_encode Profile e =
     cc
 is_encode Encode e = refl
 
+-- --burden alone is for edges of both kinds
+as_given : (b : Burdens) {n : ℕ} → (b.continuation ≡ n) × (b.join ≡ b.continuation) → b ≡ equal n
+as_given b e = ap₂ (λ c j. let x : Burdens = record { continuation = c; join = j } in x) e.0 (e.1 ∙ e.0)
+
+-- and --join-burden for one kind
+each_given : (b : Burdens) {m n : ℕ} → b.continuation ≡ m → b.join ≡ n → b ≡ record { continuation = m; join = n }
+each_given b p q = ap₂ (λ c j. let x : Burdens = record { continuation = c; join = j } in x) p q
+
+burden_0 : IsNumberIn 0 4294967295 (codes "0")
+burden_0 = ((omega arith, (omega arith, tt)), omega arith, omega arith)
+
+burden_3 : IsNumberIn 0 4294967295 (codes "3")
+burden_3 = ((omega arith, (omega arith, tt)), omega arith, omega arith)
+
+burden_most : IsNumberIn 0 4294967295 (codes "4294967295")
+burden_most = ((omega arith, (omega arith, (omega arith, (omega arith, (omega arith, (omega arith, (omega arith, (omega arith, (omega arith, (omega arith, (omega arith, tt))))))))))), omega arith, omega arith)
+
 burden_7 : IsNumberIn 0 4294967295 (codes "7")
 burden_7 = ((omega arith, (omega arith, tt)), omega arith, omega arith)
 
@@ -75,13 +94,69 @@ parts_unsaid = ((omega arith, (omega arith, (omega arith, tt))), omega arith, om
 burden_unsaid : IsNumberIn 0 4294967295 (codes "15000")
 burden_unsaid = ((omega arith, (omega arith, (omega arith, (omega arith, (omega arith, (omega arith, tt)))))), omega arith, omega arith)
 
+-- a text that spells a number in the bounds gives that number
+spells : {least most fallback : ℕ} (text : Text) → IsNumberIn least most text → IsNumberOr least most fallback (Some text) (number_of text)
+spells text fits = ((λ yes. refl), (λ no. absurd (no fits)))
+
+-- a flag that the command hasn't got, one that isn't set, and one that is
+no_flag : IsFlag None false
+no_flag = ((λ e. refl), (λ e. refl), (λ e. cc))
+
+flag_off : IsFlag (Some (codes "false")) false
+flag_off = ((λ e. refl), (λ e. refl), bad)
+  where
+    bad : Some (codes "false") ≡ Some (codes "true") → false ≡ true
+    bad e = ap (λ (o : Option Text). bytes_eq (unwrap_or o []) (codes "true")) e
+
+flag_on : IsFlag (Some (codes "true")) true
+flag_on = ((λ e. cc), bad, (λ e. refl))
+  where
+    bad : Some (codes "true") ≡ Some (codes "false") → true ≡ false
+    bad e = ap (λ (o : Option Text). bytes_eq (unwrap_or o []) (codes "true")) e
+
 pub returns-clause-figures_in_parts : goal.returns-clause-figures_in_parts
 unfolding clap_on_literals
-returns-clause-figures_in_parts c = (refl, (λ r h. (is_figures r.command h.0, h.1, h.2.0 burden_7, h.3.0 parts_4, h.4.0 refl)))
+returns-clause-figures_in_parts c = (refl, (λ r h. (is_figures r.command h.0, h.1, as_given r.burdens (h.2.0.0 burden_7, h.2.1), h.3.0 parts_4, h.4.0 refl)), (refl, refl, (spells (codes "7") burden_7, refl), spells (codes "4") parts_4, no_flag))
 
 pub returns-clause-profile_as_csv : goal.returns-clause-profile_as_csv
 unfolding clap_on_literals
-returns-clause-profile_as_csv c = (refl, (λ r h. (is_profile r.command h.0, h.1, h.2.0 burden_unsaid, h.3, h.4.2 refl)))
+returns-clause-profile_as_csv c = (refl, (λ r h. (is_profile r.command h.0, h.1, as_given r.burdens (h.2.0.0 burden_unsaid, h.2.1), h.3, h.4.2 refl)), (refl, refl, (spells (codes "15000") burden_unsaid, refl), refl, flag_on))
+
+pub returns-clause-join_burden : goal.returns-clause-join_burden
+unfolding clap_on_literals
+returns-clause-join_burden c = (
+  refl,
+  (λ r h. (is_figures r.command h.0, h.1, each_given r.burdens (h.2.0.0 burden_unsaid) (h.2.1.0 burden_3), h.3.0 parts_unsaid, h.4.0 refl)),
+  (refl, refl, (spells (codes "15000") burden_unsaid, spells (codes "3") burden_3), spells (codes "16") parts_unsaid, no_flag),
+)
+
+pub returns-clause-two_burdens : goal.returns-clause-two_burdens
+unfolding clap_on_literals
+returns-clause-two_burdens c = (
+  (
+    refl,
+    (λ r h. (is_profile r.command h.0, h.1, each_given r.burdens (h.2.0.0 burden_3) (h.2.1.0 burden_0), h.3, h.4.1 refl)),
+    (refl, refl, (spells (codes "3") burden_3, spells (codes "0") burden_0), refl, flag_off),
+  ),
+  (
+    refl,
+    (λ r h. (is_profile r.command h.0, h.1, each_given r.burdens (h.2.0.0 burden_3) (h.2.1.0 burden_0), h.3, h.4.1 refl)),
+    (refl, refl, (spells (codes "3") burden_3, spells (codes "0") burden_0), refl, flag_off),
+  ),
+)
+
+pub returns-clause-great_burdens : goal.returns-clause-great_burdens
+unfolding clap_on_literals
+returns-clause-great_burdens c = (
+  (refl, (λ r h. (is_figures r.command h.0, h.1, as_given r.burdens (h.2.0.0 burden_most, h.2.1), h.3.0 parts_unsaid, h.4.0 refl)), (refl, refl, (spells (codes "4294967295") burden_most, refl), spells (codes "16") parts_unsaid, no_flag)),
+  (
+    refl,
+    (λ r h. (is_figures r.command h.0, h.1, each_given r.burdens (h.2.0.0 burden_0) (h.2.1.0 burden_most), h.3.0 parts_unsaid, h.4.0 refl)),
+    (refl, refl, (spells (codes "0") burden_0, spells (codes "4294967295") burden_most), spells (codes "16") parts_unsaid, no_flag),
+  ),
+  refl,
+  refl,
+)
 
 pub returns-clause-no_command : goal.returns-clause-no_command
 unfolding clap_on_literals
@@ -102,7 +177,7 @@ given id values = record { id = id; values = values; count = None; source = Some
 unfoldable unsaid : Text → Text → Reading → Row
 unsaid id value how = record { id = id; values = value ∷ []; count = None; source = Some DefaultValue; reading = how }
 
-one_check : (x : ℕ) (rest : Text) → (x == 45) ≡ false → Ask (codes "check" ∷ (x ∷ rest) ∷ []) Check ((x ∷ rest) ∷ []) 15000 16 false
+one_check : (x : ℕ) (rest : Text) → (x == 45) ≡ false → Ask (codes "check" ∷ (x ∷ rest) ∷ []) Check ((x ∷ rest) ∷ []) (equal 15000) 16 false
 unfolding clap_on_literals given unsaid
 one_check x rest plain =
     let rows : List Row = given (codes "FILE") ((x ∷ rest) ∷ []) ∷ [] in
@@ -111,10 +186,11 @@ one_check x rest plain =
       simp plain,
       (λ r h.
           let q : IsRequestOf (Some (codes "check", rows)) r = subst (λ o. IsRequestOf o r) found h in
-          (is_check r.command q.0, q.1 ∙ path, q.2, q.3, q.4.0 refl)),
+          (is_check r.command q.0, q.1 ∙ path, as_given r.burdens q.2, q.3, q.4.0 refl)),
+      subst (λ o. Gives o Check ((x ∷ rest) ∷ []) (equal 15000) 16 false) (sym found) (refl, sym path, (refl, refl), refl, no_flag),
     )
 
-one_figures : (x : ℕ) (rest : Text) → (x == 45) ≡ false → Ask (codes "figures" ∷ (x ∷ rest) ∷ []) Figures ((x ∷ rest) ∷ []) 15000 16 false
+one_figures : (x : ℕ) (rest : Text) → (x == 45) ≡ false → Ask (codes "figures" ∷ (x ∷ rest) ∷ []) Figures ((x ∷ rest) ∷ []) (equal 15000) 16 false
 unfolding clap_on_literals given unsaid
 one_figures x rest plain =
     let rows : List Row = given (codes "FILE") ((x ∷ rest) ∷ []) ∷ unsaid (codes "burden") (codes "15000") WithoutMinus ∷ unsaid (codes "parts") (codes "16") WithoutMinus ∷ [] in
@@ -123,10 +199,11 @@ one_figures x rest plain =
       simp plain,
       (λ r h.
           let q : IsRequestOf (Some (codes "figures", rows)) r = subst (λ o. IsRequestOf o r) found h in
-          (is_figures r.command q.0, q.1 ∙ path, q.2.0 burden_unsaid, q.3.0 parts_unsaid, q.4.0 refl)),
+          (is_figures r.command q.0, q.1 ∙ path, as_given r.burdens (q.2.0.0 burden_unsaid, q.2.1), q.3.0 parts_unsaid, q.4.0 refl)),
+      subst (λ o. Gives o Figures ((x ∷ rest) ∷ []) (equal 15000) 16 false) (sym found) (refl, sym path, (spells (codes "15000") burden_unsaid, refl), spells (codes "16") parts_unsaid, no_flag),
     )
 
-one_profile : (x : ℕ) (rest : Text) → (x == 45) ≡ false → Ask (codes "profile" ∷ (x ∷ rest) ∷ []) Profile ((x ∷ rest) ∷ []) 15000 16 false
+one_profile : (x : ℕ) (rest : Text) → (x == 45) ≡ false → Ask (codes "profile" ∷ (x ∷ rest) ∷ []) Profile ((x ∷ rest) ∷ []) (equal 15000) 16 false
 unfolding clap_on_literals given unsaid
 one_profile x rest plain =
     let rows : List Row = given (codes "FILE") ((x ∷ rest) ∷ []) ∷ unsaid (codes "burden") (codes "15000") WithoutMinus ∷ unsaid (codes "csv") (codes "false") AsWritten ∷ [] in
@@ -135,10 +212,11 @@ one_profile x rest plain =
       simp plain,
       (λ r h.
           let q : IsRequestOf (Some (codes "profile", rows)) r = subst (λ o. IsRequestOf o r) found h in
-          (is_profile r.command q.0, q.1 ∙ path, q.2.0 burden_unsaid, q.3, q.4.1 refl)),
+          (is_profile r.command q.0, q.1 ∙ path, as_given r.burdens (q.2.0.0 burden_unsaid, q.2.1), q.3, q.4.1 refl)),
+      subst (λ o. Gives o Profile ((x ∷ rest) ∷ []) (equal 15000) 16 false) (sym found) (refl, sym path, (spells (codes "15000") burden_unsaid, refl), refl, flag_off),
     )
 
-one_encode : (x : ℕ) (rest : Text) → (x == 45) ≡ false → Ask (codes "encode" ∷ (x ∷ rest) ∷ []) Encode ((x ∷ rest) ∷ []) 15000 16 false
+one_encode : (x : ℕ) (rest : Text) → (x == 45) ≡ false → Ask (codes "encode" ∷ (x ∷ rest) ∷ []) Encode ((x ∷ rest) ∷ []) (equal 15000) 16 false
 unfolding clap_on_literals given unsaid
 one_encode x rest plain =
     let rows : List Row = given (codes "FILE") ((x ∷ rest) ∷ []) ∷ [] in
@@ -147,7 +225,8 @@ one_encode x rest plain =
       simp plain,
       (λ r h.
           let q : IsRequestOf (Some (codes "encode", rows)) r = subst (λ o. IsRequestOf o r) found h in
-          (is_encode r.command q.0, q.1 ∙ path, q.2, q.3, q.4.0 refl)),
+          (is_encode r.command q.0, q.1 ∙ path, as_given r.burdens q.2, q.3, q.4.0 refl)),
+      subst (λ o. Gives o Encode ((x ∷ rest) ∷ []) (equal 15000) 16 false) (sym found) (refl, sym path, (refl, refl), refl, no_flag),
     )
 
 pub returns-clause-one_word : goal.returns-clause-one_word
@@ -171,20 +250,20 @@ returns-clause-two_words c = two_words
 
 alone : CommandAlone
 unfolding clap_on_literals
-alone Check = (refl, (λ r h. (is_check r.command h.0, h.1, h.2, h.3, h.4.0 refl)))
-alone Figures = (refl, (λ r h. (is_figures r.command h.0, h.1, h.2.0 burden_unsaid, h.3.0 parts_unsaid, h.4.0 refl)))
-alone Profile = (refl, (λ r h. (is_profile r.command h.0, h.1, h.2.0 burden_unsaid, h.3, h.4.1 refl)))
-alone Encode = (refl, (λ r h. (is_encode r.command h.0, h.1, h.2, h.3, h.4.0 refl)))
+alone Check = (refl, (λ r h. (is_check r.command h.0, h.1, as_given r.burdens h.2, h.3, h.4.0 refl)), (refl, refl, (refl, refl), refl, no_flag))
+alone Figures = (refl, (λ r h. (is_figures r.command h.0, h.1, as_given r.burdens (h.2.0.0 burden_unsaid, h.2.1), h.3.0 parts_unsaid, h.4.0 refl)), (refl, refl, (spells (codes "15000") burden_unsaid, refl), spells (codes "16") parts_unsaid, no_flag))
+alone Profile = (refl, (λ r h. (is_profile r.command h.0, h.1, as_given r.burdens (h.2.0.0 burden_unsaid, h.2.1), h.3, h.4.1 refl)), (refl, refl, (spells (codes "15000") burden_unsaid, refl), refl, flag_off))
+alone Encode = (refl, (λ r h. (is_encode r.command h.0, h.1, as_given r.burdens h.2, h.3, h.4.0 refl)), (refl, refl, (refl, refl), refl, no_flag))
 
 pub returns-clause-command_alone : goal.returns-clause-command_alone
 returns-clause-command_alone c = alone
 
 dash : Dash
 unfolding clap_on_literals
-dash Check = (refl, (λ r h. (is_check r.command h.0, h.1, h.2, h.3, h.4.0 refl)))
-dash Figures = (refl, (λ r h. (is_figures r.command h.0, h.1, h.2.0 burden_unsaid, h.3.0 parts_unsaid, h.4.0 refl)))
-dash Profile = (refl, (λ r h. (is_profile r.command h.0, h.1, h.2.0 burden_unsaid, h.3, h.4.1 refl)))
-dash Encode = (refl, (λ r h. (is_encode r.command h.0, h.1, h.2, h.3, h.4.0 refl)))
+dash Check = (refl, (λ r h. (is_check r.command h.0, h.1, as_given r.burdens h.2, h.3, h.4.0 refl)), (refl, refl, (refl, refl), refl, no_flag))
+dash Figures = (refl, (λ r h. (is_figures r.command h.0, h.1, as_given r.burdens (h.2.0.0 burden_unsaid, h.2.1), h.3.0 parts_unsaid, h.4.0 refl)), (refl, refl, (spells (codes "15000") burden_unsaid, refl), spells (codes "16") parts_unsaid, no_flag))
+dash Profile = (refl, (λ r h. (is_profile r.command h.0, h.1, as_given r.burdens (h.2.0.0 burden_unsaid, h.2.1), h.3, h.4.1 refl)), (refl, refl, (spells (codes "15000") burden_unsaid, refl), refl, flag_off))
+dash Encode = (refl, (λ r h. (is_encode r.command h.0, h.1, as_given r.burdens h.2, h.3, h.4.0 refl)), (refl, refl, (refl, refl), refl, no_flag))
 
 pub returns-clause-dash : goal.returns-clause-dash
 returns-clause-dash c = dash

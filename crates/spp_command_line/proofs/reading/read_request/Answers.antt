@@ -1,11 +1,12 @@
-use Rattle.std.proofs.Common.{◌∙◌, ap, sym, subst, refl, map, codes, List}
+use Rattle.std.proofs.Common.{◌∙◌, ap, ap₂, sym, subst, refl, map, codes, List, ℕ, unwrap_or}
 use Rattle.std.specs.Str.Parse.{ExplainsUnsignedError, HasUnsignedDigitsIfOk, ParsesUnsigned}
 use Rattle.clap.specs.Walk.{Text, one_of, rows_of}
 use Rattle.clap.specs.Matches.{found_of}
 use Rattle.clap.specs.Simple.{App, is_simple, subcommand_of}
 use Rattle.clap.specs.Faults.{fault_of, is_simple_and_free}
 use Rattle.clap.proofs.WalkLemmas.{first_value-rows, one_text-rows}
-use Rattle.spp_command_line.specs.Usage.{EndsBy, IsNamed, IsNumberOr, IsRequestOf, paths_of}
+use Rattle.spp_maxplus.specs.declared.state.Burdens.{Burdens}
+use Rattle.spp_command_line.specs.Usage.{AreBurdens, EndsBy, IsNamed, IsNumberOr, IsRequestOf, paths_of}
 use Rattle.spp_command_line.proofs.Matches.{entered_both, command_named, shown_among, spprof_free, spprof_simple, burden_read, parts_read}
 use Rattle.spp_command_line.proofs.reading.read_request.Goals as goal
 
@@ -35,18 +36,23 @@ returns-clause-found g c =
     let here = sym both ∙ (c.in-Ok.ensures.matches (ap is_simple is ∙ spprof_simple)).1 ∙ ap (λ (a : App). subcommand_of a words) is in
     let f = found_of c.in-Some.given.now in
     let burden = one_text-rows f (codes "burden") in
+    let join = one_text-rows f (codes "join-burden") in
     let parts = one_text-rows f (codes "parts") in
     let csv = one_text-rows f (codes "csv") in
     let r = c.in_ok-request_of.field-0 in
     let made = c.in_ok-request_of.ensures in
+    let said = c.unwrap_or-burden.ensures in
+    let joined = c.unwrap_or-join_burden.ensures ∙ ap (unwrap_or c.get_one-2.result) said in
     subst (λ o. IsRequestOf o r) here (
       subst (IsNamed c.in-Some.name.now) (sym made.command) c.in-Some-command_of.ensures.named,
       made.files ∙ ap paths_of (c.get_str.ensures ∙ first_value-rows f (codes "FILE")),
-      subst (IsNumberOr 0 4294967295 15000 (one_of (codes "burden") (rows_of f))) (sym (made.burden ∙ c.unwrap_or-burden.ensures))
-          (burden_read (λ bs r. ParsesUnsigned 32 10 bs r × ExplainsUnsignedError 10 bs r × HasUnsignedDigitsIfOk bs r) _ c.get_one.result (λ t x h. h.0) (λ e. c.get_one.ensures.none (burden ∙ e)) (λ t e. c.get_one.ensures.value t (burden ∙ e))),
+      subst (AreBurdens (rows_of f)) (sym (made.burdens ∙ ap₂ (λ (m n : ℕ). let b : Burdens = record { continuation = m; join = n } in b) said joined)) (
+        burden_read (λ bs r. ParsesUnsigned 32 10 bs r × ExplainsUnsignedError 10 bs r × HasUnsignedDigitsIfOk bs r) 15000 _ c.get_one.result (λ t x h. h.0) (λ e. c.get_one.ensures.none (burden ∙ e)) (λ t e. c.get_one.ensures.value t (burden ∙ e)),
+        burden_read (λ bs r. ParsesUnsigned 32 10 bs r × ExplainsUnsignedError 10 bs r × HasUnsignedDigitsIfOk bs r) (unwrap_or c.get_one.result 15000) _ c.get_one-2.result (λ t x h. h.0) (λ e. c.get_one-2.ensures.none (join ∙ e)) (λ t e. c.get_one-2.ensures.value t (join ∙ e)),
+      ),
       subst (IsNumberOr 1 65536 16 (one_of (codes "parts") (rows_of f))) (sym made.parts)
-          (parts_read (λ bs r. ParsesUnsigned 32 10 bs r × ExplainsUnsignedError 10 bs r × HasUnsignedDigitsIfOk bs r) _ c.get_one-2.result c.and_then-parts.result c.unwrap_or_default.result (λ t x h. h.0) (λ e. c.get_one-2.ensures.none (parts ∙ e))
-          (λ t e. c.get_one-2.ensures.value t (parts ∙ e)) c.and_then-parts.ensures c.unwrap_or_default.ensures),
+          (parts_read (λ bs r. ParsesUnsigned 32 10 bs r × ExplainsUnsignedError 10 bs r × HasUnsignedDigitsIfOk bs r) _ c.get_one-3.result c.and_then-parts.result c.unwrap_or_default.result (λ t x h. h.0) (λ e. c.get_one-3.ensures.none (parts ∙ e))
+          (λ t e. c.get_one-3.ensures.value t (parts ∙ e)) c.and_then-parts.ensures c.unwrap_or_default.ensures),
       (
         (λ e. made.csv ∙ c.get_flag.ensures.none (csv ∙ e)),
         (λ e. made.csv ∙ c.get_flag.ensures.other (csv ∙ e)),

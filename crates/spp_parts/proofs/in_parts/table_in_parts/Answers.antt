@@ -23,7 +23,7 @@ loop-k-init c = record {
   rows =
       subst (λ (d : Sums). AreRowsTo c.args.cut.now.trace (begin_in c.args.cut.now.parts 0) d) (sym c.new-dag.ensures)
       (rows_none c.args.cut.now.trace (begin_in c.args.cut.now.parts 0) (begin_zero c.args.cut.now.parts));
-  chosen = λ es are. subst (λ (cs : List Choices). AreChoicesOf es [] cs) (sym c.in_ok-choices.ensures.items) _;
+  chosen = λ es are. subst (λ (cs : List Choices). AreChoicesOf es c.args.burdens [] cs) (sym c.in_ok-choices.ensures.items) _;
   count = ap (λ (cs : List Choices). length cs) c.in_ok-choices.ensures.items;
   room =
       let m : length c.parts-parts.result.now ≡ length c.args.cut.now.parts = ap (λ (l : List PartOf). length l) c.parts-parts.ensures.parts in
@@ -34,18 +34,18 @@ pub entries_of-requires-clause-well_formed : goal.entries_of-requires-clause-wel
 entries_of-requires-clause-well_formed c = c.in_ok-found.ensures.figures.well_formed
 
 pub entries_of-requires-clause-each : goal.entries_of-requires-clause-each
-entries_of-requires-clause-each c = (c.default.result, c.deref.ensures.value ∙ c.in_ok-found.ensures.each)
+entries_of-requires-clause-each c = (c.args.burdens, c.deref.ensures.value ∙ c.in_ok-found.ensures.each)
 
 pub entry-requires : goal.entry-requires
 entry-requires c =
     let m : length c.parts-parts.result.now ≡ length c.args.cut.now.parts = ap (λ (l : List PartOf). length l) c.parts-parts.ensures.parts in
-    let e = c.in_ok-stacks.ensures.entries in
+    let e = c.in_ok-stacks.ensures.entries c.args.burdens (c.deref.ensures.value ∙ c.in_ok-found.ensures.each) in
     omega (arith, c.loop-k-test.true, e.count)
 
 pub run_part-requires : goal.run_part-requires
 run_part-requires c =
     let got = part_got c.args.cut.now.parts c.parts-parts.result.now c.loop-k.k c.index-parts-k.result c.parts-parts.ensures.parts c.index-parts-k.is c.loop-k-test.true in
-    entry_stands c.args.cut.now c.in_ok-stacks.stacks c.in_ok-stacks.ensures.entries c.loop-k.k c.index-parts-k.result got c.entry.result c.entry.ensures c.parts-parts.ensures.cut
+    entry_stands c.args.cut.now c.args.burdens c.in_ok-stacks.stacks (c.in_ok-stacks.ensures.entries c.args.burdens (c.deref.ensures.value ∙ c.in_ok-found.ensures.each)) c.loop-k.k c.index-parts-k.result got c.entry.result c.entry.ensures c.parts-parts.ensures.cut
 
 pub absorb-requires-clause-root_fits : goal.absorb-requires-clause-root_fits
 absorb-requires-clause-root_fits c =
@@ -57,8 +57,8 @@ absorb-requires-clause-root_fits c =
     let wf : IsWellFormed es = subst (λ (rs : List Record). nesting.IsWellFormed rs) fig.are_events fig.well_formed in
     let at = part_read t ps c.parts-parts.result.now k c.index-parts-k.result c.parts-parts.ensures.cut c.parts-parts.ensures.parts c.index-parts-k.is c.loop-k-test.true in
     let table : Sums = c.in_ok-told.told.share in
-    merge_fits t (begin_in ps k) (begin_in ps (k + 1)) (next_begin t ps k c.index-parts-k.result at) c.loop-k.dag table c.in_ok-told.told.choices c.loop-k.invariant.rows
-    (told_part t ps k c.index-parts-k.result at table c.in_ok-told.told.choices c.in_ok-told.ensures) es fig.are_events wf (c.in_ok-found.ensures.parts es fig.are_events).small None
+    merge_fits t (begin_in ps k) (begin_in ps (k + 1)) (next_begin t ps k c.index-parts-k.result at) c.loop-k.dag table c.args.burdens c.in_ok-told.told.choices c.loop-k.invariant.rows
+    (told_part t ps k c.index-parts-k.result at table c.args.burdens c.in_ok-told.told.choices c.in_ok-told.ensures) es fig.are_events wf (c.in_ok-found.ensures.parts es fig.are_events).small None
 
 pub absorb-requires-clause-sites_fit : goal.absorb-requires-clause-sites_fit
 absorb-requires-clause-sites_fit c = λ s.
@@ -70,8 +70,8 @@ absorb-requires-clause-sites_fit c = λ s.
     let wf : IsWellFormed es = subst (λ (rs : List Record). nesting.IsWellFormed rs) fig.are_events fig.well_formed in
     let at = part_read t ps c.parts-parts.result.now k c.index-parts-k.result c.parts-parts.ensures.cut c.parts-parts.ensures.parts c.index-parts-k.is c.loop-k-test.true in
     let table : Sums = c.in_ok-told.told.share in
-    merge_fits t (begin_in ps k) (begin_in ps (k + 1)) (next_begin t ps k c.index-parts-k.result at) c.loop-k.dag table c.in_ok-told.told.choices c.loop-k.invariant.rows
-    (told_part t ps k c.index-parts-k.result at table c.in_ok-told.told.choices c.in_ok-told.ensures) es fig.are_events wf (c.in_ok-found.ensures.parts es fig.are_events).small (Some s)
+    merge_fits t (begin_in ps k) (begin_in ps (k + 1)) (next_begin t ps k c.index-parts-k.result at) c.loop-k.dag table c.args.burdens c.in_ok-told.told.choices c.loop-k.invariant.rows
+    (told_part t ps k c.index-parts-k.result at table c.args.burdens c.in_ok-told.told.choices c.in_ok-told.ensures) es fig.are_events wf (c.in_ok-found.ensures.parts es fig.are_events).small (Some s)
 
 pub loop-k-preserved : goal.loop-k-preserved
 loop-k-preserved c =
@@ -82,11 +82,11 @@ loop-k-preserved c =
     let table : Sums = c.in_ok-told.told.share in
     record {
       rows =
-          rows_more t (begin_in ps k) (begin_in ps (k + 1)) (next_begin t ps k c.index-parts-k.result at) c.loop-k.dag table c.in_ok-told.told.choices c.loop-k.invariant.rows
-          (told_part t ps k c.index-parts-k.result at table c.in_ok-told.told.choices c.in_ok-told.ensures) c.absorb.new.self c.in_ok-absorb.ensures.sums;
+          rows_more t (begin_in ps k) (begin_in ps (k + 1)) (next_begin t ps k c.index-parts-k.result at) c.loop-k.dag table c.args.burdens c.in_ok-told.told.choices c.loop-k.invariant.rows
+          (told_part t ps k c.index-parts-k.result at table c.args.burdens c.in_ok-told.told.choices c.in_ok-told.ensures) c.absorb.new.self c.in_ok-absorb.ensures.sums;
       chosen =
-          subst (λ (cs : List Choices). AreChosen t (k + 1) ps cs) (sym c.push_reserved.ensures.items)
-          (chosen_next t ps c.parts-parts.result.now k c.index-parts-k.result c.loop-k.choices.items c.in_ok-told.told.choices at c.parts-parts.ensures.parts c.index-parts-k.is c.loop-k-test.true
+          subst (λ (cs : List Choices). AreChosen t c.args.burdens (k + 1) ps cs) (sym c.push_reserved.ensures.items)
+          (chosen_next t c.args.burdens ps c.parts-parts.result.now k c.index-parts-k.result c.loop-k.choices.items c.in_ok-told.told.choices at c.parts-parts.ensures.parts c.index-parts-k.is c.loop-k-test.true
           c.loop-k.invariant.chosen (λ es are. (c.in_ok-told.ensures es are).choices));
       count =
           ap (λ (cs : List Choices). length cs) c.push_reserved.ensures.items
@@ -103,7 +103,7 @@ add_root-requires c =
     let past : c.loop-k.k ≡ length c.parts-parts.result.now = omega (arith, c.loop-k-test.false) in
     let end : n ≡ length t.records = all_begun t ps c.parts-parts.result.now c.loop-k.k c.parts-parts.ensures.cut c.parts-parts.ensures.parts past in
     subst (λ (r : Row). Fits (plus c.loop-k.dag.root r)) (sym c.root_row.ensures)
-    (root_fits t c.default.result c.in_ok-found.found.whole fig n end c.loop-k.dag c.loop-k.invariant.rows (c.in_ok-found.ensures.parts fig.events fig.are_events).small)
+    (root_fits t c.args.burdens c.in_ok-found.found.whole fig n end c.loop-k.dag c.loop-k.invariant.rows (c.in_ok-found.ensures.parts fig.events fig.are_events).small)
 
 pub returns-clause-dag : goal.returns-clause-dag
 returns-clause-dag c =
@@ -112,10 +112,10 @@ returns-clause-dag c =
     let n : ℕ = begin_in ps c.loop-k.k in
     let past : c.loop-k.k ≡ length c.parts-parts.result.now = omega (arith, c.loop-k-test.false) in
     let end : n ≡ length t.records = all_begun t ps c.parts-parts.result.now c.loop-k.k c.parts-parts.ensures.cut c.parts-parts.ensures.parts past in
-    dag_is t c.default.result c.in_ok-found.found.whole c.in_ok-found.ensures.figures n end c.loop-k.dag c.loop-k.invariant.rows c.add_root.new.self
+    dag_is t c.args.burdens c.in_ok-found.found.whole c.in_ok-found.ensures.figures n end c.loop-k.dag c.loop-k.invariant.rows c.add_root.new.self
     (c.add_root.ensures ∙ ap (λ (r : Row). let u : Sums = record c.loop-k.dag { root = plus c.loop-k.dag.root r } in u) c.root_row.ensures)
 
 pub returns-clause-choices : goal.returns-clause-choices
 returns-clause-choices c =
     let past : c.loop-k.k ≡ length c.parts-parts.result.now = omega (arith, c.loop-k-test.false) in
-    chosen_all c.args.cut.now.trace c.args.cut.now.parts c.parts-parts.result.now c.loop-k.k c.loop-k.choices.items c.parts-parts.ensures.parts past c.loop-k.invariant.chosen
+    chosen_all c.args.cut.now.trace c.args.burdens c.args.cut.now.parts c.parts-parts.result.now c.loop-k.k c.loop-k.choices.items c.parts-parts.ensures.parts past c.loop-k.invariant.chosen

@@ -8,7 +8,7 @@ use Rattle.spp_parts.proofs.in_parts.table_in_parts.Given as goal
 abbrev pub invariant-loop-k : goal.invariant-loop-k
 invariant-loop-k l = record {
   rows : AreRowsTo l.cut.trace (begin_in l.cut.parts l.k) l.dag;
-  chosen : AreChosen l.cut.trace l.k l.cut.parts l.choices.items;
+  chosen : AreChosen l.cut.trace l.burdens l.k l.cut.parts l.choices.items;
   count : length l.choices.items ≡ l.k;
   room : length l.cut.parts ≤ vec_capacity l.choices;
 }

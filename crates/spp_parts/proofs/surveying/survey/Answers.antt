@@ -6,7 +6,7 @@ use Rattle.spp_cut.specs.Parts.{Cover}
 use Rattle.spp_piece.specs.Account.{Account}
 use Rattle.spp_summary.proofs.InParts.{Summed, summed_next, summed_all, told_ok, told_err}
 use Rattle.spp_parts.proofs.Accounts.{account_in, rest_of, accounts_more, accounts_all, are_of_parts, accounts_burden, told_bad}
-use Rattle.spp_parts.proofs.Known.{known_small}
+use Rattle.spp_dag.proofs.EventsOfRecords.{known_small}
 use Rattle.spp_parts.proofs.surveying.survey.Goals as goal
 
 pub join-requires-clause-neighbours : goal.join-requires-clause-neighbours

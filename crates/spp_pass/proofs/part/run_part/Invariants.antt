@@ -5,4 +5,4 @@ use Rattle.spp_pass.proofs.part.run_part.Given as goal
 
 -- as far as the event at `k` of the part the pass has run
 abbrev pub invariant-loop-k : goal.invariant-loop-k
-invariant-loop-k l = record { going : Going l.part.trace l.part.first (l.first + l.k) l.outside (seen l.summing) }
+invariant-loop-k l = record { going : Going l.part.trace l.fn.burdens l.part.first (l.first + l.k) l.outside (seen l.summing) }

@@ -7,6 +7,6 @@ use Rattle.spp_report.proofs.csv_table.write_sites.Given as goal
 
 abbrev pub invariant-loop-site : goal.invariant-loop-site
 invariant-loop-site g l = record {
-  text : Appends (text_written g.W.Write.contents l.fn.writer) (text_written g.W.Write.contents l.writer) (flat_map (site_record l.trace l.profile.dag l.profile.path) (range_with_len 0 l.site));
+  text : Appends (text_written g.W.Write.contents l.fn.writer) (text_written g.W.Write.contents l.writer) (flat_map (site_record l.trace l.profile) (range_with_len 0 l.site));
   next : AwaitsRecord l.writer;
 }

@@ -9,11 +9,10 @@ use Rattle.spp_report.proofs.csv_table.write_tables.Goals as goal
 pub returns : goal.returns
 returns g c =
     let trace = c.args.named.now.trace.now in
-    let dag = c.args.named.now.profile.now.dag in
-    let path = c.args.named.now.profile.now.path in
+    let profile = c.args.named.now.profile.now in
     let written = text_written g.W.Write.contents in
-    let root : Appends (written c.write_columns.new.writer) (written c.write_rows.new.writer) (named_record (codes "(root)") c.root_row-dag.result c.root_row-path.result) =
+    let root : Appends (written c.write_columns.new.writer) (written c.write_rows.new.writer) (named_record (codes "(root)") c.root_row-dag.result c.root_row-path.result c.root_row-burdened_path.result) =
     c.in_ok-write_rows.ensures.text in
     wrote_parts c.write_sites.result (written c.args.writer.now) (written c.write_columns.new.writer) (written c.write_rows.new.writer) (written c.write_sites.new.writer)
-    (record_text columns) (named_record (codes "(root)") dag.root path.root) (flat_map (site_record trace dag path) (range_with_len 0 (length trace.sites)))
-    c.in_ok-write_columns.ensures.text (rw (c.root_row-dag.ensures.value, c.root_row-path.ensures.value) at root) c.write_sites.ensures
+    (record_text columns) (named_record (codes "(root)") profile.dag.root profile.path.root profile.burdened_path.root) (flat_map (site_record trace profile) (range_with_len 0 (length trace.sites)))
+    c.in_ok-write_columns.ensures.text (rw (c.root_row-dag.ensures.value, c.root_row-path.ensures.value, c.root_row-burdened_path.ensures.value) at root) c.write_sites.ensures

@@ -1,13 +1,13 @@
-use Rattle.std.proofs.Common.{◌≡◌, ◌-◌, ◌≤◌, ℕ, List, ◌++◌, length, get_or, refl, sym, ap, ap₂, subst, ◌∙◌, arith}
+use Rattle.std.proofs.Common.{◌≡◌, ◌-◌, ◌≤◌, ℕ, List, ◌++◌, length, get_or, sym, ap, ap₂, subst, ◌∙◌, arith}
 use Rattle.spp_dag.specs.declared.row.Row.{Row}
 use Rattle.spp_dag.specs.Shares.{plus}
 use Rattle.spp_site.specs.Rows.{Fits, frame_row}
 use Rattle.spp_site.specs.Table.{Sums}
 use Rattle.spp_dag.specs.declared.figures.Figures.{Figures}
-use Rattle.spp_pass.specs.declared.summing.CountedFrame.{CountedFrame}
+use Rattle.spp_pass.specs.declared.counted_frame.CountedFrame.{CountedFrame}
 use Rattle.spp_pass.specs.declared.summing.FirstPass.{FirstPass}
-use Rattle.spp_pass.specs.Weights.{close}
-use Rattle.spp_pass.specs.Passes.{Seen, seen, state_of, row_of, listed, choice_at, CanFinish, IsFinished}
+use Rattle.spp_maxplus.specs.Weights.{close}
+use Rattle.spp_pass.specs.Passes.{Seen, seen, state_of, burdened_state_of, row_of, joins_at, CanFinish, IsFinished}
 use Rattle.spp_site.proofs.LastFirst.{topped}
 use Rattle.spp_pass.proofs.Tops.{some_open}
 use Rattle.spp_pass.proofs.summing.Summing.finish.Goals as goal
@@ -45,11 +45,12 @@ returns c =
     let told : FirstPass = record {
       figures = record { work = s.work; span = c.close.result; burdened = c.close-2.result };
       dag = c.add_root.new.self;
-      choices = record { ends = c.args.self.choices.ends; joins = c.note_join.new.joins };
+      choices = c.note_joins.new.choices;
     } in
     subst (λ l. IsFinished c.args.at s l told) (sym t.is) (
       ap₂ (λ (v w : ℕ). let f : Figures = record { work = s.work; span = v; burdened = w } in f) (c.close.ensures ∙ ap (λ f. close f.plain) same) (c.close-2.ensures ∙ ap (λ f. close f.burdened) same),
       c.add_root.ensures ∙ ap (λ r. let u : Sums = record s.table { root = plus s.table.root r } in u) (c.row.ensures ∙ ap frame_row c.closed.ensures ∙ ap (λ f. row_of f s.work) same),
-      refl,
-      c.in_ok-note_join.ensures ∙ ap (λ o. s.joins ++ listed o) (c.choice.ensures ∙ ap (λ f. choice_at c.args.at (state_of f)) same),
+      ap (λ (v : _). v.items) c.note_joins.ensures.ends,
+      c.in_ok-note_joins.ensures.joins ∙ ap (λ f. s.joins ++ joins_at c.args.at (state_of f)) same,
+      c.in_ok-note_joins.ensures.burdened ∙ ap (λ f. s.burdened_joins ++ joins_at c.args.at (burdened_state_of f)) same,
     )

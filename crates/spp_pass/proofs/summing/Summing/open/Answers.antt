@@ -1,8 +1,8 @@
 use Rattle.std.proofs.Common.{◌≡◌, ◌-◌, ℕ, Bool, not, List, [], ◌∷◌, ◌++◌, length, reverse, get_or, sym, ap, ap₂, ◌∙◌, arith}
 use Rattle.std.proofs.lemmas.List.{reverse-append}
-use Rattle.spp_pass.specs.declared.summing.CountedFrame.{CountedFrame}
-use Rattle.spp_pass.specs.declared.weights.Weights.{Weights}
-use Rattle.spp_pass.specs.Weights.{start}
+use Rattle.spp_pass.specs.declared.counted_frame.CountedFrame.{CountedFrame}
+use Rattle.spp_maxplus.specs.declared.weights.Weights.{Weights}
+use Rattle.spp_maxplus.specs.Weights.{start}
 use Rattle.spp_pass.specs.Passes.{Seen, seen, opened_frame, open_frames}
 use Rattle.spp_site.proofs.LastFirst.{topped}
 use Rattle.spp_pass.proofs.Tops.{some_open}
@@ -31,4 +31,4 @@ returns c =
     ap reverse pushed ∙ reverse-append fs (new ∷ []) ∙ ap₂ (λ x l. x ∷ l) is t.is ∙ ap opens (sym t.is) in
     let sites = c.in_ok-add.ensures.added in
     let funcs = c.in_ok-add-2.ensures.added in
-    λ j. record { frames = frames j; open_sites = λ y. sites y j; open_funcs = λ y. funcs y j; work = s.work; table = s.table; ends = s.ends; joins = s.joins }
+    λ j. record { frames = frames j; open_sites = λ y. sites y j; open_funcs = λ y. funcs y j; work = s.work; table = s.table; ends = s.ends; joins = s.joins; burdened_joins = s.burdened_joins }

@@ -4,9 +4,9 @@ use Rattle.spp_site.specs.Rows.{frame_row}
 use Rattle.spp_site.specs.Table.{IsAdded}
 use Rattle.spp_site.specs.Marks.{is_marked}
 use Rattle.spp_site.specs.declared.closed_frame.ClosedFrame.{ClosedFrame}
-use Rattle.spp_pass.specs.declared.summing.CountedFrame.{CountedFrame}
-use Rattle.spp_pass.specs.declared.summing.Returned.{Returned}
-use Rattle.spp_pass.specs.Passes.{Seen, seen, returned_of, received, listed, CanReturn, CanClose, Returns}
+use Rattle.spp_pass.specs.declared.counted_frame.CountedFrame.{CountedFrame}
+use Rattle.spp_pass.specs.declared.counted_frame.Returned.{Returned}
+use Rattle.spp_pass.specs.Passes.{Seen, seen, returned_of, received, ends_at, CanReturn, CanClose, Returns}
 use Rattle.spp_site.proofs.LastFirst.{topped, doubled}
 use Rattle.spp_pass.proofs.summing.Summing.ret.Goals as goal
 
@@ -47,7 +47,8 @@ returns c =
       work = s.work;
       table = c.close.new.self;
       ends = c.note_end.new.ends.items;
-      joins = c.note_join.new.joins.items;
+      joins = c.note_joins.new.choices.joins.items;
+      burdened_joins = c.note_joins.new.choices.burdened_joins.items;
     } in
     subst (λ l. Returns c.args.burdens c.args.at s l true now) (sym old) (
       refl,
@@ -58,7 +59,8 @@ returns c =
         open_funcs = λ j y. c.remove_if-2.ensures y j;
         work = refl;
         table = subst (λ (f : ClosedFrame). IsAdded s.table c.close.new.self child.site (frame_row f)) c.closed.ensures c.in_ok-close.ensures.added;
-        ends = c.in_ok-note_end.ensures;
-        joins = c.in_ok-note_join.ensures ∙ ap (λ o. s.joins ++ listed o) c.choice.ensures;
+        ends = c.in_ok-note_end.ensures ∙ ap (λ (v : _). v.items ++ ends_at c.args.at child.kind child.at) c.note_joins.ensures.ends;
+        joins = c.in_ok-note_joins.ensures.joins;
+        burdened_joins = c.in_ok-note_joins.ensures.burdened;
       },
     )

@@ -1,5 +1,5 @@
 use Rattle.std.proofs.Common.{◌≡◌, ◌-◌, ◌+◌, ℕ, List, ◌∷◌, length, reverse, get_or, set, sym, ap, ap₂, ◌∙◌, arith}
-use Rattle.spp_pass.specs.declared.summing.CountedFrame.{CountedFrame}
+use Rattle.spp_pass.specs.declared.counted_frame.CountedFrame.{CountedFrame}
 use Rattle.spp_pass.specs.Passes.{Seen, seen, strand_frame, on_top}
 use Rattle.spp_site.proofs.LastFirst.{topped}
 use Rattle.spp_pass.proofs.Tops.{some_open}

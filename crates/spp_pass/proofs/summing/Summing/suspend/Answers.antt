@@ -38,4 +38,5 @@ returns c = record {
       c.deref-frame-items.ensures.value (omega (arith, c.loop-frame-test.false)) c.loop-frame.invariant.whole key;
   ends = refl;
   joins = refl;
+  burdened_joins = refl;
 }

@@ -1,7 +1,6 @@
-use Rattle.std.proofs.Common.{◌≡◌, ◌-◌, List, ◌∷◌, ◌++◌, length, reverse, get_or, set, sym, ap, ap₂, ◌∙◌, arith}
-use Rattle.spp_pass.specs.declared.summing.CountedFrame.{CountedFrame}
-use Rattle.spp_dag.specs.declared.choices.Choice.{Choice}
-use Rattle.spp_pass.specs.Passes.{Seen, seen, state_of, sync_frame, on_top, listed, choice_at, top_joins}
+use Rattle.std.proofs.Common.{◌≡◌, ◌-◌, List, ◌∷◌, ◌++◌, length, reverse, get_or, set, sym, ap, ◌∙◌, arith}
+use Rattle.spp_pass.specs.declared.counted_frame.CountedFrame.{CountedFrame}
+use Rattle.spp_pass.specs.Passes.{Seen, seen, state_of, burdened_state_of, sync_frame, on_top, joins_at, top_joins}
 use Rattle.spp_site.proofs.LastFirst.{topped}
 use Rattle.spp_pass.proofs.Tops.{some_open}
 use Rattle.spp_pass.proofs.summing.Summing.sync.Goals as goal
@@ -20,7 +19,19 @@ returns c =
     let moved : new ≡ sync_frame t.top = c.sync.ensures ∙ ap sync_frame top in
     let frames : reverse (set fs (c.len-last.result - 1) new) ≡ on_top sync_frame (reverse fs) =
     ap (λ k. reverse (set fs k new)) at ∙ t.put new ∙ ap (λ f. f ∷ t.below) moved ∙ ap (on_top sync_frame) (sym t.is) in
-    let noted : c.note_join.new.joins.items ≡ s.joins ++ top_joins c.args.at (reverse fs) =
-    c.in_ok-note_join.ensures ∙ ap (λ o. s.joins ++ listed o) (c.choice.ensures ∙ ap (λ f. choice_at c.args.at (state_of f)) same)
-    ∙ ap (λ l. s.joins ++ top_joins c.args.at l) (sym t.is) in
-    ap₂ (λ (l : List CountedFrame) (m : List Choice). let x : Seen = record s { frames = l; joins = m } in x) frames noted
+    let joins : c.note_joins.new.choices.joins.items ≡ s.joins ++ top_joins state_of c.args.at (reverse fs) =
+    c.in_ok-note_joins.ensures.joins ∙ ap (λ f. s.joins ++ joins_at c.args.at (state_of f)) same ∙ ap (λ l. s.joins ++ top_joins state_of c.args.at l) (sym t.is) in
+    let burdened : c.note_joins.new.choices.burdened_joins.items ≡ s.burdened_joins ++ top_joins burdened_state_of c.args.at (reverse fs) =
+    c.in_ok-note_joins.ensures.burdened ∙ ap (λ f. s.burdened_joins ++ joins_at c.args.at (burdened_state_of f)) same
+    ∙ ap (λ l. s.burdened_joins ++ top_joins burdened_state_of c.args.at l) (sym t.is) in
+    let ends : c.note_joins.new.choices.ends.items ≡ s.ends = ap (λ (v : _). v.items) c.note_joins.ensures.ends in
+    λ j. record {
+      frames = frames j;
+      open_sites = s.open_sites;
+      open_funcs = s.open_funcs;
+      work = s.work;
+      table = s.table;
+      ends = ends j;
+      joins = joins j;
+      burdened_joins = burdened j;
+    }

@@ -1,5 +1,5 @@
 use Rattle.std.proofs.Common.{◌++◌, [], ◌∷◌, reverse, List, ap, ◌∙◌}
-use Rattle.spp_pass.specs.declared.summing.CountedFrame.{CountedFrame}
+use Rattle.spp_pass.specs.declared.counted_frame.CountedFrame.{CountedFrame}
 use Rattle.spp_pass.proofs.Reaching.{node_enters}
 use Rattle.spp_pass.proofs.summing.Summing.within.Goals as goal
 
@@ -13,4 +13,5 @@ returns c = λ f fs h. record {
   table = c.new.ensures;
   ends = c.new-2.ensures.items;
   joins = c.new-3.ensures.items;
+  burdened_joins = c.new-4.ensures.items;
 }

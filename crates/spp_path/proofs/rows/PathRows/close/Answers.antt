@@ -24,13 +24,12 @@ returns c =
       open_funcs = is_marked c.remove_if-2.new.self;
       table = c.close.new.self;
     } in
-    let done : IsReturned child s now = record {
+    let done : IsReturned child c.args.span s now = record {
       frames = rest;
       skipped = refl;
       open_sites = λ j y. c.remove_if.ensures y j;
       open_funcs = λ j y. c.remove_if-2.ensures y j;
       work = refl;
-      weight = refl;
       table = subst (λ (r : Row). IsAdded s.table c.close.new.self child.site r) c.closed.ensures c.in_ok-close.ensures.added;
     } in
-    subst (λ l. OnTop (λ f. IsReturned f s now) l) (sym t.is) (subst (λ f. IsReturned f s now) same done)
+    subst (λ l. OnTop (λ f. IsReturned f c.args.span s now) l) (sym t.is) (subst (λ f. IsReturned f c.args.span s now) same done)

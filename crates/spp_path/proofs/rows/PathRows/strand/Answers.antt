@@ -18,5 +18,5 @@ returns-then-runs-clause-on_path c r =
     let frames : reverse (set fs (c.len-last.result - 1) now) ≡ strand_frames n (reverse fs) =
     ap (λ k. reverse (set fs k now)) at ∙ t.put now ∙ ap (λ (g : EnteredFrame). record g { local = g.local + n } ∷ t.below) same
     ∙ ap (strand_frames n) (sym t.is) in
-    ap (λ (l : List EnteredFrame). let u : Told = record s { frames = l; work = s.work + n; weight = s.weight + n } in u) frames
+    ap (λ (l : List EnteredFrame). let u : Told = record s { frames = l; work = s.work + n } in u) frames
     ∙ ap (λ k. strand_told k s) c.from-count.ensures

@@ -10,9 +10,7 @@ returns-in-Ok-clause-text c =
       (
         c.in_ok-trace.trace,
         found.0,
-        profile.figures,
-        profile.dag,
-        profile.path,
+        profile,
         found.1,
         c.in-Ok.ensures.profile,
         c.in_ok-report-in-Ok.ensures,

@@ -10,7 +10,7 @@ use Rattle.spp_stack.proofs.stack_builder.StackBuilder.open_all.Goals as goal
 pub open-requires-clause-stands : goal.open-requires-clause-stands
 open-requires-clause-stands c =
     let h = c.requires.stands in
-    (play_frames entry_ops (reverse (take c.loop-k.k (reverse c.args.summary.now.sum.frames))) h.0, c.loop-k.invariant.stands h.0 h.1)
+    (play_frames (entry_ops c.args.summary.now.burdens) (reverse (take c.loop-k.k (reverse c.args.summary.now.sum.frames))) h.0, c.loop-k.invariant.stands h.0 h.1)
 
 pub open-requires-clause-work : goal.open-requires-clause-work
 open-requires-clause-work c =
@@ -25,5 +25,5 @@ pub returns-clause-stands : goal.returns-clause-stands
 returns-clause-stands c x s =
     let all = c.args.summary.now.sum.frames in
     let count : c.len-k-end.result ≡ length all = c.len-k-end.ensures ∙ c.in_ok-frames.frames.ok.0 ∙ ap length c.in_ok-frames.ensures ∙ length-reverse all in
-    subst (λ n. Stands c.loop-k.self n) (frames_all all c.loop-k.k x (omega (arith, c.loop-k-test.false, count)))
+    subst (λ n. Stands c.loop-k.self n) (frames_all c.args.summary.now.burdens all c.loop-k.k x (omega (arith, c.loop-k-test.false, count)))
     (c.loop-k.invariant.stands x s)

@@ -8,7 +8,7 @@ abbrev pub invariant-loop-k : goal.invariant-loop-k
 invariant-loop-k l =
     let frames = l.summary.sum.frames in
     record {
-      stands : (x : Now) → Stands l.fn.self x → Stands l.self (play_frames entry_ops (reverse (take l.k (reverse frames))) x);
+      stands : (x : Now) → Stands l.fn.self x → Stands l.self (play_frames (entry_ops l.summary.burdens) (reverse (take l.k (reverse frames))) x);
       kept : IsKept l.self;
       chains : AreKept l.fn.self.nodes.items l.self.nodes.items;
       count : length l.self.nodes.items ≡ length l.fn.self.nodes.items + l.k;

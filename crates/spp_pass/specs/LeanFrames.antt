@@ -1,40 +1,17 @@
 -- The stack machine with weights alone: of a child that is waited for only its weight is kept, 0 where there is none,
 -- and not the position of its spawn. Figures need no more.
-use Rattle.std.specs.Prelude.{ℕ, ◌+◌, max, List, [], ◌∷◌, Option, Some, None}
+use Rattle.std.specs.Prelude.{ℕ, ◌+◌, List, [], ◌∷◌, Option, Some, None}
 use Rattle.spp_event.specs.declared.records.Event.{Event}
 use Rattle.spp_event.specs.declared.records.Event.TheVariants.{Strand, Call, Spawn, Ret, Sync}
 use Rattle.spp_maxplus.specs.declared.state.Burdens.{Burdens}
-use Rattle.spp_maxplus.specs.declared.state.State.{State}
+use Rattle.spp_maxplus.specs.declared.weights.Weights.{Weights}
 use Rattle.spp_maxplus.specs.State.{unburdened}
+use Rattle.spp_maxplus.specs.Weights.{start, close, after_strand, after_sync, after_call, after_spawn, weights_of}
 use Rattle.spp_dag.specs.declared.stack.OpenFrame.{OpenFrame}
 use Rattle.spp_dag.specs.declared.stack.FrameKind.{FrameKind}
 use Rattle.spp_dag.specs.declared.stack.FrameKind.TheVariants.{Root, Called, Spawned}
-use Rattle.spp_pass.specs.declared.weights.Weights.{Weights}
 
--- ---- one state
-
-abbrev pub start : Weights
-start = record { spine = 0; child = 0 }
-
-abbrev pub close : Weights → ℕ
-close w = max w.spine w.child
-
-abbrev pub after_strand : ℕ → Weights → Weights
-after_strand count w = record { spine = w.spine + count; child = w.child }
-
-abbrev pub after_sync : Weights → Weights
-after_sync w = record { spine = close w; child = 0 }
-
-abbrev pub after_call : ℕ → Weights → Weights
-after_call weight w = record { spine = w.spine + weight; child = w.child }
-
-abbrev pub after_spawn : ℕ → Burdens → Weights → Weights
-after_spawn weight burdens w = record {
-  spine = w.spine + burdens.continuation;
-  child = max w.child (w.spine + (weight + burdens.join));
-}
-
--- a child of that kind has returned
+-- a child of that kind has returned, which closed with that weight
 abbrev pub after_child : Burdens → FrameKind → ℕ → Weights → Weights
 after_child burdens Root weight w = w
 after_child burdens Called weight w = after_call weight w
@@ -77,15 +54,6 @@ plain_sum (f ∷ fs) = close f.plain + plain_sum fs
 abbrev pub burdened_sum : List LeanFrame → ℕ
 burdened_sum [] = 0
 burdened_sum (f ∷ fs) = close f.burdened + burdened_sum fs
-
--- ---- against the machine
-
-abbrev pub child_weight : Option (ℕ × ℕ) → ℕ
-child_weight None = 0
-child_weight (Some c) = c.0
-
-abbrev pub weights_of : State → Weights
-weights_of s = record { spine = s.spine; child = child_weight s.child }
 
 -- what is kept of a frame of the machine
 abbrev pub kept : OpenFrame → LeanFrame

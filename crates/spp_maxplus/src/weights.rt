@@ -1,32 +1,34 @@
-//! The two weights of an open frame.
+//! The two weights of an open frame, without the position of the child that waits.
 
 ghost use Rattle.std.specs.Prelude.{◌≡◌, ◌+◌, ◌<◌, ◌^◌};
-ghost use Rattle.spp_pass.specs.Weights.{weights_of, start as opened, close as close_of, after_strand as strand_added, after_sync as synced, after_child as child_added};
-ghost use Rattle.spp_piece.specs.Model.{kind_of};
+ghost use Rattle.spp_maxplus.specs.Weights.{weights_of, start as opened, close as close_of, after_strand as strand_added, after_sync as synced, after_child as child_added};
 
-use spp_maxplus::{Burdens, ChildKind, State};
+use crate::child::ChildKind;
+use crate::state::{Burdens, State};
 
-/// What the pass keeps of the two numbers of an open frame: less than a `State` of spp_maxplus, which also keeps through
-/// which child the greater weight goes. In instructions.
-#[derive(Clone, Copy)]
-pub(crate) struct Weights {
+/// An open frame as far as its weights go: a [`State`] without the position of the waiting child's spawn. Whoever needs
+/// to know which child waits keeps that beside it.
+///
+/// [`State`]: crate::State
+#[derive(Clone, Copy, Debug, Default, PartialEq, Eq)]
+pub struct Weights {
     /// The greatest weight from the frame's opening along its own strands, called children and joined children.
-    pub(crate) spine: u128,
+    pub spine: u128,
     /// The greatest weight through a child that is still waited for, or 0.
-    pub(crate) child: u128,
+    pub child: u128,
 }
 
 impl Weights {
     /// Those of a frame that was just opened.
     #[inline(always)]
-    pub(crate) fn start() -> Self
+    pub fn start() -> Self
         ensures { result ≡ opened }
     {
         Weights { spine: 0, child: 0 }
     }
 
     /// Those of a frame that stands so.
-    pub(crate) fn of(state: State) -> Self
+    pub fn of(state: State) -> Self
         ensures { result ≡ weights_of state }
     {
         let child = match state.child {
@@ -41,7 +43,7 @@ impl Weights {
 
     /// The weight with which the frame closes if it returns now.
     #[inline(always)]
-    pub(crate) fn close(self) -> u128
+    pub fn close(self) -> u128
         ensures { result ≡ close_of self }
     {
         self.spine.max(self.child)
@@ -49,16 +51,16 @@ impl Weights {
 
     /// So many instructions of the frame itself or of called children.
     #[inline(always)]
-    pub(crate) fn run(&mut self, count: u128)
+    pub fn run(&mut self, count: u128)
         requires { self.old.spine + count < 2 ^ 128 }
         ensures { self.new ≡ strand_added count self.old }
     {
         self.spine += count;
     }
 
-    /// A sync.
+    /// A sync, or what comes before a return.
     #[inline(always)]
-    pub(crate) fn wait(&mut self)
+    pub fn wait(&mut self)
         ensures { self.new ≡ synced self.old }
     {
         self.spine = self.close();
@@ -67,10 +69,10 @@ impl Weights {
 
     /// The return of a child that was entered so and closed with this weight. The burdens are those of the weights.
     #[inline(always)]
-    pub(crate) fn receive(&mut self, kind: ChildKind, weight: u128, burdens: Burdens)
+    pub fn receive(&mut self, kind: ChildKind, weight: u128, burdens: Burdens)
         requires continuation { self.old.spine + burdens.continuation < 2 ^ 128 }
         requires through { self.old.spine + (weight + burdens.join) < 2 ^ 128 }
-        ensures { self.new ≡ child_added burdens (kind_of kind) weight self.old }
+        ensures { self.new ≡ child_added burdens kind weight self.old }
     {
         match kind {
             ChildKind::Called => self.spine += weight,

@@ -1,0 +1,132 @@
+//! The spans of the open frames of a run: the stack machine without burdens, and with weights alone.
+
+ghost use Rattle.std.specs.Prelude.{◌≡◌, [], ◌∷◌, IfOk, OnOk};
+ghost use Rattle.spp_maxplus.specs.Weights.{close as close_of};
+ghost use Rattle.spp_dag.specs.declared.stack.FrameKind.TheVariants.{Root};
+ghost use Rattle.spp_path.specs.Spans.{
+  spans,
+  open_span,
+  strand_spans,
+  sync_spans,
+  open_spans,
+  return_spans,
+  returned_weights,
+  OnTop,
+  OnBelow,
+  HasOpen,
+  CanRun,
+  CanReturn,
+};
+
+use spp_dag::FrameKind;
+use spp_maxplus::{Burdens, ChildKind, Weights};
+use std::alloc::{AllocError, Global};
+
+/// An open frame, as far as its span goes.
+#[derive(Clone, Copy)]
+pub(crate) struct OpenSpan {
+    /// Its weights without burdens.
+    weights: Weights,
+    /// How it was entered.
+    kind: FrameKind,
+}
+
+impl OpenSpan {
+    /// A frame that was just opened.
+    #[inline(always)]
+    fn new(kind: FrameKind) -> Self
+        ensures { result ≡ open_span kind }
+    {
+        OpenSpan {
+            weights: Weights::start(),
+            kind,
+        }
+    }
+
+    /// A frame that was entered so, and that this one opened, has returned with that span.
+    #[inline(always)]
+    fn receive(&mut self, kind: FrameKind, span: u128)
+        requires { CanReturn span self.old }
+        ensures { self.new ≡ record self.old { weights = returned_weights kind span self.old.weights } }
+    {
+        match kind {
+            FrameKind::Root => {}
+            FrameKind::Called => {
+                self.weights
+                    .receive(ChildKind::Called, span, Burdens::default());
+            }
+            FrameKind::Spawned => {
+                self.weights
+                    .receive(ChildKind::Spawned, span, Burdens::default());
+            }
+        }
+    }
+}
+
+/// The open frames between two events, the root first. They are changed where they lie, since to move one costs more
+/// than all else.
+#[derive(Drop)]
+pub(crate) struct OpenSpans {
+    frames: Vec<OpenSpan>,
+}
+
+impl OpenSpans {
+    /// The root frame alone, before the first event.
+    pub(crate) fn new(alloc: Global) -> Result<Self, AllocError>
+        ensures { IfOk result (λ s. spans s ≡ open_span Root ∷ []) }
+    {
+        let mut frames = Vec::new(alloc);
+        frames.push(OpenSpan::new(FrameKind::Root))?;
+        Ok(OpenSpans { frames })
+    }
+
+    /// A strand of that many instructions.
+    #[inline(always)]
+    pub(crate) fn strand(&mut self, count: u64)
+        requires { OnTop (CanRun count) (spans self.old) }
+        ensures { spans self.new ≡ strand_spans count (spans self.old) }
+    {
+        let last = self.frames.len() - 1;
+        self.frames[last].weights.run(u128::from(count));
+    }
+
+    /// A call or a spawn.
+    #[inline(always)]
+    pub(crate) fn open(&mut self, kind: FrameKind) -> Result<(), AllocError>
+        ensures { OnOk result (spans self.new ≡ open_spans kind (spans self.old)) }
+    {
+        self.frames.push(OpenSpan::new(kind))?;
+        Ok(())
+    }
+
+    /// A sync.
+    #[inline(always)]
+    pub(crate) fn sync(&mut self)
+        requires { HasOpen (spans self.old) }
+        ensures { spans self.new ≡ sync_spans (spans self.old) }
+    {
+        let last = self.frames.len() - 1;
+        self.frames[last].weights.wait();
+    }
+
+    /// The span with which the innermost frame closes now.
+    #[inline(always)]
+    pub(crate) fn innermost(&self) -> u128
+        requires { HasOpen (spans self.now) }
+        ensures { OnTop (λ f. result ≡ close_of f.weights) (spans self.now) }
+    {
+        self.frames[self.frames.len() - 1].weights.close()
+    }
+
+    /// The return of the innermost frame, which isn't the root and closes with that span.
+    #[inline(always)]
+    pub(crate) fn ret(&mut self, span: u128)
+        requires { OnBelow (CanReturn span) (spans self.old) }
+        ensures { spans self.new ≡ return_spans span (spans self.old) }
+    {
+        let last = self.frames.len() - 1;
+        let kind = self.frames[last].kind;
+        self.frames.truncate(last);
+        self.frames[last - 1].receive(kind, span);
+    }
+}
