@@ -1,5 +1,6 @@
 -- A part of a trace, and the parts of a cut.
 use Rattle.std.specs.Prelude.{◌≡◌, ℕ, suc, ◌+◌, ◌<◌, ◌≤◌, List, [], ◌∷◌, length, take, drop}
+use Rattle.std.specs.List.{sum_by}
 use Rattle.spp_event.specs.Recordings.{Record, Recording}
 
 -- `count` events of a trace, from position `first` on; `number` parts come before this one
@@ -11,6 +12,10 @@ pub record PartOf : Type 0 where
 
 abbrev pub part_of : Recording → ℕ → ℕ → ℕ → PartOf
 part_of t number first count = record { trace = t; number = number; first = first; count = count }
+
+-- how many events these parts have
+abbrev pub events_in : List PartOf → ℕ
+events_in ps = sum_by (λ p. p.count) ps
 
 -- its records
 abbrev pub records_in : PartOf → List Record

@@ -1,7 +1,7 @@
 //! Cutting a trace into parts.
 
 ghost use Rattle.std.specs.Prelude.{◌≡◌, ◌-◌, ◌<◌, ◌≤◌, ◌∷◌, ◌++◌, [], flat_map, length, IfOk, IfErr, OnOk, Some};
-ghost use Rattle.spp_cut.specs.Parts.{IsCut, HasFewParts, part_of, records_in};
+ghost use Rattle.spp_cut.specs.Parts.{IsCut, HasFewParts, part_of, events_in, records_in};
 ghost use Rattle.spp_cut.specs.Cuts.{AreEven, BeginAt, AreGoodTo, IsCutFault};
 ghost use Rattle.spp_cut.specs.Texts.{cut_fault_text};
 ghost use Rattle.spp_cut.specs.declared.cutting.CutFault.TheVariants.{Memory as MemoryFault};
@@ -45,12 +45,13 @@ impl<'t, 'a> Cut<'t, 'a> {
     }
 
     /// Its parts, in order: 1 to 65,536. Its clause `all` gives out that they hold all its events, each once.
-    #[tactic(auto, using(crate::proofs::Whole::all_records))]
+    #[tactic(auto, using(crate::proofs::Whole::all_records, crate::proofs::Halves::all_events))]
     pub fn parts(&self) -> &[Part<'t, 'a>]
         ensures parts { result.now ≡ self.now.parts }
         ensures few { HasFewParts self.now }
         ensures cut { IsCut self.now }
         ensures all { flat_map records_in self.now.parts ≡ self.now.trace.records }
+        ensures events { events_in self.now.parts ≡ length self.now.trace.records }
     {
         &self.parts
     }

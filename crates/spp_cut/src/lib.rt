@@ -2,9 +2,11 @@
 #![tactic(auto)]
 
 mod cutting;
+mod lending;
 mod part;
 mod parts;
 
 pub use cutting::{Cut, CutFault, cut_at, cut_even};
+pub use lending::{events_before, lend};
 pub use part::Part;
 pub use parts::Parts;

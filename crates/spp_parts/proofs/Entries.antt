@@ -22,7 +22,7 @@ use Rattle.spp_dag.proofs.EventsOfRecords.{known_small}
 use Rattle.spp_parts.proofs.Begins.{begin_in, PartAt, part_at, all_parts, begin_is}
 
 -- a part of a cut
-part_of_cut : (cut : CutOf) → IsCut cut → (k : ℕ) (p : PartOf) → slice_get cut.parts k ≡ Some p → PartAt cut.trace 0 cut.parts k p
+pub part_of_cut : (cut : CutOf) → IsCut cut → (k : ℕ) (p : PartOf) → slice_get cut.parts k ≡ Some p → PartAt cut.trace 0 cut.parts k p
 part_of_cut cut whole k p is =
     let lt = slice_get_within cut.parts k p is in
     let got = slice_get-get_or cut.parts k p lt in

@@ -3,3 +3,4 @@ mod Begins
 pub mod Entries
 mod Shares
 mod Chosen
+mod Runs

@@ -1,12 +1,14 @@
-//! A run's table by way of its parts.
+//! The tables of a run by way of its parts.
 #![tactic(auto)]
 
 mod beginnings;
 mod in_parts;
+mod on_path;
 mod results;
 mod surveying;
 
 pub use beginnings::entries_of;
 pub use in_parts::table_in_parts;
+pub use on_path::path_in_parts;
 pub use results::{Survey, Tabled};
 pub use surveying::survey;

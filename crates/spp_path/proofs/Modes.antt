@@ -15,6 +15,7 @@ use Rattle.spp_path.specs.declared.settling.Onward.TheVariants.{Live, Skip, Seek
 use Rattle.spp_dag.specs.ChoiceLists.{IsEnd}
 use Rattle.spp_dag.specs.Choices.{IsChoice}
 use Rattle.spp_path.specs.Settling.{runs_to, ended}
+use Rattle.spp_path.specs.Ways as ways
 use Rattle.spp_dag.proofs.JoinPlaces.{join_waits}
 use Rattle.spp_dag.proofs.Ties.{path_exists_to}
 use Rattle.spp_path.proofs.Passing.{join_outside, Passes, passes_within, passes_return, passes_after, Clear, clear, passes_clear, enters_chosen, chosen_entered}
@@ -24,31 +25,18 @@ module _ (es : List Event) (wf : IsWellFormed es) (bd : Burdens) (ps : List ℕ)
   abbrev E : ℕ → Type 0
   E s = On 0 ps (suc s)
 
-  -- the children that hold this time are entered, and none that is entered is waited for
-  pub record Running (t : ℕ) : Type 0 where
-    pub held : (u : ℕ) → spawns (event_at es u) ≡ true → 2 * u + 1 < t → t ≤ 2 * partner es u + 1 → E u
-    pub free : (s : ℕ) → spawns (event_at es s) ≡ true → E s → 2 * partner es s + 1 < t → 2 * join es s < t
+  -- what the way back says of this path
+  abbrev pub Running : ℕ → Type 0
+  Running t = ways.Running es ps t
 
-  -- the time is within a child that isn't entered
-  pub record Skipping (t u : ℕ) : Type 0 where
-    pub spawned : spawns (event_at es u) ≡ true
-    pub out : E u → ⊥
-    pub lower : 2 * u + 1 < t
-    pub upper : t ≤ 2 * partner es u + 1
-    pub before : Running (2 * u + 1)
+  abbrev pub Skipping : ℕ → ℕ → Type 0
+  Skipping t u = ways.Skipping es ps t u
 
-  -- the time is between the return of an entered child and its join
-  pub record Seeking (t s : ℕ) : Type 0 where
-    pub spawned : spawns (event_at es s) ≡ true
-    pub entered : E s
-    pub lower : 2 * partner es s + 1 < t
-    pub upper : t ≤ 2 * join es s
+  abbrev pub Seeking : ℕ → ℕ → Type 0
+  Seeking t s = ways.Seeking es ps t s
 
-  -- what the walk says
   abbrev pub Says : ℕ → Onward → Type 0
-  Says t Live = Running t
-  Says t (Skip u) = Skipping t u
-  Says t (Seek s) = Seeking t s
+  Says t w = ways.Says es ps t w
 
   -- between the note of the time k and the time t stands no end and no join of an entered child
   pub record Quiet (k t : ℕ) : Type 0 where
@@ -67,7 +55,7 @@ module _ (es : List Event) (wf : IsWellFormed es) (bd : Burdens) (ps : List ℕ)
   }
 
   -- no child returns where another is spawned
-  not_both : (u s : ℕ) → spawns (event_at es u) ≡ true → spawns (event_at es s) ≡ true → partner es s ≡ u → ⊥
+  pub not_both : (u s : ℕ) → spawns (event_at es u) ≡ true → spawns (event_at es s) ≡ true → partner es s ≡ u → ⊥
   not_both u s t v e =
       both_ways (returns (event_at es u)) (opens_not_returns (event_at es u) (spawns_opens (event_at es u) t))
       (subst (λ x. returns (event_at es x) ≡ true) e (closed es wf s (spawns_opens (event_at es s) v)).return)
@@ -253,7 +241,7 @@ module _ (es : List Event) (wf : IsWellFormed es) (bd : Burdens) (ps : List ℕ)
       }
 
   -- at the end of the run the path runs
-  pub says_first : Says (2 * length es + 1) Live
+  pub says_first : Says (2 * suc (length es)) Live
   says_first = record {
     held = λ u v a b. absurd (let c = (closed es wf u (spawns_opens (event_at es u) v)).within in omega arith);
     free = λ s v e a. let z = (join_spec es wf s (spawns_opens (event_at es s) v)).upper in omega arith;

@@ -1,6 +1,6 @@
 -- The pass over a trace that is known to be well-formed: before each event it has the rows so far, and the weights of the
 -- open frames.
-use Rattle.std.proofs.Common.{◌≡◌, ℕ, suc, ◌+◌, ◌<◌, ◌≤◌, ◌^◌, Bool, false, List, ◌∷◌, [], length, slice_index_or, Ok, refl, sym, ap, subst, ◌∙◌, arith}
+use Rattle.std.proofs.Common.{◌≡◌, ℕ, suc, ◌<◌, ◌≤◌, ◌^◌, false, List, ◌∷◌, [], length, Some, Ok, refl, sym, ap, subst, ◌∙◌, arith}
 use Rattle.std.proofs.lemmas.List.{length-map}
 use Rattle.spp_event.specs.declared.records.Event.{Event}
 use Rattle.spp_event.specs.declared.records.Event.TheVariants.{Strand, Call, Spawn, Ret, Sync}
@@ -22,35 +22,50 @@ use Rattle.spp_dag.proofs.Ties.{path_exists}
 use Rattle.spp_site.specs.Table.{Sums}
 use Rattle.spp_site.specs.Profiles.{IsPathTable}
 use Rattle.spp_path.specs.declared.rows.EnteredFrame.{EnteredFrame}
-use Rattle.spp_path.specs.declared.rows.PathRows.{PathRows}
-use Rattle.spp_path.specs.declared.spans.OpenSpans.{OpenSpans}
-use Rattle.spp_path.specs.Entered.{AreEntered, AreMarks}
+use Rattle.spp_path.specs.declared.spans.OpenSpan.{OpenSpan}
+use Rattle.spp_path.specs.Entered.{AreEnteredIn, is_next, left_after}
 use Rattle.spp_path.specs.Spans as lean
-use Rattle.spp_path.specs.Spans.{spans, open_span, HasOpen, CanRun, OnBelow}
-use Rattle.spp_path.specs.Rows.{told, entered_row, start_told, leave_told, OnTop, IsOpen, CanAdd, CanSkip, CanReturn, CanFinish, IsReturned, IsRead}
+use Rattle.spp_path.specs.Spans.{open_span, HasOpen, CanRun, OnBelow}
+use Rattle.spp_path.specs.Trails.{CanSkip}
+use Rattle.spp_path.specs.Rows.{Told, entered_row, start_told, leave_told, OnTop, IsOpen, CanAdd, CanReturn, CanFinish, IsReturned, IsRead}
 use Rattle.spp_path.proofs.OpenWeights.{Standing, standing_first, standing_next, after_event, top_close, ClosesIn, closing_is, can_open, can_run, can_return as can_return_span, close_fits}
-use Rattle.spp_path.proofs.Running.{marked}
+use Rattle.spp_path.proofs.Running.{entered_on}
+use Rattle.spp_path.proofs.EnteredLists.{past_other, next_is, left_is}
 use Rattle.spp_path.proofs.Sites.{trace_enters}
 use Rattle.spp_path.proofs.Events.{StrandDone, SyncDone, CallDone, SpawnDone, HasFirst}
 use Rattle.spp_path.proofs.Summed.{Summed, strand_next, sync_next, call_next, spawn_next, return_next}
-use Rattle.spp_path.proofs.Summing.{start_summed, can_add, can_skip, has_first, can_return, can_finish, finished}
+use Rattle.spp_path.proofs.Summing.{can_add, can_skip, has_first, can_return}
+use Rattle.spp_path.proofs.Finishing.{start_summed, can_finish, finished}
 
--- before the event at i the pass has t, for each path that enters the marked children
-abbrev pub Kept : Recording → List Bool → ℕ → PathRows → Type 0
-Kept trace marks i s = (es : List Event) → AreEvents trace.records es → (wf : IsWellFormed es) (span : ℕ → ℕ) (fs : AreSpans es span)
-    (bd : Burdens) → AreEntered es bd marks → (rest : List ℕ) (path : IsPath es bd 0 (length es) rest)
-    → Summed es wf trace.root span fs bd rest path i (told s)
+-- before the event at i the pass, which began at `from`, has t, for each path of which P is so; the machine bears the
+-- burdens `eb`
+abbrev pub Kept : Recording → Burdens → ℕ → (List Event → Burdens → Type 0) → ℕ → Told → Type 0
+Kept trace eb from P i t = (es : List Event) → AreEvents trace.records es → (wf : IsWellFormed es) (span : ℕ → ℕ) (fs : AreSpans es span)
+    (bd : Burdens) → P es bd → (rest : List ℕ) (path : IsPath es bd 0 (length es) rest)
+    → Summed es wf trace.root eb span fs bd rest path from i t
 
 -- and the weights of the open frames
-abbrev pub Weighed : Recording → ℕ → OpenSpans → Type 0
-Weighed trace i s = (es : List Event) → AreEvents trace.records es → Standing es trace.root i (spans s)
+abbrev pub Weighed : Recording → Burdens → ℕ → List OpenSpan → Type 0
+Weighed trace eb i s = (es : List Event) → AreEvents trace.records es → Standing es trace.root eb i s
 
-pub start_in : (trace : Recording) (marks : List Bool) (s : PathRows) → told s ≡ start_told trace.root → Kept trace marks 0 s
-start_in trace marks s e es are wf span fs bd entered rest path =
-    subst (λ t. Summed es wf trace.root span fs bd rest path 0 t) (sym e) (start_summed es wf trace.root span fs bd rest path)
+-- and these spawns of entered children are left, of those before `end`
+abbrev pub Left : Recording → (List Event → Burdens → Type 0) → ℕ → ℕ → List ℕ → Type 0
+Left trace P end i xs = (es : List Event) → AreEvents trace.records es → (bd : Burdens) → P es bd → AreEnteredIn es bd i end xs
 
-pub start_weighed : (trace : Recording) (s : OpenSpans) → spans s ≡ open_span Root ∷ [] → Weighed trace 0 s
-start_weighed trace s e es are = standing_first es trace.root (spans s) e
+-- the path enters these children, of all
+abbrev pub Enters : List ℕ → List Event → Burdens → Type 0
+Enters spawns es bd = AreEnteredIn es bd 0 (length es) spawns
+
+-- it is so of the path under these burdens
+abbrev pub IsRight : Recording → (List Event → Burdens → Type 0) → Burdens → Type 0
+IsRight trace P bd = (es : List Event) → AreEvents trace.records es → P es bd
+
+pub start_in : (trace : Recording) (eb : Burdens) (P : List Event → Burdens → Type 0) (t : Told) → t ≡ start_told trace.root → Kept trace eb 0 P 0 t
+start_in trace eb P t e es are wf span fs bd entered rest path =
+    subst (λ u. Summed es wf trace.root eb span fs bd rest path 0 0 u) (sym e) (start_summed es wf trace.root eb span fs bd rest path)
+
+pub start_weighed : (trace : Recording) (eb : Burdens) (s : List OpenSpan) → s ≡ open_span Root ∷ [] → Weighed trace eb 0 s
+start_weighed trace eb s e es are = standing_first es trace.root eb s e
 
 -- ---- the trace
 
@@ -65,17 +80,17 @@ pub known_of : (trace : Recording) → nesting.IsWellFormed trace.records → In
 known_of trace formed limits events = record { formed = formed; short = limits.events; few = limits.sites; events = events }
 
 -- the events of a well-formed trace, the spans of its frames, and its path under some burdens
-record Given (trace : Recording) (bd : Burdens) : Type 0 where
-  es : List Event
-  are : AreEvents trace.records es
-  wf : IsWellFormed es
-  small : IsSmall es
-  span : ℕ → ℕ
-  fs : AreSpans es span
-  rest : List ℕ
-  path : IsPath es bd 0 (length es) rest
+pub record Given (trace : Recording) (bd : Burdens) : Type 0 where
+  pub es : List Event
+  pub are : AreEvents trace.records es
+  pub wf : IsWellFormed es
+  pub small : IsSmall es
+  pub span : ℕ → ℕ
+  pub fs : AreSpans es span
+  pub rest : List ℕ
+  pub path : IsPath es bd 0 (length es) rest
 
-given : (trace : Recording) (bd : Burdens) → Known trace → Given trace bd
+pub given : (trace : Recording) (bd : Burdens) → Known trace → Given trace bd
 given trace bd known =
     let r = well_formed_are_events trace.records known.formed in
     let w : IsWellFormed r.0 = subst (λ (x : List Record). nesting.IsWellFormed x) r.1 known.formed in
@@ -92,160 +107,166 @@ given trace bd known =
       path = p.1;
     }
 
--- each event has its mark
-pub marks_len : (trace : Recording) → Known trace → (marks : List Bool) (bd : Burdens) → AreMarks trace bd marks → length marks ≡ length trace.records
-marks_len trace known marks bd are =
-    let g = given trace bd known in
-    (are g.es g.are).0 ∙ sym (length-map g.es (λ e. Ok e)) ∙ ap (λ (x : List Record). length x) (sym g.are)
+pub events_len : (trace : Recording) (es : List Event) → AreEvents trace.records es → length trace.records ≡ length es
+events_len trace es are = ap (λ (x : List Record). length x) are ∙ length-map es (λ e. Ok e)
 
-module _ (trace : Recording) (known : Known trace) (i : ℕ) where
-  events_len : (es : List Event) → AreEvents trace.records es → length trace.records ≡ length es
-  events_len es are = ap (λ (x : List Record). length x) are ∙ length-map es (λ e. Ok e)
-
+module _ (trace : Recording) (known : Known trace) (eb : Burdens) (i : ℕ) where
   -- ---- the weights
 
-  module _ (s : OpenSpans) (at : Weighed trace i s) where
+  module _ (s : List OpenSpan) (at : Weighed trace eb i s) where
     u : Given trace unburdened
     u = given trace unburdened known
 
-    pub ready_spans : i ≤ length trace.records → HasOpen (spans s)
+    pub ready_spans : i ≤ length trace.records → HasOpen s
     ready_spans l =
-        let n = events_len u.es u.are in
-        can_open u.es u.wf trace.root i (spans s) (omega arith) (at u.es u.are)
+        let n = events_len trace u.es u.are in
+        can_open u.es u.wf trace.root eb i s (omega arith) (at u.es u.are)
 
-    pub ready_run : (n : ℕ) → i < length trace.records → IsRead trace i (Strand n) → lean.OnTop (CanRun n) (spans s)
+    pub ready_run : (n : ℕ) → i < length trace.records → IsRead trace i (Strand n) → lean.OnTop (CanRun n) s
     ready_run n l r =
-        let m = events_len u.es u.are in
-        can_run u.es u.wf trace.root i n (spans s) (omega arith) u.small r.1 (at u.es u.are)
+        let m = events_len trace u.es u.are in
+        can_run u.es u.wf trace.root eb i n s (omega arith) u.small r.1 (at u.es u.are)
 
-    pub ready_close : i < length trace.records → IsRead trace i Ret → (v : ℕ) → v ≡ top_close (spans s) → OnBelow (lean.CanReturn v) (spans s)
+    pub ready_close : i < length trace.records → IsRead trace i Ret → (v : ℕ) → v ≡ top_close s → OnBelow (lean.CanReturn v) s
     ready_close l r v is =
-        subst (λ n. OnBelow (lean.CanReturn n) (spans s)) (sym is)
-        (can_return_span u.es u.wf trace.root i (spans s) u.small (event_is trace.records u.es i Ret u.are l r.0) (at u.es u.are))
+        subst (λ n. OnBelow (lean.CanReturn n) s) (sym is)
+        (can_return_span u.es u.wf trace.root eb i s u.small (event_is trace.records u.es i Ret u.are l r.0) (at u.es u.are))
 
     -- the weights after an event
-    pub next_weighed : (e : Event) (new : OpenSpans) → i < length trace.records → IsRead trace i e → spans new ≡ after_event e (spans s) → Weighed trace (i + 1) new
+    pub next_weighed : (e : Event) (new : List OpenSpan) → i < length trace.records → IsRead trace i e → new ≡ after_event e s → Weighed trace eb (suc i) new
     next_weighed e new l r same es are =
         let w : IsWellFormed es = subst (λ (x : List Record). nesting.IsWellFormed x) are known.formed in
-        subst (λ k. Standing es trace.root k (spans new)) (let z : suc i ≡ i + 1 = omega arith in z)
-        (standing_next es w trace.root i e (spans s) (spans new) (event_is trace.records es i e are l r.0) (at es are) same)
+        standing_next es w trace.root eb i e s new (event_is trace.records es i e are l r.0) (at es are) same
 
   -- ---- the rows
 
-  module _ (marks : List Bool) (b : Burdens) (right : AreMarks trace b marks) (s : PathRows) (at : Kept trace marks i s) where
-    g : Given trace b
+  module _ (from : ℕ) (begun : from ≤ i) (P : List Event → Burdens → Type 0) (b : Burdens) (right : IsRight trace P b) (t : Told) (at : Kept trace eb from P i t) where
+    abbrev g : Given trace b
     g = given trace b known
 
-    here : Summed g.es g.wf trace.root g.span g.fs b g.rest g.path i (told s)
+    here : Summed g.es g.wf trace.root eb g.span g.fs b g.rest g.path from i t
     here = at g.es g.are g.wf g.span g.fs b (right g.es g.are) g.rest g.path
 
-    pub ready_add : (n : ℕ) → i < length trace.records → IsRead trace i (Strand n) → CanAdd n (told s)
-    ready_add n l r = can_add g.es g.wf trace.root g.span g.fs b g.rest g.path i n (let z = known.short in omega arith) r.1 (told s) here
+    pub ready_add : (n : ℕ) → i < length trace.records → IsRead trace i (Strand n) → CanAdd n t
+    ready_add n l r = can_add g.es g.wf trace.root eb g.span g.fs b g.rest g.path from i n (let z = known.short in omega arith) r.1 t here
 
-    pub ready_skip : i < length trace.records → CanSkip (told s)
-    ready_skip l = can_skip g.es g.wf trace.root g.span g.fs b g.rest g.path i (let z = known.short in omega arith) (told s) here
+    pub ready_skip : i < length trace.records → CanSkip t.trail
+    ready_skip l = can_skip g.es g.wf trace.root eb g.span g.fs b g.rest g.path from i (let z = known.short in omega arith) t here
 
     -- the innermost entered frame
-    first_in : (f : EnteredFrame) × HasFirst f (told s)
-    first_in = has_first g.es g.wf trace.root g.span g.fs b g.rest g.path i (told s) here
+    abbrev first_in : (f : EnteredFrame) × HasFirst f t
+    first_in = has_first g.es g.wf trace.root eb g.span g.fs b g.rest g.path from i t here
 
-    on_top : (P : EnteredFrame → Type 0) → P first_in.0 → OnTop P (told s).frames
-    on_top P h = subst (OnTop P) (sym first_in.1.1) h
+    on_top : (Q : EnteredFrame → Type 0) → Q first_in.0 → OnTop Q t.frames
+    on_top Q h = subst (OnTop Q) (sym first_in.1.1) h
 
-    from_top : (P : EnteredFrame → Type 0) → OnTop P (told s).frames → P first_in.0
-    from_top P h = subst (OnTop P) first_in.1.1 h
+    from_top : (Q : EnteredFrame → Type 0) → OnTop Q t.frames → Q first_in.0
+    from_top Q h = subst (OnTop Q) first_in.1.1 h
 
-    pub ready_open : IsOpen (told s)
+    pub ready_open : IsOpen t
     ready_open = on_top (λ f. Unit {0}) tt
 
-    next_to : (new : PathRows) → ((es : List Event) → AreEvents trace.records es → (wf : IsWellFormed es) (span : ℕ → ℕ) (fs : AreSpans es span) (bd : Burdens) → AreEntered es bd marks
-        → (rest : List ℕ) (path : IsPath es bd 0 (length es) rest) → Summed es wf trace.root span fs bd rest path (suc i) (told new)) → Kept trace marks (i + 1) new
-    next_to new h es are wf span fs bd entered rest path =
-        subst (λ k. Summed es wf trace.root span fs bd rest path k (told new)) (let z : suc i ≡ i + 1 = omega arith in z) (h es are wf span fs bd entered rest path)
+    pub next_strand : (n : ℕ) (new : Told) → i < length trace.records → IsRead trace i (Strand n) → StrandDone n t new → Kept trace eb from P (suc i) new
+    next_strand n new l r d es are wf span fs bd entered rest path =
+        strand_next es wf trace.root eb span fs bd rest path from i begun n (event_is trace.records es i (Strand n) are l r.0) r.1 t new (at es are wf span fs bd entered rest path) d
 
-    pub next_strand : (n : ℕ) (new : PathRows) → i < length trace.records → IsRead trace i (Strand n) → StrandDone n (told s) (told new) → Kept trace marks (i + 1) new
-    next_strand n new l r d =
-        next_to new (λ es are wf span fs bd entered rest path.
-        strand_next es wf trace.root span fs bd rest path i n (event_is trace.records es i (Strand n) are l r.0) r.1 (told s) (told new) (at es are wf span fs bd entered rest path) d)
+    pub next_sync : (new : Told) → i < length trace.records → IsRead trace i Sync → SyncDone t new → Kept trace eb from P (suc i) new
+    next_sync new l r d es are wf span fs bd entered rest path =
+        sync_next es wf trace.root eb span fs bd rest path from i begun (event_is trace.records es i Sync are l r.0) t new (at es are wf span fs bd entered rest path) d
 
-    pub next_sync : (new : PathRows) → i < length trace.records → IsRead trace i Sync → SyncDone (told s) (told new) → Kept trace marks (i + 1) new
-    next_sync new l r d =
-        next_to new (λ es are wf span fs bd entered rest path.
-        sync_next es wf trace.root span fs bd rest path i (event_is trace.records es i Sync are l r.0) (told s) (told new) (at es are wf span fs bd entered rest path) d)
+    pub next_call : (site func : ℕ) (new : Told) → i < length trace.records → IsRead trace i (Call site func) → CallDone site func t new → Kept trace eb from P (suc i) new
+    next_call site func new l r d es are wf span fs bd entered rest path =
+        call_next es wf trace.root eb span fs bd rest path from i begun site func (event_is trace.records es i (Call site func) are l r.0) t new (at es are wf span fs bd entered rest path) d
 
-    pub next_call : (site func : ℕ) (new : PathRows) → i < length trace.records → IsRead trace i (Call site func) → CallDone site func (told s) (told new) → Kept trace marks (i + 1) new
-    next_call site func new l r d =
-        next_to new (λ es are wf span fs bd entered rest path.
-        call_next es wf trace.root span fs bd rest path i site func (event_is trace.records es i (Call site func) are l r.0) (told s) (told new) (at es are wf span fs bd entered rest path) d)
-
-    pub next_spawn : (site func : ℕ) (new : PathRows) → i < length trace.records → IsRead trace i (Spawn site func)
-        → SpawnDone (slice_index_or marks i false) site func (told s) (told new) → Kept trace marks (i + 1) new
-    next_spawn site func new l r d =
-        next_to new (λ es are wf span fs bd entered rest path.
+    pub next_spawn : (site func : ℕ) (new : Told) → i < length trace.records → IsRead trace i (Spawn site func)
+        → (end : ℕ) (xs : List ℕ) → i < end → Left trace P end i xs
+        → SpawnDone (is_next i xs) site func t new → Kept trace eb from P (suc i) new
+    next_spawn site func new l r end xs inside left d es are wf span fs bd entered rest path =
         let is = event_is trace.records es i (Spawn site func) are l r.0 in
-        let n = events_len es are in
-        spawn_next es wf trace.root span fs bd rest path i (slice_index_or marks i false) site func is
-        (marked es wf bd rest path marks entered i (omega arith) (ap spawns is)) (told s) (told new) (at es are wf span fs bd entered rest path) d)
+        let a = next_is es bd end i xs inside (left es are bd entered) in
+        let o = entered_on es wf bd rest path i (ap spawns is) in
+        spawn_next es wf trace.root eb span fs bd rest path from i begun (is_next i xs) site func is
+        (λ e. o.0 (a.0 e), λ on. a.1 (o.1 on)) t new (at es are wf span fs bd entered rest path) d
 
     -- ---- with the weights
 
-    module _ (o : OpenSpans) (weighed : Weighed trace i o) (v : ℕ) (is_top : v ≡ top_close (spans o)) where
-      closes : (es : List Event) → AreEvents trace.records es → (wf : IsWellFormed es) → i ≤ length es → ClosesIn es trace.root i v
-      closes es are wf l f fs w e = closing_is es wf trace.root i (spans o) l (weighed es are) f fs w e ∙ sym is_top
+    module _ (o : List OpenSpan) (weighed : Weighed trace eb i o) (v : ℕ) (is_top : v ≡ top_close o) where
+      closes : (es : List Event) → AreEvents trace.records es → (wf : IsWellFormed es) → i ≤ length es → ClosesIn es trace.root eb i v
+      closes es are wf l f fs w e = closing_is es wf trace.root eb i o l (weighed es are) f fs w e ∙ sym is_top
 
       light : i ≤ length g.es → v < 2 ^ 92
-      light l = let z = close_fits g.es g.wf trace.root i (spans o) l g.small (weighed g.es g.are) in omega arith
+      light l = let z = close_fits g.es g.wf trace.root eb i o l g.small (weighed g.es g.are) in omega arith
 
-      pub ready_return : i < length trace.records → IsRead trace i Ret → s.skipped ≡ 0 → OnTop (λ f. CanReturn f v (told s)) (told s).frames
+      pub ready_return : i < length trace.records → IsRead trace i Ret → t.trail.skipped ≡ 0 → OnTop (λ f. CanReturn f v t) t.frames
       ready_return l r z =
-          let n = events_len g.es g.are in
+          let n = events_len trace g.es g.are in
           let upto : i ≤ length g.es = omega arith in
-          on_top (λ f. CanReturn f v (told s))
-          (can_return g.es g.wf trace.root g.span g.fs b g.rest g.path (trace_enters 65536 (length trace.sites) (length trace.funcs) known.few trace.records known.events g.es g.are)
-          i (event_is trace.records g.es i Ret g.are l r.0) (let y = known.short in omega arith) v (closes g.es g.are g.wf upto) (light upto) first_in.0 (told s) first_in.1 here z)
+          on_top (λ f. CanReturn f v t)
+          (can_return g.es g.wf trace.root eb g.span g.fs b g.rest g.path from (trace_enters 65536 (length trace.sites) (length trace.funcs) known.few trace.records known.events g.es g.are)
+          i begun (event_is trace.records g.es i Ret g.are l r.0) (let y = known.short in omega arith) v (closes g.es g.are g.wf upto) (light upto) first_in.0 t first_in.1 here z)
 
-      pub next_return : (new : PathRows) → i < length trace.records → IsRead trace i Ret
-          → (s.skipped ≡ 0 → OnTop (λ f. IsReturned f v (told s) (told new)) (told s).frames) × (0 < s.skipped → told new ≡ leave_told (told s)) → Kept trace marks (i + 1) new
-      next_return new l r d =
+      pub next_return : (new : Told) → i < length trace.records → IsRead trace i Ret
+          → (t.trail.skipped ≡ 0 → OnTop (λ f. IsReturned f v t new) t.frames) × (0 < t.trail.skipped → new ≡ leave_told t) → Kept trace eb from P (suc i) new
+      next_return new l r d es are wf span fs bd entered rest path =
           let can = ready_return l r in
-          next_to new (λ es are wf span fs bd entered rest path.
-          let n = events_len es are in
-          let m = events_len g.es g.are in
-          return_next es wf trace.root span fs bd rest path i (event_is trace.records es i Ret are l r.0) (let y = known.short in omega arith) v (closes es are wf (omega arith)) (light (omega arith))
-          first_in.0 (told s) (told new) first_in.1 (at es are wf span fs bd entered rest path)
-          (λ z. (from_top (λ f. CanReturn f v (told s)) (can z)).deep) (λ z. from_top (λ f. IsReturned f v (told s) (told new)) (d.0 z), d.1))
+          let n = events_len trace es are in
+          let m = events_len trace g.es g.are in
+          return_next es wf trace.root eb span fs bd rest path from i begun (event_is trace.records es i Ret are l r.0) (let y = known.short in omega arith) v (closes es are wf (omega arith)) (light (omega arith))
+          first_in.0 t new first_in.1 (at es are wf span fs bd entered rest path)
+          (λ z. (from_top (λ f. CanReturn f v t) (can z)).deep) (λ z. from_top (λ f. IsReturned f v t new) (d.0 z), d.1)
 
-      -- ---- the end
+-- ---- the end of a whole run
 
-      pub ready_finish : i ≡ length trace.records → OnTop (λ f. CanFinish f v (told s)) (told s).frames
-      ready_finish last =
-          let n = events_len g.es g.are in
-          let end : i ≡ length g.es = last ∙ n in
-          on_top (λ f. CanFinish f v (told s))
-          (can_finish g.es g.wf trace.root g.span g.fs b g.rest g.path (let y = known.short in omega arith) v
-          (subst (λ k. ClosesIn g.es trace.root k v) end (closes g.es g.are g.wf (omega arith))) (light (omega arith)) first_in.0 (told s) first_in.1
-          (subst (λ k. Summed g.es g.wf trace.root g.span g.fs b g.rest g.path k (told s)) end here))
+module _ (trace : Recording) (known : Known trace) (eb : Burdens) (i : ℕ) (P : List Event → Burdens → Type 0) (b : Burdens) (right : IsRight trace P b) (t : Told) (at : Kept trace eb 0 P i t)
+    (o : List OpenSpan) (weighed : Weighed trace eb i o) (v : ℕ) (is_top : v ≡ top_close o) (last : i ≡ length trace.records) where
+  abbrev all : Given trace b
+  all = given trace b known
 
-      pub finished_in : i ≡ length trace.records → (t : Sums)
-          → OnTop (λ f. t ≡ record s.table { root = plus s.table.root (entered_row f s.work v) }) (told s).frames → IsPathTable trace b t
-      finished_in last t e =
-          let n = events_len g.es g.are in
-          let end : i ≡ length g.es = last ∙ n in
-          subst (λ t. IsPathTable trace b t) (sym (from_top (λ f. t ≡ record s.table { root = plus s.table.root (entered_row f s.work v) }) e)) (
-            known.formed,
-            (
-              g.es,
-              g.are,
-              (
-                g.span,
-                g.fs,
-                (
-                  g.rest,
-                  g.path,
-                  finished g.es g.wf trace.root g.span g.fs b g.rest g.path v
-                      (subst (λ k. ClosesIn g.es trace.root k v) end (closes g.es g.are g.wf (omega arith))) first_in.0 (told s) first_in.1
-                      (subst (λ k. Summed g.es g.wf trace.root g.span g.fs b g.rest g.path k (told s)) end here),
-                ),
-              ),
-            ),
-          )
+  end : i ≡ length all.es
+  end = last ∙ events_len trace all.es all.are
+
+  abbrev begun : 0 ≤ i
+  begun = omega arith
+
+  abbrev top : (f : EnteredFrame) × HasFirst f t
+  top = first_in trace known eb i 0 begun P b right t at
+
+  closes_so : ClosesIn all.es trace.root eb (length all.es) v
+  closes_so = subst (λ k. ClosesIn all.es trace.root eb k v) end (closes trace known eb i 0 begun P b right t at o weighed v is_top all.es all.are all.wf (let z = end in omega arith))
+
+  summed : Summed all.es all.wf trace.root eb all.span all.fs b all.rest all.path 0 (length all.es) t
+  summed = subst (λ k. Summed all.es all.wf trace.root eb all.span all.fs b all.rest all.path 0 k t) end (here trace known eb i 0 begun P b right t at)
+
+  pub ready_finish : OnTop (λ f. CanFinish f v t) t.frames
+  ready_finish =
+      let z = end in
+      on_top trace known eb i 0 begun P b right t at (λ f. CanFinish f v t)
+      (can_finish all.es all.wf trace.root eb all.span all.fs b all.rest all.path (let n = events_len trace all.es all.are in let y = known.short in omega arith) v
+      closes_so (light trace known eb i 0 begun P b right t at o weighed v is_top (omega arith)) top.0 t top.1 summed)
+
+  pub finished_in : (x : Sums) → OnTop (λ f. x ≡ record t.table { root = plus t.table.root (entered_row f t.work v) }) t.frames → IsPathTable trace b x
+  finished_in x e =
+      subst (λ y. IsPathTable trace b y) (sym (from_top trace known eb i 0 begun P b right t at (λ f. x ≡ record t.table { root = plus t.table.root (entered_row f t.work v) }) e)) (
+        known.formed,
+        (
+          all.es,
+          all.are,
+          (
+            all.span,
+            all.fs,
+            (all.rest, all.path, finished all.es all.wf trace.root eb all.span all.fs b all.rest all.path v closes_so top.0 t top.1 summed),
+          ),
+        ),
+      )
+
+-- ---- the spawns that are left
+
+module _ (trace : Recording) (P : List Event → Burdens → Type 0) (end i : ℕ) (xs : List ℕ) (left : Left trace P end i xs) where
+  pub next_left : (e : Event) → i < length trace.records → IsRead trace i e → spawns (Some e) ≡ false → Left trace P end (suc i) xs
+  next_left e l r n es are bd p = past_other es bd end i xs (ap spawns (event_is trace.records es i e are l r.0) ∙ n) (left es are bd p)
+
+  pub next_taken : i < end → Left trace P end (suc i) (left_after i xs)
+  next_taken l es are bd p = left_is es bd end i xs l (left es are bd p)
+
+pub start_left : (trace : Recording) (spawns : List ℕ) → Left trace (Enters spawns) (length trace.records) 0 spawns
+start_left trace spawns es are bd p = subst (λ n. AreEnteredIn es bd 0 n spawns) (sym (events_len trace es are)) p

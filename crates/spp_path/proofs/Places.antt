@@ -23,14 +23,14 @@ use Rattle.spp_dag.proofs.Steps.{entry_follows}
 use Rattle.spp_dag.proofs.StepsFrames.{all_traced, traced_frame}
 use Rattle.spp_dag.proofs.StepsListing.{shape_at}
 use Rattle.spp_dag.proofs.OpenEntries.{AreOpen, open_more, open_state}
+use Rattle.spp_path.specs.Flags.{is_called}
 use Rattle.spp_path.proofs.Running.{running_keeps, running_quiet, running_waited, running_beside, running_stops, running_first, passes, enters_called, enters_parent}
 
--- an open frame that the path enters: what the machine has of it, the path's strands directly in it, whether it runs
--- on, and whether no frame that encloses it runs its function
+-- an open frame that the path enters: what the machine has of it, the path's strands directly in it, and whether no
+-- frame that encloses it runs its function
 pub record PathFrame : Type 0 where
   pub entry : EntryFrame
   pub local : ℕ
-  pub running : Bool
   pub top_func : Bool
 
 abbrev pub entries : List PathFrame → List EntryFrame
@@ -64,7 +64,6 @@ abbrev pub new_frame : FrameKind → ℕ → ℕ → ℕ → ℕ → EntryFrame 
 new_frame kind i site func w f fs = record {
   entry = opened kind i site func w f fs;
   local = 0;
-  running = true;
   top_func = not (has_func (f ∷ fs) func);
 }
 
@@ -72,7 +71,8 @@ new_frame kind i site func w f fs = record {
 abbrev pub with_entry : EntryFrame → PathFrame → PathFrame
 with_entry f k = record k { entry = f }
 
-module _ (es : List Event) (wf : IsWellFormed es) (root : ℕ) (bd : Burdens) (rest : List ℕ) (path : IsPath es bd 0 (length es) rest) where
+-- The machine bears the burdens `eb`, and the path is greatest under `bd`.
+module _ (es : List Event) (wf : IsWellFormed es) (root : ℕ) (eb bd : Burdens) (rest : List ℕ) (path : IsPath es bd 0 (length es) rest) where
   -- ---- what the machine's innermost frame says of the position
 
   record Innermost (i : ℕ) (f : EntryFrame) : Type 0 where
@@ -81,17 +81,17 @@ module _ (es : List Event) (wf : IsWellFormed es) (root : ℕ) (bd : Burdens) (r
     closes : returns (event_at es i) ≡ true → closing es (first f) ≡ i
     greatest : returns (event_at es i) ≡ true → IsGreatest es unburdened (first f) (closing es (first f)) (close f.state)
 
-  innermost : (i : ℕ) → i ≤ length es → (f : EntryFrame) (fs : List EntryFrame) (w : ℕ) → IsEntry es unburdened root i (f ∷ fs) w → Innermost i f
+  innermost : (i : ℕ) → i ≤ length es → (f : EntryFrame) (fs : List EntryFrame) (w : ℕ) → IsEntry es eb root i (f ∷ fs) w → Innermost i f
   innermost i l f fs w at = by at.0 at.1 at.2
     where
-      by : (hs : List OpenFrame) → run unburdened 0 (take i es) (root_frame root ∷ []) ≡ Some hs → f ∷ fs ≡ map (entry_frame es root) hs → Innermost i f
+      by : (hs : List OpenFrame) → run eb 0 (take i es) (root_frame root ∷ []) ≡ Some hs → f ∷ fs ≡ map (entry_frame es root) hs → Innermost i f
       by [] r s = cc
       by (h ∷ hs) r s =
           let g : ℕ = first_of h.kind h.at in
           let is : entry_frame es root h ≡ f = (let z : f ≡ entry_frame es root h = cc in sym z) in
           let shape = shape_at es wf i l in
-          let top_is : shape.top.first ≡ g = sym (ap (λ t. t.first) (plain_top es wf unburdened i l h (hs, (root, r)) shape)) in
-          let frame = traced_frame es root h.kind h.at h.site h.func (all_traced es wf unburdened root i l (h ∷ hs) r).0 in
+          let top_is : shape.top.first ≡ g = sym (ap (λ t. t.first) (plain_top es wf eb i l h (hs, (root, r)) shape)) in
+          let frame = traced_frame es root h.kind h.at h.site h.func (all_traced es wf eb root i l (h ∷ hs) r).0 in
           let closes = λ (t : returns (event_at es i) ≡ true).
           (let c = return_closes es 1 (λ _. 0) (λ _. 0) wf i shape t in
           let z : closing es g ≡ i = ap (closing es) (sym top_is ∙ c.1.first) ∙ c.2 in z) in
@@ -99,7 +99,7 @@ module _ (es : List Event) (wf : IsWellFormed es) (root : ℕ) (bd : Burdens) (r
             frame = frame;
             owner_is_it = owner_is es 1 (λ _. 0) (λ _. 0) wf i shape ∙ top_is;
             closes = closes;
-            greatest = λ t. (frames_give_spans es wf unburdened g frame h (subst (λ k. HasTop es unburdened k h) (sym (closes t)) (hs, (root, r)))).0;
+            greatest = λ t. (frames_give_spans es wf eb g frame h (subst (λ k. HasTop es eb k h) (sym (closes t)) (hs, (root, r)))).0;
           })
 
   -- ---- the open frames
@@ -109,55 +109,56 @@ module _ (es : List Event) (wf : IsWellFormed es) (root : ℕ) (bd : Burdens) (r
   AllBeside [] = Unit {0}
   AllBeside (f ∷ fs) = (On 0 rest (first f) → ⊥) × AllBeside fs
 
-  -- the path enters all of them, and what the pass has tells which run on at i
-  abbrev pub AllEntered : ℕ → List PathFrame → Type 0
-  AllEntered i [] = Unit {0}
-  AllEntered i (k ∷ ks) = On 0 rest (first k.entry) × ((k.running ≡ true) ↔ IsRunning es rest (first k.entry) i) × AllEntered i ks
+  -- the path enters all of them, the innermost runs on at i or doesn't, and each other runs on where it called the one
+  -- above it
+  abbrev pub AllEntered : ℕ → Bool → List PathFrame → Type 0
+  AllEntered i r [] = Unit {0}
+  AllEntered i r (k ∷ ks) = On 0 rest (first k.entry) × ((r ≡ true) ↔ IsRunning es rest (first k.entry) i) × AllEntered i (is_called k.entry.kind) ks
 
   -- Before the event at i, where w is the work so far, the machine has these frames open: `outs`, which the path
-  -- doesn't enter, within `ks`, which it enters.
-  pub record Place (i w : ℕ) (outs : List EntryFrame) (ks : List PathFrame) : Type 0 where
-    pub entry : IsEntry es unburdened root i (outs ++ entries ks) w
+  -- doesn't enter, within `ks`, which it enters, and of which the innermost runs on or doesn't.
+  pub record Place (i w : ℕ) (outs : List EntryFrame) (r : Bool) (ks : List PathFrame) : Type 0 where
+    pub entry : IsEntry es eb root i (outs ++ entries ks) w
     pub beside : AllBeside outs
-    pub entered : AllEntered i ks
+    pub entered : AllEntered i r ks
     pub falls : Falls (suc i) (outs ++ entries ks)
     pub open_frames : AreOpen w (entries ks)
     pub level : length outs + length ks ≤ suc i
 
   -- frames below the owner of the event run on as before
-  entered_keeps : (n i : ℕ) → i < length es → n ≤ owner es i → (ks : List PathFrame) → Falls n (entries ks) → AllEntered i ks → AllEntered (suc i) ks
-  entered_keeps n i l o [] f h = tt
-  entered_keeps n i l o (k ∷ ks) f h =
+  entered_keeps : (n i : ℕ) → i < length es → n ≤ owner es i → (r : Bool) (ks : List PathFrame) → Falls n (entries ks) → AllEntered i r ks → AllEntered (suc i) r ks
+  entered_keeps n i l o b [] f h = tt
+  entered_keeps n i l o b (k ∷ ks) f h =
       let below : first k.entry < n = f.0 in
       let r = running_keeps es wf bd rest path (first k.entry) i l (λ e. omega (arith, e)) in (
         h.0,
         (λ t. r.0 (h.1.0 t), λ t. h.1.1 (r.1 t)),
-        entered_keeps (first k.entry) i l (omega arith) ks f.1 h.2,
+        entered_keeps (first k.entry) i l (omega arith) (is_called k.entry.kind) ks f.1 h.2,
       )
 
-  entered_quiet : (i : ℕ) → i < length es → spawns (event_at es i) ≡ false → syncs (event_at es i) ≡ false → (ks : List PathFrame) → AllEntered i ks → AllEntered (suc i) ks
-  entered_quiet i l a b [] h = tt
-  entered_quiet i l a b (k ∷ ks) h =
+  entered_quiet : (i : ℕ) → i < length es → spawns (event_at es i) ≡ false → syncs (event_at es i) ≡ false → (c : Bool) (ks : List PathFrame) → AllEntered i c ks → AllEntered (suc i) c ks
+  entered_quiet i l a b c [] h = tt
+  entered_quiet i l a b c (k ∷ ks) h =
       let r = running_quiet es wf bd rest path (first k.entry) i l a b in
-      (h.0, (λ t. r.0 (h.1.0 t), λ t. h.1.1 (r.1 t)), entered_quiet i l a b ks h.2)
+      (h.0, (λ t. r.0 (h.1.0 t), λ t. h.1.1 (r.1 t)), entered_quiet i l a b (is_called k.entry.kind) ks h.2)
 
-  entry_next : (i : ℕ) (e : Event) → event_at es i ≡ Some e → (fs : List EntryFrame) (w v : ℕ) → IsEntry es unburdened root i fs w → v ≡ w + weight_of (Some e)
-      → IsEntry es unburdened root (suc i) (entry_after unburdened i e w fs) v
+  entry_next : (i : ℕ) (e : Event) → event_at es i ≡ Some e → (fs : List EntryFrame) (w v : ℕ) → IsEntry es eb root i fs w → v ≡ w + weight_of (Some e)
+      → IsEntry es eb root (suc i) (entry_after eb i e w fs) v
   entry_next i e is fs w v at same =
-      subst (λ n. IsEntry es unburdened root (suc i) (entry_after unburdened i e w fs) n) (ap (λ o. w + weight_of o) is ∙ sym same) (entry_follows es wf unburdened root i e is fs w at)
+      subst (λ n. IsEntry es eb root (suc i) (entry_after eb i e w fs) n) (ap (λ o. w + weight_of o) is ∙ sym same) (entry_follows es wf eb root i e is fs w at)
 
   -- ---- one event
 
   module _ (i w : ℕ) where
     -- ---- the innermost frame isn't entered
 
-    module _ (o : EntryFrame) (os : List EntryFrame) (ks : List PathFrame) (h : Place i w (o ∷ os) ks) where
-      owner_out : i < length es → owner es i ≡ first o
+    module _ (o : EntryFrame) (os : List EntryFrame) (r : Bool) (ks : List PathFrame) (h : Place i w (o ∷ os) r ks) where
+      pub owner_out : i < length es → owner es i ≡ first o
       owner_out l = (innermost i (omega arith) o (os ++ entries ks) w h.entry).owner_is_it
 
-      keeps_out : i < length es → AllEntered (suc i) ks
+      keeps_out : i < length es → AllEntered (suc i) r ks
       keeps_out l =
-          entered_keeps (first o) i l (omega (arith, owner_out l)) ks (falls_past (first o) os (entries ks) h.falls.1) h.entered
+          entered_keeps (first o) i l (omega (arith, owner_out l)) r ks (falls_past (first o) os (entries ks) h.falls.1) h.entered
 
       -- the path doesn't pass an event in it
       pub not_on : (e : Event) → event_at es i ≡ Some e → syncs (Some e) ≡ false → On 0 rest i → ⊥
@@ -165,7 +166,7 @@ module _ (es : List Event) (wf : IsWellFormed es) (root : ℕ) (bd : Burdens) (r
           let l = inside es i e is in
           h.beside.0 (subst (λ g. On 0 rest g) (owner_out l) ((passes es wf bd rest path i l (ap syncs is ∙ n)).1 on).0)
 
-      pub strand_out : (n : ℕ) → event_at es i ≡ Some (Strand n) → Place (suc i) (w + n) (stranded n o ∷ os) ks
+      pub strand_out : (n : ℕ) → event_at es i ≡ Some (Strand n) → Place (suc i) (w + n) (stranded n o ∷ os) r ks
       strand_out n is = record {
         entry = entry_next i (Strand n) is (o ∷ os ++ entries ks) w (w + n) h.entry refl;
         beside = h.beside;
@@ -175,7 +176,7 @@ module _ (es : List Event) (wf : IsWellFormed es) (root : ℕ) (bd : Burdens) (r
         level = (let z = h.level in omega arith);
       }
 
-      pub sync_out : event_at es i ≡ Some Sync → Place (suc i) w (waited o ∷ os) ks
+      pub sync_out : event_at es i ≡ Some Sync → Place (suc i) w (waited o ∷ os) r ks
       sync_out is = record {
         entry = entry_next i Sync is (o ∷ os ++ entries ks) w w h.entry (omega arith);
         beside = h.beside;
@@ -186,7 +187,7 @@ module _ (es : List Event) (wf : IsWellFormed es) (root : ℕ) (bd : Burdens) (r
       }
 
       -- a call in it isn't entered, nor is a spawned child
-      pub call_out : (site func : ℕ) → event_at es i ≡ Some (Call site func) → Place (suc i) w (opened Called i site func w o (os ++ entries ks) ∷ o ∷ os) ks
+      pub call_out : (site func : ℕ) → event_at es i ≡ Some (Call site func) → Place (suc i) w (opened Called i site func w o (os ++ entries ks) ∷ o ∷ os) r ks
       call_out site func is = record {
         entry = entry_next i (Call site func) is (o ∷ os ++ entries ks) w w h.entry (omega arith);
         beside = ((λ on. not_on (Call site func) is refl ((enters_called es wf bd rest path i (ap opens is) (ap spawns is)).0 on)), h.beside);
@@ -196,7 +197,7 @@ module _ (es : List Event) (wf : IsWellFormed es) (root : ℕ) (bd : Burdens) (r
         level = (let z = h.level in omega arith);
       }
 
-      pub spawn_out : (site func : ℕ) → event_at es i ≡ Some (Spawn site func) → Place (suc i) w (opened Spawned i site func w o (os ++ entries ks) ∷ o ∷ os) ks
+      pub spawn_out : (site func : ℕ) → event_at es i ≡ Some (Spawn site func) → Place (suc i) w (opened Spawned i site func w o (os ++ entries ks) ∷ o ∷ os) r ks
       spawn_out site func is = record {
         entry = entry_next i (Spawn site func) is (o ∷ os ++ entries ks) w w h.entry (omega arith);
         beside = (
@@ -210,43 +211,43 @@ module _ (es : List Event) (wf : IsWellFormed es) (root : ℕ) (bd : Burdens) (r
       }
 
     -- a return to another frame that isn't entered
-    pub return_out : (o p : EntryFrame) (os : List EntryFrame) (ks : List PathFrame) → Place i w (o ∷ p ∷ os) ks → event_at es i ≡ Some Ret
-        → Place (suc i) w (returned unburdened o p ∷ os) ks
-    return_out o p os ks h is = record {
+    pub return_out : (o p : EntryFrame) (os : List EntryFrame) (r : Bool) (ks : List PathFrame) → Place i w (o ∷ p ∷ os) r ks → event_at es i ≡ Some Ret
+        → Place (suc i) w (returned eb o p ∷ os) r ks
+    return_out o p os r ks h is = record {
       entry = entry_next i Ret is (o ∷ p ∷ os ++ entries ks) w w h.entry (omega arith);
       beside = h.beside.1;
-      entered = keeps_out o (p ∷ os) ks h (inside es i Ret is);
+      entered = keeps_out o (p ∷ os) r ks h (inside es i Ret is);
       falls = falls_under (first o) (suc (suc i)) (p ∷ os ++ entries ks) (let z : first o < suc i = h.falls.0 in omega arith) h.falls.1;
       open_frames = h.open_frames;
       level = (let z = h.level in omega arith);
     }
 
     -- and to the innermost one that is
-    pub return_back : (o : EntryFrame) (k : PathFrame) (ks : List PathFrame) → Place i w (o ∷ []) (k ∷ ks) → event_at es i ≡ Some Ret
-        → Place (suc i) w [] (with_entry (returned unburdened o k.entry) k ∷ ks)
-    return_back o k ks h is = record {
+    pub return_back : (o : EntryFrame) (r : Bool) (k : PathFrame) (ks : List PathFrame) → Place i w (o ∷ []) r (k ∷ ks) → event_at es i ≡ Some Ret
+        → Place (suc i) w [] r (with_entry (returned eb o k.entry) k ∷ ks)
+    return_back o r k ks h is = record {
       entry = entry_next i Ret is (o ∷ entries (k ∷ ks)) w w h.entry (omega arith);
       beside = tt;
-      entered = keeps_out o [] (k ∷ ks) h (inside es i Ret is);
+      entered = keeps_out o [] r (k ∷ ks) h (inside es i Ret is);
       falls = falls_under (first o) (suc (suc i)) (entries (k ∷ ks)) (let z : first o < suc i = h.falls.0 in omega arith) h.falls.1;
-      open_frames = open_state w k.entry (returned unburdened o k.entry).state (returned unburdened o k.entry).burdened (entries ks) h.open_frames;
+      open_frames = open_state w k.entry (returned eb o k.entry).state (returned eb o k.entry).burdened (entries ks) h.open_frames;
       level = (let z = h.level in omega arith);
     }
 
     -- ---- the innermost frame is entered
 
-    module _ (k : PathFrame) (ks : List PathFrame) (h : Place i w [] (k ∷ ks)) where
-      owner_in : i < length es → owner es i ≡ first k.entry
+    module _ (r : Bool) (k : PathFrame) (ks : List PathFrame) (h : Place i w [] r (k ∷ ks)) where
+      pub owner_in : i < length es → owner es i ≡ first k.entry
       owner_in l = (innermost i (omega arith) k.entry (entries ks) w h.entry).owner_is_it
 
-      keeps_in : i < length es → AllEntered (suc i) ks
-      keeps_in l = entered_keeps (first k.entry) i l (omega (arith, owner_in l)) ks h.falls.1 h.entered.2
+      keeps_in : i < length es → AllEntered (suc i) (is_called k.entry.kind) ks
+      keeps_in l = entered_keeps (first k.entry) i l (omega (arith, owner_in l)) (is_called k.entry.kind) ks h.falls.1 h.entered.2
 
       higher : Falls (suc (suc i)) (entries (k ∷ ks))
       higher = falls_under (suc i) (suc (suc i)) (entries (k ∷ ks)) (omega arith) h.falls
 
       -- the path passes an event in it where it runs on
-      pub is_on : (e : Event) → event_at es i ≡ Some e → syncs (Some e) ≡ false → (k.running ≡ true) ↔ On 0 rest i
+      pub is_on : (e : Event) → event_at es i ≡ Some e → syncs (Some e) ≡ false → (r ≡ true) ↔ On 0 rest i
       is_on e is n =
           let l = inside es i e is in
           let p = passes es wf bd rest path i l (ap syncs is ∙ n) in (
@@ -255,11 +256,11 @@ module _ (es : List Event) (wf : IsWellFormed es) (root : ℕ) (bd : Burdens) (r
           )
 
       pub strand_in : (n m : ℕ) → event_at es i ≡ Some (Strand n)
-          → Place (suc i) (w + n) [] (record k { entry = stranded n k.entry; local = m } ∷ ks)
+          → Place (suc i) (w + n) [] r (record k { entry = stranded n k.entry; local = m } ∷ ks)
       strand_in n m is = record {
         entry = entry_next i (Strand n) is (entries (k ∷ ks)) w (w + n) h.entry refl;
         beside = tt;
-        entered = entered_quiet i (inside es i (Strand n) is) (ap spawns is) (ap syncs is) (k ∷ ks) h.entered;
+        entered = entered_quiet i (inside es i (Strand n) is) (ap spawns is) (ap syncs is) r (k ∷ ks) h.entered;
         falls = higher;
         open_frames = open_more w (w + n) (omega arith) (stranded n k.entry ∷ entries ks)
             (open_state w k.entry (stranded n k.entry).state (stranded n k.entry).burdened (entries ks) h.open_frames);
@@ -267,7 +268,7 @@ module _ (es : List Event) (wf : IsWellFormed es) (root : ℕ) (bd : Burdens) (r
       }
 
       pub sync_in : event_at es i ≡ Some Sync
-          → Place (suc i) w [] (record k { entry = waited k.entry; running = true } ∷ ks)
+          → Place (suc i) w [] true (record k { entry = waited k.entry } ∷ ks)
       sync_in is =
           let l = inside es i Sync is in
           let o = owner_in l in
@@ -291,32 +292,32 @@ module _ (es : List Event) (wf : IsWellFormed es) (root : ℕ) (bd : Burdens) (r
       first_runs on = (λ _. running_first es wf bd rest path (suc i) on, λ _. refl)
 
       -- a call where it runs on is entered
-      pub call_in : (site func : ℕ) → event_at es i ≡ Some (Call site func) → k.running ≡ true
-          → Place (suc i) w [] (new_frame Called i site func w k.entry (entries ks) ∷ k ∷ ks)
+      pub call_in : (site func : ℕ) → event_at es i ≡ Some (Call site func) → r ≡ true
+          → Place (suc i) w [] true (new_frame Called i site func w k.entry (entries ks) ∷ k ∷ ks)
       call_in site func is t =
           let l = inside es i (Call site func) is in
           let on = (enters_called es wf bd rest path i (ap opens is) (ap spawns is)).1 ((is_on (Call site func) is refl).0 t) in
           record {
             entry = entry_next i (Call site func) is (entries (k ∷ ks)) w w h.entry (omega arith);
             beside = tt;
-            entered = (on, first_runs on, entered_quiet i l (ap spawns is) (ap syncs is) (k ∷ ks) h.entered);
+            entered = (on, first_runs on, subst (λ b. AllEntered (suc i) b (k ∷ ks)) t (entered_quiet i l (ap spawns is) (ap syncs is) r (k ∷ ks) h.entered));
             falls = ((let z : suc i < suc (suc i) = omega arith in z), h.falls);
             open_frames = (refl, (let z : w ≤ w = omega arith in z), h.open_frames);
             level = (let z = h.level in omega arith);
           }
 
       -- and where it doesn't, it isn't
-      pub call_beside : (site func : ℕ) → event_at es i ≡ Some (Call site func) → k.running ≡ false
-          → Place (suc i) w (opened Called i site func w k.entry (entries ks) ∷ []) (k ∷ ks)
+      pub call_beside : (site func : ℕ) → event_at es i ≡ Some (Call site func) → r ≡ false
+          → Place (suc i) w (opened Called i site func w k.entry (entries ks) ∷ []) r (k ∷ ks)
       call_beside site func is t =
           let l = inside es i (Call site func) is in
           record {
             entry = entry_next i (Call site func) is (entries (k ∷ ks)) w w h.entry (omega arith);
             beside = (
-              (λ on. both_ways k.running t ((is_on (Call site func) is refl).1 ((enters_called es wf bd rest path i (ap opens is) (ap spawns is)).0 on))),
+              (λ on. both_ways r t ((is_on (Call site func) is refl).1 ((enters_called es wf bd rest path i (ap opens is) (ap spawns is)).0 on))),
               tt,
             );
-            entered = entered_quiet i l (ap spawns is) (ap syncs is) (k ∷ ks) h.entered;
+            entered = entered_quiet i l (ap spawns is) (ap syncs is) r (k ∷ ks) h.entered;
             falls = ((let z : suc i < suc (suc i) = omega arith in z), h.falls);
             open_frames = h.open_frames;
             level = (let z = h.level in omega arith);
@@ -324,7 +325,7 @@ module _ (es : List Event) (wf : IsWellFormed es) (root : ℕ) (bd : Burdens) (r
 
       -- a child that the path enters
       pub spawn_in : (site func : ℕ) → event_at es i ≡ Some (Spawn site func) → On 0 rest (suc i)
-          → Place (suc i) w [] (new_frame Spawned i site func w k.entry (entries ks) ∷ record k { running = false } ∷ ks)
+          → Place (suc i) w [] true (new_frame Spawned i site func w k.entry (entries ks) ∷ k ∷ ks)
       spawn_in site func is on =
           let l = inside es i (Spawn site func) is in
           let o = owner_in l in
@@ -336,7 +337,7 @@ module _ (es : List Event) (wf : IsWellFormed es) (root : ℕ) (bd : Burdens) (r
               first_runs on,
               (
                 h.entered.0,
-                ((λ e. cc), λ r. absurd (running_stops es wf bd rest path i (ap spawns is) on (subst (λ g. IsRunning es rest g (suc i)) (sym o) r))),
+                ((λ e. cc), λ q. absurd (running_stops es wf bd rest path i (ap spawns is) on (subst (λ g. IsRunning es rest g (suc i)) (sym o) q))),
                 keeps_in l,
               ),
             );
@@ -347,19 +348,19 @@ module _ (es : List Event) (wf : IsWellFormed es) (root : ℕ) (bd : Burdens) (r
 
       -- and one that it doesn't
       pub spawn_beside : (site func : ℕ) → event_at es i ≡ Some (Spawn site func) → (On 0 rest (suc i) → ⊥)
-          → Place (suc i) w (opened Spawned i site func w k.entry (entries ks) ∷ []) (k ∷ ks)
+          → Place (suc i) w (opened Spawned i site func w k.entry (entries ks) ∷ []) r (k ∷ ks)
       spawn_beside site func is off =
           let l = inside es i (Spawn site func) is in
           let o = owner_in l in
-          let r = running_beside es wf bd rest path i l (ap spawns is) off in
+          let q = running_beside es wf bd rest path i l (ap spawns is) off in
           record {
             entry = entry_next i (Spawn site func) is (entries (k ∷ ks)) w w h.entry (omega arith);
             beside = (off, tt);
             entered = (
               h.entered.0,
               (
-                (λ t. subst (λ g. IsRunning es rest g (suc i)) o (r.0 (subst (λ g. IsRunning es rest g i) (sym o) (h.entered.1.0 t)))),
-                λ t. h.entered.1.1 (subst (λ g. IsRunning es rest g i) o (r.1 (subst (λ g. IsRunning es rest g (suc i)) (sym o) t))),
+                (λ t. subst (λ g. IsRunning es rest g (suc i)) o (q.0 (subst (λ g. IsRunning es rest g i) (sym o) (h.entered.1.0 t)))),
+                λ t. h.entered.1.1 (subst (λ g. IsRunning es rest g i) o (q.1 (subst (λ g. IsRunning es rest g (suc i)) (sym o) t))),
               ),
               keeps_in l,
             );
@@ -374,13 +375,13 @@ module _ (es : List Event) (wf : IsWellFormed es) (root : ℕ) (bd : Burdens) (r
           let m = innermost i (let z = inside es i Ret is in omega arith) k.entry (entries ks) w h.entry in
           (m.frame, m.closes (ap returns is), m.greatest (ap returns is))
 
-    pub return_in : (k g : PathFrame) (ks : List PathFrame) → Place i w [] (k ∷ g ∷ ks) → event_at es i ≡ Some Ret
-        → Place (suc i) w [] (with_entry (returned unburdened k.entry g.entry) g ∷ ks)
-    return_in k g ks h is = record {
+    pub return_in : (r : Bool) (k g : PathFrame) (ks : List PathFrame) → Place i w [] r (k ∷ g ∷ ks) → event_at es i ≡ Some Ret
+        → Place (suc i) w [] (is_called k.entry.kind) (with_entry (returned eb k.entry g.entry) g ∷ ks)
+    return_in r k g ks h is = record {
       entry = entry_next i Ret is (entries (k ∷ g ∷ ks)) w w h.entry (omega arith);
       beside = tt;
-      entered = keeps_in k (g ∷ ks) h (inside es i Ret is);
+      entered = keeps_in r k (g ∷ ks) h (inside es i Ret is);
       falls = falls_under (first k.entry) (suc (suc i)) (entries (g ∷ ks)) (let z : first k.entry < suc i = h.falls.0 in omega arith) h.falls.1;
-      open_frames = open_state w g.entry (returned unburdened k.entry g.entry).state (returned unburdened k.entry g.entry).burdened (entries ks) h.open_frames.2;
+      open_frames = open_state w g.entry (returned eb k.entry g.entry).state (returned eb k.entry g.entry).burdened (entries ks) h.open_frames.2;
       level = (let z = h.level in omega arith);
     }

@@ -1,6 +1,6 @@
 -- Which frames run on along the path: what one event makes of that, and what it says of the positions that the path
 -- passes.
-use Rattle.std.proofs.Common.{◌≡◌, ℕ, suc, ◌<◌, ◌↔◌, Bool, true, false, refl, arith, sym, ◌∙◌, subst, inl, inr, List, length, Option, Some, None, nat_eq, slice_index_or}
+use Rattle.std.proofs.Common.{◌≡◌, ℕ, suc, ◌<◌, ◌↔◌, true, false, refl, arith, sym, ◌∙◌, subst, inl, inr, List, length, Option, Some, None, nat_eq}
 use Rattle.std.proofs.lemmas.Bool.{cases_lt, both_ways, and_parts, and_from, eqb-true, eq-eqb}
 use Rattle.spp_event.specs.declared.records.Event.{Event}
 use Rattle.spp_event.specs.declared.records.Event.TheVariants.{Strand, Call, Spawn, Ret, Sync}
@@ -16,7 +16,7 @@ use Rattle.spp_dag.proofs.Crossing.{within_owner, owner_le, waits_for, join_spec
 use Rattle.spp_dag.proofs.Ties.{path_unique}
 use Rattle.spp_dag.proofs.PathLaws.{path_calls, path_enters}
 use Rattle.spp_dag.proofs.Entries.{running_passes}
-use Rattle.spp_path.specs.Entered.{AreEntered}
+use Rattle.spp_path.specs.Entered.{IsEntered}
 
 spawns_not_syncs : (e : Option Event) → spawns e ≡ true → syncs e ≡ false
 spawns_not_syncs None h = refl
@@ -128,9 +128,9 @@ module _ (es : List Event) (wf : IsWellFormed es) (bd : Burdens) (rest : List �
       let h = shape es 1 (λ _. bd.continuation) (λ _. bd.join) wf (join es s) (join_spec es wf s (spawns_opens (event_at es s) t)).upper in
       ((path_enters es wf bd rest path s t h).0 on).0
 
-  -- the marks tell which spawned children it enters
-  pub marked : (marks : List Bool) → AreEntered es bd marks → (s : ℕ) → s < length es → spawns (event_at es s) ≡ true → (slice_index_or marks s false ≡ true) ↔ On 0 rest (suc s)
-  marked marks m s l t = (
-    λ e. ((m.1 s l).0 e).1 rest path,
-    λ on. (m.1 s l).1 (t, λ ps p. subst (λ q. On 0 q (suc s)) (path_unique es bd 0 (length es) rest ps path p) on),
+  -- what is entered lies on the path
+  pub entered_on : (s : ℕ) → spawns (event_at es s) ≡ true → IsEntered es bd s ↔ On 0 rest (suc s)
+  entered_on s t = (
+    λ e. e.1 rest path,
+    λ on. (t, λ ps p. subst (λ q. On 0 q (suc s)) (path_unique es bd 0 (length es) rest ps path p) on),
   )

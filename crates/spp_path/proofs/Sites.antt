@@ -6,7 +6,7 @@ use Rattle.spp_event.specs.declared.records.Event.TheVariants.{Strand, Call, Spa
 use Rattle.spp_event.specs.Records.{IsEventOf}
 use Rattle.spp_event.specs.Recordings.{Record, AreEventsOf}
 use Rattle.spp_frame.specs.Nesting.{AreEvents}
-use Rattle.spp_maxplus.specs.State.{unburdened}
+use Rattle.spp_maxplus.specs.declared.state.Burdens.{Burdens}
 use Rattle.spp_dag.specs.declared.stack.EntryFrame.{EntryFrame}
 use Rattle.spp_dag.specs.declared.stack.OpenFrame.{OpenFrame}
 use Rattle.spp_dag.specs.Trace.{records}
@@ -53,32 +53,43 @@ abbrev SomeBelow : ℕ → Option (List OpenFrame) → Type 0
 SomeBelow n None = Unit {0}
 SomeBelow n (Some fs) = AllBelow n fs
 
-below_next : (n i : ℕ) (e : Event) (fs : List OpenFrame) → EnterBelow n e → AllBelow n fs → SomeBelow n (advance unburdened i e fs)
-below_next n i e [] b h = tt
-below_next n i (Strand count) (f ∷ fs) b h = h
-below_next n i (Call site func) (f ∷ fs) b h = (b, h)
-below_next n i (Spawn site func) (f ∷ fs) b h = (b, h)
-below_next n i Sync (f ∷ fs) b h = h
-below_next n i Ret (f ∷ []) b h = tt
-below_next n i Ret (f ∷ g ∷ fs) b h = h.1
+below_next : (eb : Burdens) (n i : ℕ) (e : Event) (fs : List OpenFrame) → EnterBelow n e → AllBelow n fs → SomeBelow n (advance eb i e fs)
+below_next eb n i e [] b h = tt
+below_next eb n i (Strand count) (f ∷ fs) b h = h
+below_next eb n i (Call site func) (f ∷ fs) b h = (b, h)
+below_next eb n i (Spawn site func) (f ∷ fs) b h = (b, h)
+below_next eb n i Sync (f ∷ fs) b h = h
+below_next eb n i Ret (f ∷ []) b h = tt
+below_next eb n i Ret (f ∷ g ∷ fs) b h = h.1
 
-below_run : (n i : ℕ) (es : List Event) (fs gs : List OpenFrame) → AllEnterBelow n es → AllBelow n fs → run unburdened i es fs ≡ Some gs → AllBelow n gs
-below_run n i [] fs gs b h r = let e : fs ≡ gs = cc in subst (AllBelow n) e h
-below_run n i (e ∷ es) fs gs b h r = by (advance unburdened i e fs) refl (below_next n i e fs b.0 h) (λ hs. below_run n (suc i) es hs gs b.1)
+below_run : (eb : Burdens) (n i : ℕ) (es : List Event) (fs gs : List OpenFrame) → AllEnterBelow n es → AllBelow n fs → run eb i es fs ≡ Some gs → AllBelow n gs
+below_run eb n i [] fs gs b h r = let e : fs ≡ gs = cc in subst (AllBelow n) e h
+below_run eb n i (e ∷ es) fs gs b h r = by (advance eb i e fs) refl (below_next eb n i e fs b.0 h) (λ hs. below_run eb n (suc i) es hs gs b.1)
   where
-    by : (o : Option (List OpenFrame)) → advance unburdened i e fs ≡ o → SomeBelow n (advance unburdened i e fs)
-        → ((hs : List OpenFrame) → AllBelow n hs → run unburdened (suc i) es hs ≡ Some gs → AllBelow n gs) → AllBelow n gs
-    by None q t go = absurd (let z : None ≡ Some gs = ap (λ (o : Option (List OpenFrame)). elim o [ None ↦ None | Some hs ↦ run unburdened (suc i) es hs ]) (sym q) ∙ r in cc)
+    by : (o : Option (List OpenFrame)) → advance eb i e fs ≡ o → SomeBelow n (advance eb i e fs)
+        → ((hs : List OpenFrame) → AllBelow n hs → run eb (suc i) es hs ≡ Some gs → AllBelow n gs) → AllBelow n gs
+    by None q t go = absurd (let z : None ≡ Some gs = ap (λ (o : Option (List OpenFrame)). elim o [ None ↦ None | Some hs ↦ run eb (suc i) es hs ]) (sym q) ∙ r in cc)
     by (Some hs) q t go =
-        go hs (subst (SomeBelow n) q t) (ap (λ (o : Option (List OpenFrame)). elim o [ None ↦ None | Some ks ↦ run unburdened (suc i) es ks ]) (sym q) ∙ r)
+        go hs (subst (SomeBelow n) q t) (ap (λ (o : Option (List OpenFrame)). elim o [ None ↦ None | Some ks ↦ run eb (suc i) es ks ]) (sym q) ∙ r)
 
 -- the innermost of these frames
-pub entry_below : (n : ℕ) → 0 < n → (es : List Event) → AllEnterBelow n es → (root i : ℕ) (f : EntryFrame) (fs : List EntryFrame) (w : ℕ) → IsEntry es unburdened root i (f ∷ fs) w → f.site < n
-entry_below n some es enter root i f fs w at =
-    by at.0 (below_run n 0 (take i es) (root_frame root ∷ []) at.0 (first_enter n i es enter) (some, tt) at.1) at.2
+pub entry_below : (n : ℕ) → 0 < n → (es : List Event) → AllEnterBelow n es → (root : ℕ) (eb : Burdens) (i : ℕ) (f : EntryFrame) (fs : List EntryFrame) (w : ℕ) → IsEntry es eb root i (f ∷ fs) w → f.site < n
+entry_below n some es enter root eb i f fs w at =
+    by at.0 (below_run eb n 0 (take i es) (root_frame root ∷ []) at.0 (first_enter n i es enter) (some, tt) at.1) at.2
   where
     by : (os : List OpenFrame) → AllBelow n os → f ∷ fs ≡ map (entry_frame es root) os → f.site < n
     by [] h e = absurd (let z = ap (λ (x : List EntryFrame). length x) e in omega arith)
     by (o ∷ os) h e =
         let same : f ≡ entry_frame es root o = cc in
         subst (λ (x : EntryFrame). x.site < n) (sym same) h.0
+
+-- all of them
+pub entries_below : (n : ℕ) → 0 < n → (es : List Event) → AllEnterBelow n es → (root : ℕ) (eb : Burdens) (i : ℕ) (fs : List EntryFrame) (w : ℕ) → IsEntry es eb root i fs w
+    → AllByRecursion (λ (f : EntryFrame). f.site < n) fs
+entries_below n some es enter root eb i fs w at =
+    subst (λ (l : List EntryFrame). AllByRecursion (λ (f : EntryFrame). f.site < n) l) (sym at.2)
+    (by at.0 (below_run eb n 0 (take i es) (root_frame root ∷ []) at.0 (first_enter n i es enter) (some, tt) at.1))
+  where
+    by : (os : List OpenFrame) → AllBelow n os → AllByRecursion (λ (f : EntryFrame). f.site < n) (map (entry_frame es root) os)
+    by [] h = tt
+    by (o ∷ os) h = (h.0, by os h.1)

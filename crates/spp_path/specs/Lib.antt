@@ -1,4 +1,12 @@
 pub mod Entered
+pub mod Flags
 pub mod Settling
+pub mod Trails
+pub mod Ways
+pub mod Settled
+pub mod Placing
 pub mod Spans
 pub mod Rows
+pub mod Outside
+pub mod Parts
+pub mod Marks

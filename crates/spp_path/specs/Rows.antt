@@ -1,21 +1,26 @@
 -- What the pass that sums up the rows of the path has between two events, and what each event does to it.
-use Rattle.std.specs.Prelude.{◌≡◌, ℕ, ◌+◌, ◌-◌, ◌<◌, ◌≤◌, ◌^◌, Bool, true, false, not, ◌&&◌, cond, nat_eq, List, [], ◌∷◌, length, reverse, Ok}
+use Rattle.std.specs.Prelude.{◌≡◌, ℕ, ◌+◌, ◌-◌, ◌<◌, ◌≤◌, ◌^◌, Bool, true, false, not, cond, List, [], ◌∷◌, length, reverse, Ok}
 use Rattle.spp_event.specs.declared.records.Event.{Event}
 use Rattle.spp_event.specs.Records.{IsEventOf}
 use Rattle.spp_event.specs.Recordings.{Recording, record_at}
 use Rattle.spp_dag.specs.declared.row.Row.{Row}
+use Rattle.spp_dag.specs.declared.stack.FrameKind.{FrameKind}
+use Rattle.spp_dag.specs.declared.stack.FrameKind.TheVariants.{Root}
 use Rattle.spp_dag.specs.Shares.{plus}
 use Rattle.spp_site.specs.Rows.{Fits}
 use Rattle.spp_site.specs.Table.{Sums, row_at, empty, IsAdded}
 use Rattle.spp_site.specs.Marks.{is_marked, with_mark, without}
+use Rattle.spp_path.specs.declared.trail.Trail.{Trail}
+use Rattle.spp_path.specs.Flags.{is_called}
+use Rattle.spp_path.specs.Trails.{running_trail, skip_trail, leave_trail}
 use Rattle.spp_path.specs.declared.rows.EnteredFrame.{EnteredFrame}
 use Rattle.spp_path.specs.declared.rows.PathRows.{PathRows}
 
--- the open frames that the path enters, innermost first; how many frames are open within these that it doesn't enter;
--- the sites by which the entered ones were entered, and the functions that they run; the work so far; and the table
+-- the open frames that the path enters, innermost first; where the path goes; the sites by which these frames were
+-- entered, and the functions that they run; the work so far; and the table
 pub record Told : Type 0 where
   pub frames : List EnteredFrame
-  pub skipped : ℕ
+  pub trail : Trail
   pub open_sites : ℕ → Bool
   pub open_funcs : ℕ → Bool
   pub work : ℕ
@@ -24,7 +29,7 @@ pub record Told : Type 0 where
 abbrev pub told : PathRows → Told
 told s = record {
   frames = reverse s.frames.items;
-  skipped = s.skipped;
+  trail = s.trail;
   open_sites = is_marked s.open_sites;
   open_funcs = is_marked s.open_funcs;
   work = s.work;
@@ -62,11 +67,11 @@ start_told root = record {
     top_site = true;
     top_caller = true;
     top_func = true;
-    running = true;
+    kind = Root;
     work_before = 0;
     local = 0;
   } ∷ [];
-  skipped = 0;
+  trail = record { skipped = 0; running = true };
   open_sites = λ site. false;
   open_funcs = with_mark root (λ func. false);
   work = 0;
@@ -74,14 +79,6 @@ start_told root = record {
 }
 
 -- ---- a strand, and a sync
-
-abbrev pub runs_in : List EnteredFrame → Bool
-runs_in [] = false
-runs_in (f ∷ fs) = f.running
-
--- the innermost open frame is entered, and runs on along the path
-abbrev pub runs : Told → Bool
-runs t = nat_eq t.skipped 0 && runs_in t.frames
 
 -- a strand on the path is added to the innermost frame
 abbrev pub strand_frames : ℕ → List EnteredFrame → List EnteredFrame
@@ -106,63 +103,47 @@ pub record CanAdd (count : ℕ) (t : Told) : Type 0 where
   pub local : local_of t.frames + count < 2 ^ 128
   pub work : t.work + count < 2 ^ 128
 
--- the innermost frame runs on, or doesn't
-abbrev pub set_running : Bool → List EnteredFrame → List EnteredFrame
-set_running b [] = []
-set_running b (f ∷ fs) = record f { running = b } ∷ fs
-
-abbrev pub running_told : Bool → Told → Told
-running_told b t = record t { frames = set_running b t.frames }
-
--- the innermost entered frame has waited for its children
-abbrev pub sync_told : Told → Told
-sync_told t = running_told true t
+-- the innermost entered frame runs on, or doesn't
+abbrev pub onward_told : Bool → Told → Told
+onward_told b t = record t { trail = running_trail b t.trail }
 
 -- ---- a call, and a spawn
 
--- The frame that the frame f opens. It is a top frame by site where no open frame was entered by its site, by caller
--- where f is one by function, and by function where no open frame runs its function.
-abbrev pub entered_frame : ℕ → ℕ → Told → EnteredFrame → EnteredFrame
-entered_frame site func t f = record {
+-- The frame that the frame f opens, by a call or a spawn. It is a top frame by site where no open frame was entered by
+-- its site, by caller where f is one by function, and by function where no open frame runs its function.
+abbrev pub entered_frame : FrameKind → ℕ → ℕ → Told → EnteredFrame → EnteredFrame
+entered_frame kind site func t f = record {
   site = site;
   func = func;
   top_site = not (t.open_sites site);
   top_caller = f.top_func;
   top_func = not (t.open_funcs func);
-  running = true;
+  kind = kind;
   work_before = t.work;
   local = 0;
 }
 
-abbrev pub enter_frames : ℕ → ℕ → Told → List EnteredFrame → List EnteredFrame
-enter_frames site func t [] = []
-enter_frames site func t (f ∷ fs) = entered_frame site func t f ∷ f ∷ fs
+abbrev pub enter_frames : FrameKind → ℕ → ℕ → Told → List EnteredFrame → List EnteredFrame
+enter_frames kind site func t [] = []
+enter_frames kind site func t (f ∷ fs) = entered_frame kind site func t f ∷ f ∷ fs
 
 -- the innermost frame opens one that the path enters
-abbrev pub enter_told : ℕ → ℕ → Told → Told
-enter_told site func t = record t {
-  frames = enter_frames site func t t.frames;
+abbrev pub enter_told : FrameKind → ℕ → ℕ → Told → Told
+enter_told kind site func t = record t {
+  frames = enter_frames kind site func t t.frames;
   open_sites = with_mark site t.open_sites;
   open_funcs = with_mark func t.open_funcs;
 }
 
--- the innermost frame doesn't run on while the path is in its child
-abbrev pub wait_told : Told → Told
-wait_told t = running_told false t
-
--- a frame is open that the path doesn't enter
+-- it opens one that the path doesn't enter
 abbrev pub skip_told : Told → Told
-skip_told t = record t { skipped = t.skipped + 1 }
-
--- one more can be open
-abbrev pub CanSkip : Told → Type 0
-CanSkip t = t.skipped + 1 < 2 ^ 32
+skip_told t = record t { trail = skip_trail t.trail }
 
 -- ---- a return
 
 -- a frame has closed that the path doesn't enter
 abbrev pub leave_told : Told → Told
-leave_told t = record t { skipped = t.skipped - 1 }
+leave_told t = record t { trail = leave_trail t.trail }
 
 abbrev pub frames_below : List EnteredFrame → List EnteredFrame
 frames_below [] = []
@@ -178,7 +159,7 @@ pub record CanReturn (f : EnteredFrame) (span : ℕ) (t : Told) : Type 0 where
 -- it has closed, and the table has its row
 pub record IsReturned (f : EnteredFrame) (span : ℕ) (old new : Told) : Type 0 where
   pub frames : new.frames ≡ frames_below old.frames
-  pub skipped : new.skipped ≡ old.skipped
+  pub trail : new.trail ≡ running_trail (is_called f.kind) old.trail
   pub open_sites : new.open_sites ≡ without f.top_site f.site old.open_sites
   pub open_funcs : new.open_funcs ≡ without f.top_func f.func old.open_funcs
   pub work : new.work ≡ old.work

@@ -2,14 +2,28 @@
 //! enters, and its rows by call site. Its span is that of the run; Cilkprof calls the same numbers those "on the span".
 //! The path that is greatest under burdens is found from its own choices in the same way.
 //!
-//! Which children the path enters is settled from the end backwards, by the choices of the run alone, with a byte for
-//! each event. A second reading of the events keeps the weights of each open frame, 48 bytes, for its span, and 48 bytes
-//! more of a frame on the path.
+//! Which children the path enters is settled from the end backwards, by the choices of the run alone. A second reading of
+//! the events keeps the weights of each open frame, 48 bytes, for its span, and 48 bytes more of a frame on the path.
+//!
+//! Both go by the parts of a trace too: [`settle`] goes back over the choices of all parts, and tells of each what it
+//! needs to know of the path, so that [`part_rows`] can read the parts in any order.
 #![tactic(auto)]
 
+mod entered;
+mod flags;
+mod marking;
+mod part;
+mod placing;
 mod rows;
+mod settled;
 mod settling;
 mod spans;
+mod trail;
+mod whole;
 
-pub use rows::path_table;
-pub use settling::settle;
+pub use flags::{Flag, Flags};
+pub use marking::mark_part;
+pub use part::part_rows;
+pub use settled::{Settled, Under, settle};
+pub use settling::settle_whole;
+pub use whole::path_table;

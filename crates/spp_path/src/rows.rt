@@ -1,40 +1,50 @@
-//! The rows of a run on a path: a pass over the events of a trace that is known to be well-formed, where it is known
-//! which spawned children the path enters.
+//! The rows of a run on a path, as a pass over its events sums them up. Where the pass is told which spawned children the
+//! path enters, it knows of each event whether it is on the path.
 
-ghost use Rattle.std.specs.Prelude.{◌≡◌, ◌<◌, ◌≤◌, ◌&&◌, nat_eq, true, false, length, OnOk, IfOk};
-ghost use Rattle.spp_frame.specs.Nesting.{IsWellFormed};
-ghost use Rattle.spp_maxplus.specs.declared.state.Burdens.{Burdens};
+ghost use Rattle.std.specs.Prelude.{◌≡◌, ◌<◌, ◌≤◌, ◌&&◌, ◌∷◌, nat_eq, true, false, List, OnOk, IfOk};
+ghost use Rattle.spp_dag.specs.declared.stack.FrameKind.TheVariants.{Called, Spawned};
+ghost use Rattle.spp_dag.specs.declared.stack.EntryFrame.{EntryFrame as FrameValue};
 ghost use Rattle.spp_dag.specs.Shares.{plus};
-ghost use Rattle.spp_site.specs.Rows.{frame_row};
-ghost use Rattle.spp_path.specs.Entered.{AreMarks};
-ghost use Rattle.spp_site.specs.Profiles.{IsPathTable};
+ghost use Rattle.spp_dag.specs.Steps.{strand_row};
+ghost use Rattle.spp_site.specs.Rows.{Fits, frame_row};
+ghost use Rattle.spp_site.specs.Profiles.{key_row};
+ghost use Rattle.spp_stack.specs.Chain.{HasFrames};
+ghost use Rattle.spp_path.specs.declared.rows.EnteredFrame.{EnteredFrame as FrameOnPath};
+ghost use Rattle.spp_path.specs.Outside.{
+  path_frame,
+  path_frames,
+  frame_key,
+  IsBegun,
+  IsOutside,
+  IsReached,
+  AreStrandsAdded,
+  AreBelow,
+  FitsOpen,
+  IsSuspended,
+};
+ghost use Rattle.spp_path.specs.Trails.{runs, CanSkip};
 ghost use Rattle.spp_path.specs.Rows.{
   told,
   entered_row,
   start_told,
-  runs,
   strand_told,
   beside_told,
   enter_told,
   skip_told,
-  wait_told,
-  sync_told,
+  onward_told,
   leave_told,
   OnTop,
   IsOpen,
-  running_told,
-  IsRead,
   CanAdd,
-  CanSkip,
   CanReturn,
   CanFinish,
   IsReturned,
 };
 
-use crate::spans::OpenSpans;
-use spp_dag::FrameKind;
-use spp_event::{Event, Trace};
-use spp_site::{ClosedFrame, Marks, Table};
+use crate::trail::Trail;
+use spp_dag::{FrameKind, Row};
+use spp_site::{ClosedFrame, Marks, Share, Table};
+use spp_stack::{Entry, Node};
 use std::alloc::{AllocError, Global};
 
 /// An open frame that the path enters.
@@ -50,8 +60,8 @@ struct EnteredFrame {
     top_caller: bool,
     /// No frame that encloses it runs its function.
     top_func: bool,
-    /// The frame runs on along the path: it waits for no child that the path enters.
-    running: bool,
+    /// How it was entered: the frame below it runs on along the path if it called it, and waits for it if it spawned it.
+    kind: FrameKind,
     /// The counts of all strands of the trace before its first event.
     work_before: u128,
     /// The counts of the path's strands directly in it.
@@ -59,6 +69,23 @@ struct EnteredFrame {
 }
 
 impl EnteredFrame {
+    /// A frame that was open before, with no strands of its own yet.
+    fn entered(node: &Node) -> Self
+        ensures { result ≡ path_frame node.now.frame node.now.top_func }
+    {
+        let frame = node.frame;
+        EnteredFrame {
+            site: frame.site,
+            func: frame.func,
+            top_site: frame.top_site,
+            top_caller: frame.top_caller,
+            top_func: node.top_func,
+            kind: frame.kind,
+            work_before: frame.before,
+            local: 0,
+        }
+    }
+
     /// The frame as the table counts it, where it closes with that span when `work` is the work so far.
     #[inline(always)]
     fn closed(&self, work: u128, span: u128) -> ClosedFrame
@@ -73,16 +100,37 @@ impl EnteredFrame {
             top_caller: self.top_caller,
         }
     }
+
+    /// Adds the counts of its strands to its row, where there are any.
+    fn add_local(&self, table: &mut Table) -> Result<(), AllocError>
+        requires fits { Fits (plus (key_row table.old (frame_key self.now)) (strand_row self.now.local)) }
+        requires site { self.now.site < 65536 }
+        ensures { OnOk result (AreStrandsAdded table.old table.new (frame_key self.now) self.now.local) }
+    {
+        let local = self.local;
+        if local == 0 {
+            return Ok(());
+        }
+        let row = Row {
+            local,
+            ..Row::default()
+        };
+        match self.kind {
+            FrameKind::Root => table.add_root(&row),
+            FrameKind::Called | FrameKind::Spawned => table.add(self.site, &row)?,
+        }
+        Ok(())
+    }
 }
 
 /// The pass, between two events.
 #[derive(Drop)]
-struct PathRows {
+pub(crate) struct PathRows {
     /// The open frames that the path enters, the root first. They are changed where they lie, since to move one costs
     /// more than all else.
     frames: Vec<EnteredFrame>,
-    /// How many frames are open that the path doesn't enter. All of them lie within the innermost entered frame.
-    skipped: u32,
+    /// Where the path goes.
+    trail: Trail,
     /// The sites by which the open frames that the path enters were entered.
     open_sites: Marks,
     /// The functions that they run.
@@ -95,7 +143,7 @@ struct PathRows {
 
 impl PathRows {
     /// The pass before the first event, where the root frame runs `root`.
-    fn new(alloc: Global, root: u32) -> Result<Self, AllocError>
+    pub(crate) fn new(alloc: Global, root: u32) -> Result<Self, AllocError>
         ensures { IfOk result (λ s. told s ≡ start_told root) }
     {
         let mut open_funcs = Marks::new(alloc);
@@ -107,13 +155,13 @@ impl PathRows {
             top_site: true,
             top_caller: true,
             top_func: true,
-            running: true,
+            kind: FrameKind::Root,
             work_before: 0,
             local: 0,
         })?;
         Ok(PathRows {
             frames,
-            skipped: 0,
+            trail: Trail::new(0, true),
             open_sites: Marks::new(alloc),
             open_funcs,
             work: 0,
@@ -121,46 +169,65 @@ impl PathRows {
         })
     }
 
-    /// Whether the innermost open frame is entered, and runs on along the path.
-    #[inline(always)]
-    fn runs(&self) -> bool
-        requires { IsOpen (told self.now) }
-        ensures { result ≡ runs (told self.now) }
+    /// The pass before the first event of a part, where the path enters these open frames and goes on so. It has come to
+    /// the innermost of them; the others are outside.
+    pub(crate) fn within(alloc: Global, live: &Entry<'_>, trail: Trail) -> Result<Self, AllocError>
+        ensures { IfOk result (λ s. (f : FrameValue) (fs : List FrameValue) → HasFrames live.now (f ∷ fs) → IsBegun f fs live.now.work trail (told s)) }
     {
-        self.skipped == 0 && self.frames[self.frames.len() - 1].running
+        let (open_sites, open_funcs) = live.marks(alloc)?;
+        let mut frames = Vec::new(alloc);
+        frames.push(EnteredFrame::entered(live.innermost()))?;
+        Ok(PathRows {
+            frames,
+            trail,
+            open_sites,
+            open_funcs,
+            work: live.work(),
+            table: Table::new(alloc),
+        })
     }
 
-    /// Whether the innermost entered frame runs on from now.
-    #[inline(always)]
-    fn set_running(&mut self, running: bool)
+    /// Comes to the innermost of the frames outside, if one alone has been come to; gives those that are left outside.
+    pub(crate) fn reach<'e>(
+        &mut self,
+        outside: Option<Entry<'e>>,
+    ) -> Result<Option<Entry<'e>>, AllocError>
         requires { IsOpen (told self.old) }
-        ensures { told self.new ≡ running_told running (told self.old) }
+        ensures reached { IfOk result (λ left. (fs : List FrameValue) → IsOutside outside.entry fs → IsReached FrameOnPath path_frames (told self.old).frames (told self.new).frames fs left) }
+        ensures others { told self.new ≡ record (told self.old) { frames = (told self.new).frames } }
     {
-        let last = self.frames.len() - 1;
-        self.frames[last].running = running;
+        if self.frames.len() > 1 {
+            return Ok(outside);
+        }
+        let Some(entry) = outside else {
+            return Ok(None);
+        };
+        self.frames
+            .insert(0, EnteredFrame::entered(entry.innermost()))?;
+        Ok(entry.below())
     }
 
     /// A strand of that many instructions.
     #[inline(always)]
-    fn strand(&mut self, count: u64)
+    pub(crate) fn strand(&mut self, count: u64)
         requires open { IsOpen (told self.old) }
         requires fits { CanAdd count (told self.old) }
-        ensures on_path { runs (told self.old) ≡ true → told self.new ≡ strand_told count (told self.old) }
-        ensures beside { runs (told self.old) ≡ false → told self.new ≡ beside_told count (told self.old) }
+        ensures on_path { runs self.old.trail ≡ true → told self.new ≡ strand_told count (told self.old) }
+        ensures beside { runs self.old.trail ≡ false → told self.new ≡ beside_told count (told self.old) }
     {
         let count = u128::from(count);
         self.work += count;
-        if self.runs() {
+        if self.trail.runs() {
             let last = self.frames.len() - 1;
             self.frames[last].local += count;
         }
     }
 
-    /// Opens a frame that the path enters, from the innermost one.
+    /// Opens a frame that the path enters, from the innermost one, by a call or a spawn.
     #[inline(always)]
-    fn enter(&mut self, site: u32, func: u32) -> Result<(), AllocError>
+    fn enter(&mut self, kind: FrameKind, site: u32, func: u32) -> Result<(), AllocError>
         requires { IsOpen (told self.old) }
-        ensures { OnOk result (told self.new ≡ enter_told site func (told self.old)) }
+        ensures { OnOk result (told self.new ≡ enter_told kind site func (told self.old)) }
     {
         let frame = EnteredFrame {
             site,
@@ -168,7 +235,7 @@ impl PathRows {
             top_site: !self.open_sites.has(site),
             top_caller: self.frames[self.frames.len() - 1].top_func,
             top_func: !self.open_funcs.has(func),
-            running: true,
+            kind,
             work_before: self.work,
             local: 0,
         };
@@ -180,56 +247,49 @@ impl PathRows {
 
     /// A call.
     #[inline(always)]
-    fn call(&mut self, site: u32, func: u32) -> Result<(), AllocError>
+    pub(crate) fn call(&mut self, site: u32, func: u32) -> Result<(), AllocError>
         requires open { IsOpen (told self.old) }
-        requires room { CanSkip (told self.old) }
-        ensures enters { OnOk result (runs (told self.old) ≡ true → told self.new ≡ enter_told site func (told self.old)) }
-        ensures skips { OnOk result (runs (told self.old) ≡ false → told self.new ≡ skip_told (told self.old)) }
+        requires room { CanSkip self.old.trail }
+        ensures enters { OnOk result (runs self.old.trail ≡ true → told self.new ≡ enter_told Called site func (told self.old)) }
+        ensures skips { OnOk result (runs self.old.trail ≡ false → told self.new ≡ skip_told (told self.old)) }
     {
-        if !self.runs() {
-            self.skipped += 1;
+        if !self.trail.call() {
             return Ok(());
         }
-        self.enter(site, func)
+        self.enter(FrameKind::Called, site, func)
     }
 
     /// A spawn of a child that the path enters, or doesn't.
     #[inline(always)]
-    fn spawn(&mut self, entered: bool, site: u32, func: u32) -> Result<(), AllocError>
+    pub(crate) fn spawn(&mut self, entered: bool, site: u32, func: u32) -> Result<(), AllocError>
         requires open { IsOpen (told self.old) }
-        requires room { CanSkip (told self.old) }
-        ensures enters { OnOk result ((nat_eq self.old.skipped 0 && entered) ≡ true → told self.new ≡ enter_told site func (wait_told (told self.old))) }
-        ensures skips { OnOk result ((nat_eq self.old.skipped 0 && entered) ≡ false → told self.new ≡ skip_told (told self.old)) }
+        requires room { CanSkip self.old.trail }
+        ensures enters { OnOk result ((nat_eq self.old.trail.skipped 0 && entered) ≡ true → told self.new ≡ enter_told Spawned site func (onward_told true (told self.old))) }
+        ensures skips { OnOk result ((nat_eq self.old.trail.skipped 0 && entered) ≡ false → told self.new ≡ skip_told (told self.old)) }
     {
-        if self.skipped == 0 && entered {
-            self.set_running(false);
-            return self.enter(site, func);
+        if !self.trail.spawn(entered) {
+            return Ok(());
         }
-        self.skipped += 1;
-        Ok(())
+        self.enter(FrameKind::Spawned, site, func)
     }
 
     /// A sync.
     #[inline(always)]
-    fn sync(&mut self)
-        requires { IsOpen (told self.old) }
-        ensures waited { self.old.skipped ≡ 0 → told self.new ≡ sync_told (told self.old) }
-        ensures skipped { 0 < self.old.skipped → told self.new ≡ told self.old }
+    pub(crate) fn sync(&mut self)
+        ensures waited { self.old.trail.skipped ≡ 0 → told self.new ≡ onward_told true (told self.old) }
+        ensures skipped { 0 < self.old.trail.skipped → told self.new ≡ told self.old }
     {
-        if self.skipped == 0 {
-            self.set_running(true);
-        }
+        self.trail.sync();
     }
 
     /// A return of a frame that isn't the root; `span` is the span with which the innermost open frame closes.
     #[inline(always)]
-    fn ret(&mut self, span: u128) -> Result<(), AllocError>
-        requires { self.old.skipped ≡ 0 → OnTop (λ f. CanReturn f span (told self.old)) (told self.old).frames }
-        ensures returned { OnOk result (self.old.skipped ≡ 0 → OnTop (λ f. IsReturned f span (told self.old) (told self.new)) (told self.old).frames) }
-        ensures skipped { OnOk result (0 < self.old.skipped → told self.new ≡ leave_told (told self.old)) }
+    pub(crate) fn ret(&mut self, span: u128) -> Result<(), AllocError>
+        requires { self.old.trail.skipped ≡ 0 → OnTop (λ f. CanReturn f span (told self.old)) (told self.old).frames }
+        ensures returned { OnOk result (self.old.trail.skipped ≡ 0 → OnTop (λ f. IsReturned f span (told self.old) (told self.new)) (told self.old).frames) }
+        ensures skipped { OnOk result (0 < self.old.trail.skipped → told self.new ≡ leave_told (told self.old)) }
     {
-        if self.skipped > 0 {
-            self.skipped -= 1;
+        if !self.trail.leave() {
             return Ok(());
         }
         self.close(span)
@@ -247,12 +307,13 @@ impl PathRows {
             .close(child.site, &child.closed(self.work, span))?;
         self.open_sites.remove_if(child.top_site, child.site);
         self.open_funcs.remove_if(child.top_func, child.func);
+        self.trail.resume(child.kind);
         self.frames.truncate(last);
         Ok(())
     }
 
     /// The table, where the last open frame, the root, closes with that span.
-    fn finish(self, span: u128) -> Table
+    pub(crate) fn finish(self, span: u128) -> Table
         requires { OnTop (λ f. CanFinish f span (told self)) (told self).frames }
         ensures { OnTop (λ f. result ≡ record self.table { root = plus self.table.root (entered_row f self.work span) }) (told self).frames }
     {
@@ -265,60 +326,22 @@ impl PathRows {
         table.add_root(&root.closed(work, span).row());
         table
     }
-}
 
-/// The event at a position of a trace that is known to be well-formed.
-#[inline(always)]
-fn known_event(trace: &Trace<'_>, at: u32) -> Event
-    requires formed { IsWellFormed trace.now.records }
-    requires within { at < length trace.now.records }
-    ensures { IsRead trace.now at result }
-{
-    trace.known_event(at)
-}
-
-/// The rows of a run on the path that enters these spawned children: `entered` has a mark for each event, true at the
-/// spawns of the children that the first greatest path under some burdens enters. It is the table of that path, whatever
-/// the burdens are; spans have none. The trace is known to be well-formed.
-///
-/// The events are read once, each in constant time, amortized, behind a step for each site and function. The memory is
-/// linear in the number of frames that are open at a time, and in the numbers of sites and functions.
-///
-/// # Errors
-///
-/// Where a growth was refused.
-pub fn path_table(alloc: Global, trace: &Trace<'_>, entered: &[bool]) -> Result<Table, AllocError>
-    requires formed { IsWellFormed trace.now.records }
-    requires marks { (burdens : Burdens) × AreMarks trace.now burdens entered.now }
-    ensures { IfOk result (λ t. (burdens : Burdens) → AreMarks trace.now burdens entered.now → IsPathTable trace.now burdens t) }
-{
-    let count = trace.count();
-    let mut spans = OpenSpans::new(alloc)?;
-    let mut rows = PathRows::new(alloc, trace.root())?;
-    for at in 0..count {
-        match known_event(trace, at) {
-            Event::Strand { count } => {
-                spans.strand(count);
-                rows.strand(count);
-            }
-            Event::Call { site, func } => {
-                spans.open(FrameKind::Called)?;
-                rows.call(site, func)?;
-            }
-            Event::Spawn { site, func } => {
-                spans.open(FrameKind::Spawned)?;
-                rows.spawn(entered[at as usize], site, func)?;
-            }
-            Event::Ret => {
-                let span = spans.innermost();
-                spans.ret(span);
-                rows.ret(span)?;
-            }
-            Event::Sync => {
-                spans.sync();
-                rows.sync();
-            }
+    /// The share of a part, at whose end these frames are open. The strands of those that are still open are in their
+    /// rows.
+    pub(crate) fn suspend(self) -> Result<Share, AllocError>
+        requires fits { FitsOpen (told self) }
+        requires sites { AreBelow 65536 (told self).frames }
+        ensures { IfOk result (λ share. IsSuspended (told self) share) }
+    {
+        let PathRows {
+            frames,
+            mut table,
+            ..
+        } = self;
+        for frame in &frames {
+            frame.add_local(&mut table)?;
         }
+        Ok(table.into_share())
     }
-    Ok(rows.finish(spans.innermost()))
 }

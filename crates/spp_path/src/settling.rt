@@ -1,19 +1,29 @@
-//! The path of a run is settled from its end: which spawned children it enters.
+//! A path is settled from its end: which spawned children it enters.
 
-ghost use Rattle.std.specs.Prelude.{◌≡◌, ℕ, List, length, set, true, IfOk};
+ghost use Rattle.std.specs.Prelude.{◌≡◌, ℕ, suc, List, length, IfOk, OnOk};
 ghost use Rattle.spp_event.specs.declared.records.Event.{Event};
 ghost use Rattle.spp_dag.specs.Trace.{IsWellFormed};
+ghost use Rattle.spp_dag.specs.Dag.{IsPath};
 ghost use Rattle.spp_dag.specs.ChoiceLists.{AreEnds, AreJoins};
 ghost use Rattle.spp_maxplus.specs.declared.state.Burdens.{Burdens};
-ghost use Rattle.spp_path.specs.Entered.{AreEntered};
-ghost use Rattle.spp_path.specs.Settling.{last, later, ended, runs_to};
+ghost use Rattle.spp_path.specs.Entered.{AreEnteredIn};
+ghost use Rattle.spp_path.specs.Ways.{HasCome, AreNotesIn};
+ghost use Rattle.spp_path.specs.Settling.{
+  last,
+  later,
+  ended,
+  runs_to,
+  IsEntering,
+  IsLeaving,
+  IsJoined,
+};
 
 use spp_dag::{Choice, End};
 use std::alloc::{AllocError, Global};
 
-/// How the path of a run goes, told from the end backwards.
+/// How a path goes, told from the end backwards.
 #[derive(Clone, Copy, Debug)]
-enum Onward {
+pub(crate) enum Onward {
     /// It comes to here.
     Live,
     /// Here is a child that it doesn't enter, spawned at that position.
@@ -65,57 +75,109 @@ fn pass(end: End, onward: Onward) -> Onward
     }
 }
 
-/// Marks the child spawned at that position.
-fn mark(marks: &mut Vec<bool>, spawn: u32)
-    ensures { marks.new.items ≡ set marks.old.items spawn true }
-{
-    let at = spawn as usize;
-    // The spawns of a run lie within its events.
-    if at < marks.len() {
-        marks[at] = true;
-    }
+/// The way back along a path, from its end.
+#[derive(Drop)]
+pub(crate) struct WayBack {
+    /// How the path goes from here on.
+    pub(crate) onward: Onward,
+    /// Where the children were spawned that were found to be entered, and were not passed yet: rising.
+    ahead: Vec<u32>,
+    /// Where the others that were found were spawned: falling.
+    behind: Vec<u32>,
 }
 
-/// Which spawned children the path of a run enters, told by the returns of its spawned children and the choices of that
-/// path where they join: one mark for each event, true at the spawns of those children. `count` is the number of events.
-/// It goes over the choices once, from the last to the first, with no stack: it takes time linear in the numbers of
-/// events and choices, and memory for the marks alone.
-///
-/// # Errors
-///
-/// Where an allocation was refused.
-pub fn settle(
-    alloc: Global,
-    count: u32,
-    ends: &[End],
-    joins: &[Choice],
-) -> Result<Vec<bool>, AllocError>
-    ensures length { IfOk result (λ marks. length marks.items ≡ count) }
-    ensures entered { IfOk result (λ marks. (es : List Event) (burdens : Burdens) → IsWellFormed es → length es ≡ count → AreEnds es ends.now → AreJoins es burdens joins.now → AreEntered es burdens marks.items) }
-{
-    let mut marks = vec![in alloc; false; count as usize]?;
-    let mut ends_left = ends.len();
-    let mut joins_left = joins.len();
-    let mut onward = Onward::Live;
-    while let Some(note) = last_note(&ends[..ends_left], &joins[..joins_left]) {
-        match note {
-            Note::End(end) => {
-                ends_left -= 1;
-                onward = pass(end, onward);
+impl WayBack {
+    /// The way back from the end, of which nothing is done.
+    pub(crate) fn new(alloc: Global) -> Self
+        ensures { (es : List Event) (burdens : Burdens) (ps : List ℕ) → IsWellFormed es → IsPath es burdens 0 (length es) ps → HasCome es ps (suc (length es)) result }
+    {
+        WayBack {
+            onward: Onward::Live,
+            ahead: Vec::new(alloc),
+            behind: Vec::new(alloc),
+        }
+    }
+
+    /// The children that were spawned at `at` or after it are passed.
+    fn leave(&mut self, at: u32) -> Result<(), AllocError>
+        ensures { OnOk result (IsLeaving at self.old self.new) }
+    {
+        while let Some(spawn) = self.ahead.last().copied() {
+            if spawn < at {
+                break;
             }
-            Note::Join(join) => {
-                joins_left -= 1;
-                if comes_to(join.at, onward) {
-                    onward = match join.taken {
-                        Some(spawn) => {
-                            mark(&mut marks, spawn);
-                            Onward::Seek { spawn }
-                        }
-                        None => Onward::Live,
-                    };
+            self.behind.push(spawn)?;
+            self.ahead.pop();
+        }
+        Ok(())
+    }
+
+    /// The child spawned there is entered.
+    fn enter(&mut self, spawn: u32) -> Result<(), AllocError>
+        ensures { OnOk result (IsEntering spawn self.old self.new) }
+    {
+        self.leave(spawn)?;
+        self.ahead.push(spawn)?;
+        self.onward = Onward::Seek { spawn };
+        Ok(())
+    }
+
+    /// A place where children join is taken.
+    fn join(&mut self, join: Choice) -> Result<(), AllocError>
+        ensures { OnOk result (IsJoined join self.old self.new) }
+    {
+        if comes_to(join.at, self.onward) {
+            match join.taken {
+                Some(spawn) => self.enter(spawn)?,
+                None => self.onward = Onward::Live,
+            }
+        }
+        Ok(())
+    }
+
+    /// The choices of a range are taken, from the last to the first.
+    pub(crate) fn back_over(&mut self, ends: &[End], joins: &[Choice]) -> Result<(), AllocError>
+        ensures { OnOk result ((es : List Event) (burdens : Burdens) (ps : List ℕ) (from end : ℕ) → IsWellFormed es → IsPath es burdens 0 (length es) ps → AreNotesIn es burdens from end ends.now joins.now → HasCome es ps end self.old → HasCome es ps from self.new) }
+    {
+        let mut ends_left = ends.len();
+        let mut joins_left = joins.len();
+        while let Some(note) = last_note(&ends[..ends_left], &joins[..joins_left]) {
+            match note {
+                Note::End(end) => {
+                    ends_left -= 1;
+                    self.onward = pass(end, self.onward);
+                }
+                Note::Join(join) => {
+                    joins_left -= 1;
+                    self.join(join)?;
                 }
             }
         }
+        Ok(())
     }
-    Ok(marks)
+
+    /// Where the children were spawned that were found, rising, once all choices were taken.
+    pub(crate) fn finish(mut self) -> Result<Vec<u32>, AllocError>
+        ensures { IfOk result (λ spawns. (es : List Event) (burdens : Burdens) (ps : List ℕ) → IsWellFormed es → IsPath es burdens 0 (length es) ps → HasCome es ps 0 self → AreEnteredIn es burdens 0 (length es) spawns.items) }
+    {
+        self.leave(0)?;
+        let WayBack { mut behind, .. } = self;
+        behind.reverse();
+        Ok(behind)
+    }
+}
+
+/// Where the spawned children of a run that a path enters are spawned, rising, told by the returns of its spawned children
+/// and the choices of that path where they join, at the end of the run too. It goes over the choices once, from the last
+/// to the first; it takes time linear in their number, and memory for the children that are entered.
+///
+/// # Errors
+///
+/// Where a growth was refused.
+pub fn settle_whole(alloc: Global, ends: &[End], joins: &[Choice]) -> Result<Vec<u32>, AllocError>
+    ensures { IfOk result (λ spawns. (es : List Event) (burdens : Burdens) → IsWellFormed es → AreEnds es ends.now → AreJoins es burdens joins.now → AreEnteredIn es burdens 0 (length es) spawns.items) }
+{
+    let mut way = WayBack::new(alloc);
+    way.back_over(ends, joins)?;
+    way.finish()
 }

@@ -1,6 +1,10 @@
 //! The spans of the open frames of a run: the stack machine without burdens, and with weights alone.
 
-ghost use Rattle.std.specs.Prelude.{◌≡◌, [], ◌∷◌, IfOk, OnOk};
+ghost use Rattle.std.specs.Prelude.{◌≡◌, List, [], ◌∷◌, IfOk, OnOk};
+ghost use Rattle.spp_dag.specs.declared.stack.EntryFrame.{EntryFrame as FrameValue};
+ghost use Rattle.spp_stack.specs.Chain.{HasFrames};
+ghost use Rattle.spp_path.specs.declared.spans.OpenSpan.{OpenSpan as OpenSpanValue};
+ghost use Rattle.spp_path.specs.Outside.{entered_span, entered_spans, IsOutside, IsReached};
 ghost use Rattle.spp_maxplus.specs.Weights.{close as close_of};
 ghost use Rattle.spp_dag.specs.declared.stack.FrameKind.TheVariants.{Root};
 ghost use Rattle.spp_path.specs.Spans.{
@@ -20,6 +24,7 @@ ghost use Rattle.spp_path.specs.Spans.{
 
 use spp_dag::FrameKind;
 use spp_maxplus::{Burdens, ChildKind, Weights};
+use spp_stack::{Entry, Node};
 use std::alloc::{AllocError, Global};
 
 /// An open frame, as far as its span goes.
@@ -40,6 +45,16 @@ impl OpenSpan {
         OpenSpan {
             weights: Weights::start(),
             kind,
+        }
+    }
+
+    /// A frame that was open before.
+    fn entered(node: &Node) -> Self
+        ensures { result ≡ entered_span node.now.frame }
+    {
+        OpenSpan {
+            weights: Weights::of(node.frame.state),
+            kind: node.frame.kind,
         }
     }
 
@@ -78,6 +93,33 @@ impl OpenSpans {
         let mut frames = Vec::new(alloc);
         frames.push(OpenSpan::new(FrameKind::Root))?;
         Ok(OpenSpans { frames })
+    }
+
+    /// Of the frames that are open where a part begins the innermost alone; the others are outside.
+    pub(crate) fn within(alloc: Global, entry: &Entry<'_>) -> Result<Self, AllocError>
+        ensures { IfOk result (λ s. (f : FrameValue) (fs : List FrameValue) → HasFrames entry.now (f ∷ fs) → spans s ≡ entered_span f ∷ []) }
+    {
+        let mut frames = Vec::new(alloc);
+        frames.push(OpenSpan::entered(entry.innermost()))?;
+        Ok(OpenSpans { frames })
+    }
+
+    /// Comes to the innermost of the frames outside, if one alone has been come to; gives those that are left outside.
+    pub(crate) fn reach<'e>(
+        &mut self,
+        outside: Option<Entry<'e>>,
+    ) -> Result<Option<Entry<'e>>, AllocError>
+        requires { HasOpen (spans self.old) }
+        ensures { IfOk result (λ left. (fs : List FrameValue) → IsOutside outside.entry fs → IsReached OpenSpanValue entered_spans (spans self.old) (spans self.new) fs left) }
+    {
+        if self.frames.len() > 1 {
+            return Ok(outside);
+        }
+        let Some(entry) = outside else {
+            return Ok(None);
+        };
+        self.frames.insert(0, OpenSpan::entered(entry.innermost()))?;
+        Ok(entry.below())
     }
 
     /// A strand of that many instructions.

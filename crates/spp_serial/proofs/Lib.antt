@@ -1,2 +1,2 @@
 pub mod Whole
-pub mod Marks
+pub mod Settled

@@ -15,7 +15,7 @@ use spp_event::Trace;
 use spp_frame::ProfileFault;
 use spp_maxplus::Burdens;
 use spp_pass::first_pass;
-use spp_path::{path_table, settle};
+use spp_path::{path_table, settle_whole};
 use spp_site::{Profile, Table};
 use std::alloc::{AllocError, Global};
 
@@ -41,8 +41,7 @@ fn path_tables(
     ensures path { IfOk result (λ p. IsPathTable trace.now unburdened p.path) }
     ensures burdened { IfOk result (λ p. IsPathTable trace.now burdens p.burdened_path) }
 {
-    let count = trace.count();
-    let entered = settle(alloc, count, &choices.ends, &choices.joins)?;
+    let entered = settle_whole(alloc, &choices.ends, &choices.joins)?;
     let path = path_table(alloc, trace, &entered)?;
     if burdens == Burdens::default() {
         let burdened_path = Table::copy(alloc, &path)?;
@@ -51,7 +50,7 @@ fn path_tables(
             burdened_path,
         });
     }
-    let burdened = settle(alloc, count, &choices.ends, &choices.burdened_joins)?;
+    let burdened = settle_whole(alloc, &choices.ends, &choices.burdened_joins)?;
     let burdened_path = if burdened == entered {
         Table::copy(alloc, &path)?
     } else {
@@ -69,8 +68,8 @@ fn path_tables(
 /// The events are read up to three times: once for the figures, the table of the dag and the choices that settle the
 /// paths, and once for each path's table, or once for both where both paths enter the same children. The time is linear
 /// in the numbers of events, sites and functions; the memory too: up to 32 bytes for each spawned child, or twice that
-/// where the lists grew bit by bit, two bytes for each event, and what the open frames, the sites and the functions
-/// take. The work is below 2^92.
+/// where the lists grew bit by bit, up to 16 bytes more for each one that a path enters, and what the open frames, the
+/// sites and the functions take. The work is below 2^92.
 ///
 /// # Errors
 ///

@@ -4,6 +4,7 @@ ghost use Rattle.std.specs.Prelude.{◌≡◌, ℕ, ◌+◌, ◌<◌, ◌||◌, 
 ghost use Rattle.spp_dag.specs.Steps.{has_site, has_func};
 ghost use Rattle.spp_site.specs.Marks.{is_marked};
 ghost use Rattle.spp_dag.specs.declared.stack.EntryFrame.{EntryFrame as FrameValue};
+ghost use Rattle.spp_stack.specs.declared.stacks.Start.{Start as StartValue};
 ghost use Rattle.spp_stack.specs.Chain.{IsStart, IsNodeOf, IsTree, HasFrames};
 
 use crate::frames::Frames;
@@ -128,6 +129,25 @@ impl<'e> Entry<'e> {
 }
 
 impl<'e> Entry<'e> {
+    /// The frame of the node of that number and those below it, at the same position.
+    pub fn outwards(&self, top: u32) -> Entry<'e>
+        requires { top < length self.now.nodes }
+        ensures { result ≡ record self.now { top = top } }
+    {
+        let Entry {
+            nodes,
+            at,
+            work,
+            ..
+        } = *self;
+        Entry {
+            nodes,
+            top,
+            at,
+            work,
+        }
+    }
+
     /// The set of the sites by which the frames were entered, but not the root's, and that of the functions that they
     /// run. It visits each site and each function once, however many frames there are; the sets also take a byte for
     /// each number up to the greatest.
@@ -203,6 +223,7 @@ impl Entries {
         requires { k < length self.now.starts }
         ensures top { (at : ℕ) (fs : List FrameValue) (work : ℕ) → IsStart self.now k at fs work → HasFrames (record { nodes = self.now.nodes; top = result; at = at; work = work }) fs }
         ensures within { result < length self.now.nodes }
+        ensures start { (start : StartValue) → slice_get self.now.starts k ≡ Some start → result ≡ start.top }
     {
         self.starts[k].top
     }
@@ -211,7 +232,10 @@ impl Entries {
     /// and the work before it.
     pub fn entry(&self, k: usize) -> Entry<'_>
         requires { k < length self.now.starts }
-        ensures { (at : ℕ) (fs : List FrameValue) (work : ℕ) → IsStart self.now k at fs work → HasFrames result fs × (result.at ≡ at) × (result.work ≡ work) }
+        ensures entry { (at : ℕ) (fs : List FrameValue) (work : ℕ) → IsStart self.now k at fs work → HasFrames result fs × (result.at ≡ at) × (result.work ≡ work) }
+        ensures nodes { result.nodes ≡ self.now.nodes }
+        ensures tree { IsTree result.nodes }
+        ensures start { (start : StartValue) → slice_get self.now.starts k ≡ Some start → (result.top ≡ start.top) × (result.at ≡ start.at) }
     {
         let start = self.starts[k];
         Entry {

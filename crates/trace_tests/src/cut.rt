@@ -4,7 +4,7 @@ use std::alloc::{AllocError, Global};
 use std::test::Fail;
 
 /// The bytes of a trace of seven strands, the counts of which are 0 to 6.
-fn seven_strands(alloc: Global) -> Result<Vec<u8>, AllocError> {
+pub(crate) fn seven_strands(alloc: Global) -> Result<Vec<u8>, AllocError> {
     let mut bytes =
         b"SPTRACE1\x00\x00\x00\x01\x00\x00\x00\x00\x00\x00\x00\x00\x00\x00\x00\x07\x00\x04main".to_vec(
             alloc,

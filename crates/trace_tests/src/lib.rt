@@ -6,4 +6,6 @@ mod cut;
 #[cfg(test)]
 mod event;
 #[cfg(test)]
+mod lending;
+#[cfg(test)]
 mod text;

@@ -1,4 +1,4 @@
-use Rattle.std.proofs.Common.{◌≡◌, ℕ, ◌+◌, ◌≤◌, List, [], ◌∷◌, Some, None, length, sym, ap, subst, ◌∙◌, arith}
+use Rattle.std.proofs.Common.{◌≡◌, ℕ, ◌+◌, ◌≤◌, List, [], ◌∷◌, Some, None, length, refl, sym, ap, subst, ◌∙◌, arith}
 use Rattle.std.proofs.lemmas.List.{length-append}
 use Rattle.spp_event.specs.declared.records.Event.{Event}
 use Rattle.spp_event.specs.Recordings.{Record, Recording}
@@ -7,12 +7,13 @@ use Rattle.spp_frame.specs.Nesting.{AreEvents}
 use Rattle.spp_cut.specs.Parts.{PartOf}
 use Rattle.spp_dag.specs.declared.row.Row.{Row}
 use Rattle.spp_dag.specs.Trace.{IsWellFormed}
+use Rattle.spp_dag.specs.Rows.{everywhere}
 use Rattle.spp_dag.specs.Shares.{plus}
 use Rattle.spp_site.specs.Rows.{Fits}
 use Rattle.spp_site.specs.Table.{Sums}
 use Rattle.spp_parts.proofs.Begins.{begin_in, begin_zero, part_read, part_got}
 use Rattle.spp_parts.proofs.Entries.{entry_stands}
-use Rattle.spp_parts.proofs.Shares.{AreRowsTo, rows_none, next_begin, told_part, merge_fits, rows_more, all_begun, root_fits, dag_is}
+use Rattle.spp_parts.proofs.Shares.{Everywhere, AreRowsTo, rows_none, next_begin, in_range, dag_range, merge_fits, rows_more, all_begun, root_fits, dag_is}
 use Rattle.spp_parts.proofs.Chosen.{AreChosen, chosen_next, chosen_all}
 use Rattle.spp_dag.specs.declared.choices.Choices.{Choices}
 use Rattle.spp_parts.specs.Choices.{AreChoicesOf}
@@ -21,8 +22,8 @@ use Rattle.spp_parts.proofs.in_parts.table_in_parts.Goals as goal
 pub loop-k-init : goal.loop-k-init
 loop-k-init c = record {
   rows =
-      subst (λ (d : Sums). AreRowsTo c.args.cut.now.trace (begin_in c.args.cut.now.parts 0) d) (sym c.new-dag.ensures)
-      (rows_none c.args.cut.now.trace (begin_in c.args.cut.now.parts 0) (begin_zero c.args.cut.now.parts));
+      subst (λ (d : Sums). AreRowsTo Everywhere c.args.cut.now.trace (begin_in c.args.cut.now.parts 0) d) (sym c.new-dag.ensures)
+      (rows_none Everywhere c.args.cut.now.trace (begin_in c.args.cut.now.parts 0) (begin_zero c.args.cut.now.parts));
   chosen = λ es are. subst (λ (cs : List Choices). AreChoicesOf es c.args.burdens [] cs) (sym c.in_ok-choices.ensures.items) _;
   count = ap (λ (cs : List Choices). length cs) c.in_ok-choices.ensures.items;
   room =
@@ -45,7 +46,7 @@ entry-requires c =
 pub run_part-requires : goal.run_part-requires
 run_part-requires c =
     let got = part_got c.args.cut.now.parts c.parts-parts.result.now c.loop-k.k c.index-parts-k.result c.parts-parts.ensures.parts c.index-parts-k.is c.loop-k-test.true in
-    entry_stands c.args.cut.now c.args.burdens c.in_ok-stacks.stacks (c.in_ok-stacks.ensures.entries c.args.burdens (c.deref.ensures.value ∙ c.in_ok-found.ensures.each)) c.loop-k.k c.index-parts-k.result got c.entry.result c.entry.ensures c.parts-parts.ensures.cut
+    entry_stands c.args.cut.now c.args.burdens c.in_ok-stacks.stacks (c.in_ok-stacks.ensures.entries c.args.burdens (c.deref.ensures.value ∙ c.in_ok-found.ensures.each)) c.loop-k.k c.index-parts-k.result got c.entry.result c.entry.ensures.entry c.parts-parts.ensures.cut
 
 pub absorb-requires-clause-root_fits : goal.absorb-requires-clause-root_fits
 absorb-requires-clause-root_fits c =
@@ -57,8 +58,8 @@ absorb-requires-clause-root_fits c =
     let wf : IsWellFormed es = subst (λ (rs : List Record). nesting.IsWellFormed rs) fig.are_events fig.well_formed in
     let at = part_read t ps c.parts-parts.result.now k c.index-parts-k.result c.parts-parts.ensures.cut c.parts-parts.ensures.parts c.index-parts-k.is c.loop-k-test.true in
     let table : Sums = c.in_ok-told.told.share in
-    merge_fits t (begin_in ps k) (begin_in ps (k + 1)) (next_begin t ps k c.index-parts-k.result at) c.loop-k.dag table c.args.burdens c.in_ok-told.told.choices c.loop-k.invariant.rows
-    (told_part t ps k c.index-parts-k.result at table c.args.burdens c.in_ok-told.told.choices c.in_ok-told.ensures) es fig.are_events wf (c.in_ok-found.ensures.parts es fig.are_events).small None
+    merge_fits Everywhere t (begin_in ps k) (begin_in ps (k + 1)) (next_begin t ps k c.index-parts-k.result at) c.loop-k.dag table c.loop-k.invariant.rows
+    (in_range Everywhere t ps k c.index-parts-k.result at table (dag_range c.index-parts-k.result.trace c.index-parts-k.result.first (c.index-parts-k.result.first + c.index-parts-k.result.count) table c.args.burdens c.in_ok-told.told.choices c.in_ok-told.ensures)) es fig.are_events wf (c.in_ok-found.ensures.parts es fig.are_events).small everywhere refl None
 
 pub absorb-requires-clause-sites_fit : goal.absorb-requires-clause-sites_fit
 absorb-requires-clause-sites_fit c = λ s.
@@ -70,8 +71,8 @@ absorb-requires-clause-sites_fit c = λ s.
     let wf : IsWellFormed es = subst (λ (rs : List Record). nesting.IsWellFormed rs) fig.are_events fig.well_formed in
     let at = part_read t ps c.parts-parts.result.now k c.index-parts-k.result c.parts-parts.ensures.cut c.parts-parts.ensures.parts c.index-parts-k.is c.loop-k-test.true in
     let table : Sums = c.in_ok-told.told.share in
-    merge_fits t (begin_in ps k) (begin_in ps (k + 1)) (next_begin t ps k c.index-parts-k.result at) c.loop-k.dag table c.args.burdens c.in_ok-told.told.choices c.loop-k.invariant.rows
-    (told_part t ps k c.index-parts-k.result at table c.args.burdens c.in_ok-told.told.choices c.in_ok-told.ensures) es fig.are_events wf (c.in_ok-found.ensures.parts es fig.are_events).small (Some s)
+    merge_fits Everywhere t (begin_in ps k) (begin_in ps (k + 1)) (next_begin t ps k c.index-parts-k.result at) c.loop-k.dag table c.loop-k.invariant.rows
+    (in_range Everywhere t ps k c.index-parts-k.result at table (dag_range c.index-parts-k.result.trace c.index-parts-k.result.first (c.index-parts-k.result.first + c.index-parts-k.result.count) table c.args.burdens c.in_ok-told.told.choices c.in_ok-told.ensures)) es fig.are_events wf (c.in_ok-found.ensures.parts es fig.are_events).small everywhere refl (Some s)
 
 pub loop-k-preserved : goal.loop-k-preserved
 loop-k-preserved c =
@@ -82,8 +83,8 @@ loop-k-preserved c =
     let table : Sums = c.in_ok-told.told.share in
     record {
       rows =
-          rows_more t (begin_in ps k) (begin_in ps (k + 1)) (next_begin t ps k c.index-parts-k.result at) c.loop-k.dag table c.args.burdens c.in_ok-told.told.choices c.loop-k.invariant.rows
-          (told_part t ps k c.index-parts-k.result at table c.args.burdens c.in_ok-told.told.choices c.in_ok-told.ensures) c.absorb.new.self c.in_ok-absorb.ensures.sums;
+          rows_more Everywhere t (begin_in ps k) (begin_in ps (k + 1)) (next_begin t ps k c.index-parts-k.result at) c.loop-k.dag table c.loop-k.invariant.rows
+          (in_range Everywhere t ps k c.index-parts-k.result at table (dag_range c.index-parts-k.result.trace c.index-parts-k.result.first (c.index-parts-k.result.first + c.index-parts-k.result.count) table c.args.burdens c.in_ok-told.told.choices c.in_ok-told.ensures)) c.absorb.new.self c.in_ok-absorb.ensures.sums;
       chosen =
           subst (λ (cs : List Choices). AreChosen t c.args.burdens (k + 1) ps cs) (sym c.push_reserved.ensures.items)
           (chosen_next t c.args.burdens ps c.parts-parts.result.now k c.index-parts-k.result c.loop-k.choices.items c.in_ok-told.told.choices at c.parts-parts.ensures.parts c.index-parts-k.is c.loop-k-test.true
@@ -103,7 +104,7 @@ add_root-requires c =
     let past : c.loop-k.k ≡ length c.parts-parts.result.now = omega (arith, c.loop-k-test.false) in
     let end : n ≡ length t.records = all_begun t ps c.parts-parts.result.now c.loop-k.k c.parts-parts.ensures.cut c.parts-parts.ensures.parts past in
     subst (λ (r : Row). Fits (plus c.loop-k.dag.root r)) (sym c.root_row.ensures)
-    (root_fits t c.args.burdens c.in_ok-found.found.whole fig n end c.loop-k.dag c.loop-k.invariant.rows (c.in_ok-found.ensures.parts fig.events fig.are_events).small)
+    (root_fits Everywhere t c.args.burdens c.in_ok-found.found.whole fig n end c.loop-k.dag c.loop-k.invariant.rows everywhere refl refl (c.in_ok-found.ensures.parts fig.events fig.are_events).small)
 
 pub returns-clause-dag : goal.returns-clause-dag
 returns-clause-dag c =

@@ -20,13 +20,14 @@ returns c =
     ap reverse c.truncate.ensures.items ∙ ap (λ k. reverse (take k fs)) at ∙ t.less ∙ ap frames_below (sym t.is) in
     let now : Told = record s {
       frames = reverse c.truncate.new.self.items;
+      trail = c.resume.new.self;
       open_sites = is_marked c.remove_if.new.self;
       open_funcs = is_marked c.remove_if-2.new.self;
       table = c.close.new.self;
     } in
     let done : IsReturned child c.args.span s now = record {
       frames = rest;
-      skipped = refl;
+      trail = c.resume.ensures;
       open_sites = λ j y. c.remove_if.ensures y j;
       open_funcs = λ j y. c.remove_if-2.ensures y j;
       work = refl;

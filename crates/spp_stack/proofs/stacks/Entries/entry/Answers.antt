@@ -23,8 +23,21 @@ invariant_of-result c =
       linked = subst (λ l. AreLinked l) (sym e) c.self.invariant.linked;
     }
 
-pub returns : goal.returns
-returns c at fs work h =
+pub returns-clause-nodes : goal.returns-clause-nodes
+returns-clause-nodes c = c.nodes.ensures.nodes
+
+pub returns-clause-tree : goal.returns-clause-tree
+returns-clause-tree c = subst (λ l. IsTree l) (sym (nodes_are c)) c.self.invariant.tree
+
+pub returns-clause-start : goal.returns-clause-start
+returns-clause-start c start h =
+    let get = start_is c in
+    let here : slice_get c.self.inside.starts.items c.args.k ≡ Some start = subst (λ (z : Stacks). slice_get z.starts c.args.k ≡ Some start) (sym c.self.view_is) h in
+    let is : c.index-start.result.now ≡ start = cc in
+    (ap (λ (z : Start). z.top) is, ap (λ (z : Start). z.at) is)
+
+pub returns-clause-entry : goal.returns-clause-entry
+returns-clause-entry c at fs work h =
     let s = c.index-start.result.now in
     let get = start_is c in
     let i = subst (λ (z : Stacks). IsStart z c.args.k at fs work) (sym c.self.view_is) h in
