@@ -4,3 +4,4 @@ pub mod Entries
 mod Shares
 mod Chosen
 mod Runs
+mod Marked

@@ -3,12 +3,14 @@
 
 mod beginnings;
 mod in_parts;
+mod marks;
 mod on_path;
 mod results;
 mod surveying;
 
 pub use beginnings::entries_of;
 pub use in_parts::table_in_parts;
+pub use marks::marks_in_parts;
 pub use on_path::path_in_parts;
 pub use results::{Survey, Tabled};
 pub use surveying::survey;
