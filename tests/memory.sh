@@ -2,8 +2,8 @@
 # Refuses each request for memory in turn, over the built programs. Whatever is refused, spprof ends with status 4,
 # nothing on standard output and the line `out of memory`, or with the answer that it gives when nothing is refused.
 # The probe calls the functions that allocate and that commands stand on, and those of a book, each twice: one answer at
-# most becomes `Memory`, and no other changes. The table by way of parts, for which there is no command, is the right one or there is
-# none.
+# most becomes `Memory`, and no other changes. The tables and marks by way of parts, for which there is no command, are the right
+# ones or there are none.
 # usage: tests/memory.sh SPPROF PROBE TEST_PRINTER
 set -u
 spprof=$1
@@ -89,12 +89,13 @@ each_refused() { # NAME STATUS OUT ERR INPUT WORDS..: what the program ends with
     passed=$((passed + 1))
 }
 
-parts_refused() { # NAME INPUT PARTS: the table by so many parts
+parts_refused() { # NAME INPUT WHAT PARTS: the tables, or the marks, by so many parts
     local name=$1 input=$2 at=1 told=0 status
-    run 0 "$input" "$printer" parts "$3" || { fails "$name, nothing refused"; return; }
+    shift 2
+    run 0 "$input" "$printer" "$@" || { fails "$name, nothing refused"; return; }
     cp "$folder/out" "$folder/wanted.out"
     while true; do
-        run $at "$input" "$printer" parts "$3"
+        run $at "$input" "$printer" "$@"
         status=$?
         if [ $status -eq 1 ] && [ ! -s "$folder/out" ]; then
             told=$((told + 1))
@@ -129,9 +130,11 @@ each_refused 'figures, a bad event in the second part' 1 '' 'bad event 4: tag' "
 each_refused 'profile, a recorded trace' 0 'work 32744*' '' "$examples/nqueens.sptrace" profile
 each_refused 'profile as tables alone' 0 'name,count*' '' "$examples/nqueens.sptrace" profile --csv
 each_refused 'encode, a good text' 0 'SPTRACE1*' '' "$examples/small.txt" encode
-parts_refused 'the table in one part' "$examples/small.sptrace" 1
-parts_refused 'the table in parts of one event' "$examples/small.sptrace" 7
-parts_refused 'the table of a recorded trace in parts' "$examples/nqueens.sptrace" 20
+for what in parts marks; do
+    parts_refused "$what: one" "$examples/small.sptrace" $what 1
+    parts_refused "$what: of one event" "$examples/small.sptrace" $what 7
+    parts_refused "$what: of a recorded trace" "$examples/nqueens.sptrace" $what 20
+done
 printf 'func f\nsync\nsync 1 2 3 4 5\n' > "$folder/text"
 each_refused 'encode, a bad text' 1 '' 'bad text line 3: count' "$folder/text" encode
 printf 'func f\n\377' > "$folder/bytes"

@@ -85,20 +85,30 @@ for run in loop tree; do
     : > "$folder/out"
     judge "profile of the $run" 0 '' ''
 done
-# And the rows on the whole dag by way of parts, in the first nine columns.
+# And so are the tables by way of parts, and which events are on the two paths (tests/marks, computed by that program too).
+by_parts() { # NAME TOLD_ON_ERR WORDS..: of the input the printer says with these words just what the file `wanted` has
+    local name=$1 err=$2
+    shift 2
+    "$printer" "$@" < "$input" > "$folder/out" 2> "$folder/err"
+    status=$?
+    cmp -s "$folder/out" "$folder/wanted" || status=125
+    : > "$folder/out"
+    judge "$name" 0 '' "$err"
+}
 for trace in cilksort fib nqueens; do
-    tail -n +2 "$top/examples/$trace.csv" | cut -d , -f 1-9 > "$folder/rows"
+    input=$top/examples/$trace.sptrace
     for parts in 1 7 100 65536; do
-        "$printer" parts $parts < "$top/examples/$trace.sptrace" > "$folder/out" 2> "$folder/err"
-        status=$?
-        cmp -s "$folder/out" "$folder/rows" || status=125
-        : > "$folder/out"
-        judge "rows of $trace in $parts parts" 0 '' 'survey *'
+        cp "$top/examples/$trace.csv" "$folder/wanted"
+        by_parts "tables of $trace in $parts parts" 'survey *' parts $parts
+        cat "$top/tests/marks/$trace.path" "$top/tests/marks/$trace.burdened" > "$folder/wanted"
+        by_parts "marks of $trace in $parts parts" '' marks $parts
     done
 done
-"$printer" parts 3 < "$small" > "$folder/out" 2> "$folder/err"
-status=$?
-judge 'rows of the small trace in 3 parts' 0 "(root),1,7,1,17,13,1,17,13${lf}A,1,10,1,10,10,1,10,10$lf" 'survey *'
+input=$small
+"$spprof" profile --csv "$small" > "$folder/wanted"
+by_parts 'tables of the small trace in 3 parts' 'survey *' parts 3
+printf '1111011\n1111011\n' > "$folder/wanted"
+by_parts 'marks of the small trace in 3 parts' '' marks 3
 expect 'a table of a part of a record' 1 '' "bad event 1: truncated$lf" <(head -c 60 "$small") profile
 printf 'func main\n' | "$spprof" encode > "$folder/empty"
 for parts in 1 16 65536; do
@@ -177,10 +187,14 @@ judge 'tables of a million nested calls' 0 "name,*${lf}(root),1,0,1,5,5,1,5,5,1,
 timeout 30 "$spprof" profile --csv "$folder/wide" > "$folder/out" 2> "$folder/err"
 status=$?
 judge 'tables of a million children' 0 "name,*${lf}(root),1,0,1,5000000,5,1,5000000,5,1,0,1,5000000,5,1,5000000,5,1,0,1,5000000,5,1,5000000,5${lf}A,1000000,5000000,1000000,5000000,5000000,1000000,5000000,5000000,1,5,1,5,5,1,5,5,1,5,1,5,5,1,5,5$lf" ''
-# By way of 65,536 parts too, without a list of all open frames for each.
+# By way of 65,536 parts too, without a list of all open frames for each: both paths, and their marks.
 (ulimit -v 500000 && timeout 30 "$printer" parts 65536 < "$folder/nested" > "$folder/out" 2> "$folder/err")
 status=$?
-judge 'rows of a million nested calls in parts' 0 "(root),1,0,1,5,5,1,5,5${lf}A,1000000,5,1,5,5,1,5,5$lf" 'survey *'
+judge 'tables of a million nested calls in parts' 0 "name,*${lf}(root),1,0,1,5,5,1,5,5,1,0,1,5,5,1,5,5,1,0,1,5,5,1,5,5${lf}A,1000000,5,1,5,5,1,5,5,1000000,5,1,5,5,1,5,5,1000000,5,1,5,5,1,5,5$lf" 'survey *'
+(ulimit -v 500000 && timeout 30 "$printer" marks 65536 < "$folder/nested" 2> "$folder/err" | sort | uniq -c | tr -d ' ' > "$folder/out")
+status=$?
+ones=$(head -c 2000001 /dev/zero | tr '\0' 1)
+judge 'marks of a million nested calls in parts' 0 "2$ones$lf" ''
 # The same frames left open, in a trace that ends within them, end as a bad event.
 head -c 1000000 "$folder/nested" > "$folder/open"
 expect 'figures of frames left open' 1 '' "bad event *: truncated$lf" "$folder/open" figures

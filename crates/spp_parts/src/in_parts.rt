@@ -58,6 +58,7 @@ pub fn table_in_parts(
     let parts = cut.parts();
     let found = survey(alloc, cut, burdens)?;
     let stacks = entries_of(alloc, cut, &found.each)?;
+    drop(found.each);
     let mut dag = Table::new(alloc);
     let mut choices = Vec::with_capacity(alloc, parts.len())?;
     for k in 0..parts.len() {

@@ -77,6 +77,7 @@ pub fn marks_in_parts(
 {
     let found = survey(alloc, cut, burdens)?;
     let stacks = entries_of(alloc, cut, &found.each)?;
+    drop(found.each);
     let choices = choices_of(alloc, cut, burdens, &stacks)?;
     let settled = settle(alloc, &stacks, &choices, under)?;
     let count = cut.parts().len();

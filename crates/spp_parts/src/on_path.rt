@@ -65,6 +65,7 @@ pub fn path_in_parts(
     let parts = cut.parts();
     let found = survey(alloc, cut, burdens)?;
     let stacks = entries_of(alloc, cut, &found.each)?;
+    drop(found.each);
     let choices = choices_of(alloc, cut, burdens, &stacks)?;
     let settled = settle(alloc, &stacks, &choices, under)?;
     let mut path = Table::new(alloc);

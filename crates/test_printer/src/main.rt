@@ -1,8 +1,10 @@
 //! A program for tests: prints what the library says of the trace or traces on standard input, where no command of
-//! `spprof` does. Its words tell what: `text`, the trace as text; `parts N`, its rows by way of N even parts;
-//! `reference`, what the reference profiler answers for each of many traces.
+//! `spprof` does. Its words tell what: `text`, the trace as text; `parts N`, its tables by way of N even parts;
+//! `marks N`, by way of as many parts which events are on its paths; `reference`, what the reference profiler answers for
+//! each of many traces, with `reference N` also held against N parts.
 #![tactic(auto)]
 
+mod marks;
 mod parts;
 mod reference;
 mod text;
@@ -17,15 +19,22 @@ use std::process::ExitCode;
 enum Task {
     Text,
     Parts(u32),
-    Reference,
+    Marks(u32),
+    Reference(Option<u32>),
+}
+
+/// The number behind the task's name, if there is one.
+fn number(words: &[String]) -> Option<u32> {
+    words.get(2)?.parse::<u32>().ok()
 }
 
 /// What the words ask for.
 fn asked(words: &[String]) -> Option<Task> {
     match words.get(1)?.as_str() {
         "text" => Some(Task::Text),
-        "parts" => Some(Task::Parts(words.get(2)?.parse::<u32>().ok()?)),
-        "reference" => Some(Task::Reference),
+        "parts" => Some(Task::Parts(number(words)?)),
+        "marks" => Some(Task::Marks(number(words)?)),
+        "reference" => Some(Task::Reference(number(words))),
         _ => None,
     }
 }
@@ -42,7 +51,8 @@ fn main(rt: HostRuntime) -> io::Result<ExitCode> {
     let is_printed = match task {
         Task::Text => text::print(&rt, alloc, bytes.as_slice())?,
         Task::Parts(parts) => parts::print(&rt, alloc, bytes.as_slice(), parts)?,
-        Task::Reference => reference::print(&rt, alloc, bytes.as_slice())?,
+        Task::Marks(parts) => marks::print(&rt, alloc, bytes.as_slice(), parts)?,
+        Task::Reference(parts) => reference::print(&rt, alloc, bytes.as_slice(), parts)?,
     };
     Ok(if is_printed {
         ExitCode::SUCCESS

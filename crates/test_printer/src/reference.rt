@@ -1,12 +1,13 @@
 //! What the reference profiler answers for each of many traces, which stand as text, each ended by a line `---`. For the
 //! test that it gives the numbers of another program, which was written from the definitions alone in another language.
-//! Where the profiler on one thread says anything else, or the table by way of parts of one event, that is told.
+//! Where the profiler on one thread says anything else, or the tables or marks by way of parts, that is told.
 
-use spp_cut::{Parts, cut_even};
+use spp_cut::{Cut, Parts, cut_even};
 use spp_dag::{Figures, Row};
-use spp_event::open_trace;
+use spp_event::{Trace, open_trace};
 use spp_maxplus::Burdens;
-use spp_parts::table_in_parts;
+use spp_parts::{marks_in_parts, path_in_parts, table_in_parts};
+use spp_path::Under;
 use spp_reference::{Reference, SiteRows, profile};
 use spp_serial::profile_serial;
 use spp_text::parse_text;
@@ -64,14 +65,55 @@ fn is_confirmed(alloc: Global, text: &str, told: &Reference, burdens: Burdens) -
     Some(same && same_under)
 }
 
-/// Whether the parts of one event of the trace that the text names come to the same rows on the whole dag.
-fn is_confirmed_by_parts(alloc: Global, text: &str, told: &Reference) -> Option<bool> {
-    let bytes = parse_text(alloc, text).ok()?;
-    let trace = open_trace(alloc, bytes.as_slice()).ok()?;
-    let parts = Parts::new(trace.count().clamp(1, Parts::MOST))?;
-    let cut = cut_even(alloc, &trace, parts).ok()?;
-    let parts = table_in_parts(alloc, &cut, EQUAL).ok()?;
-    Some(has_rows(&parts.dag, &told.dag_rows, trace.sites()))
+/// Into how many parts each trace is cut.
+const PARTS: &[u32] = &[1, 7, 100];
+
+/// Whether the marks by way of parts are those that were told.
+fn has_marks(alloc: Global, cut: &Cut<'_, '_>, told: &Reference, burdens: Burdens) -> Option<bool> {
+    let mut marks = vec![in alloc; 2; cut.trace().count() as usize].ok()?;
+    marks_in_parts(alloc, cut, burdens, Under::Zero, &mut marks).ok()?;
+    let mut both = marks.iter().zip(told.marks.iter());
+    Some(marks.len() == told.marks.len() && both.all(|(mark, on)| *mark == u8::from(*on)))
+}
+
+/// Whether so many parts of the trace come to the same rows, on the whole dag and on both paths, and to the same marks.
+fn is_told_by_parts(
+    alloc: Global,
+    trace: &Trace<'_>,
+    told: &Reference,
+    burdens: Burdens,
+    parts: u32,
+) -> Option<bool> {
+    let cut = cut_even(alloc, trace, Parts::new(parts)?).ok()?;
+    let table = table_in_parts(alloc, &cut, burdens).ok()?;
+    let path = path_in_parts(alloc, &cut, burdens, Under::Zero).ok()?;
+    let burdened_path = path_in_parts(alloc, &cut, burdens, Under::Burdens).ok()?;
+    let same = has_rows(&table.dag, &told.dag_rows, trace.sites())
+        && has_rows(&path, &told.path_rows, trace.sites());
+    let same_under = has_rows(&burdened_path, &told.burdened_path_rows, trace.sites());
+    Some(same && same_under && has_marks(alloc, &cut, told, burdens)?)
+}
+
+/// The first of these numbers of parts by which the trace that the text names comes to anything else.
+fn differing_parts(
+    alloc: Global,
+    text: &str,
+    told: &Reference,
+    burdens: Burdens,
+    numbers: &[u32],
+) -> Option<u32> {
+    let Ok(bytes) = parse_text(alloc, text) else {
+        return numbers.first().copied();
+    };
+    let Ok(trace) = open_trace(alloc, bytes.as_slice()) else {
+        return numbers.first().copied();
+    };
+    for parts in numbers {
+        if is_told_by_parts(alloc, &trace, told, burdens, *parts) != Some(true) {
+            return Some(*parts);
+        }
+    }
+    None
 }
 
 fn print_row(rt: &impl Print, row: &Row) -> io::Result<()> {
@@ -121,8 +163,14 @@ fn print_profile(rt: &impl Print, one: &Reference, other: &Reference) -> io::Res
     print_table(rt, "path under 2 and 7", &other.burdened_path_rows)
 }
 
-/// Prints the answers for the traces of which that is the text. Whether it is text.
-pub(crate) fn print(rt: &impl Print, alloc: Global, bytes: &[u8]) -> io::Result<bool> {
+/// Prints the answers for the traces of which that is the text, held against so many parts too if that is asked for.
+/// Whether it is text.
+pub(crate) fn print(
+    rt: &impl Print,
+    alloc: Global,
+    bytes: &[u8],
+    parts: Option<u32>,
+) -> io::Result<bool> {
     let Ok(mut rest) = str::from_utf8(bytes) else {
         return Ok(false);
     };
@@ -132,13 +180,34 @@ pub(crate) fn print(rt: &impl Print, alloc: Global, bytes: &[u8]) -> io::Result<
         };
         rest = others;
         println!(rt; "trace {number}")?;
-        print_answers(rt, alloc, text)?;
+        print_answers(rt, alloc, text, parts)?;
     }
     Ok(true)
 }
 
+/// Tells where parts come to anything else than was told.
+fn print_differing(
+    rt: &impl Print,
+    alloc: Global,
+    text: &str,
+    told: &Reference,
+    burdens: Burdens,
+    parts: Option<u32>,
+) -> io::Result<()> {
+    let more = parts.as_slice();
+    for numbers in [PARTS, more] {
+        if let Some(parts) = differing_parts(alloc, text, told, burdens, numbers) {
+            println!(rt;
+                "{parts} parts differ under {} and {}",
+                burdens.continuation, burdens.join
+            )?;
+        }
+    }
+    Ok(())
+}
+
 /// Prints the answers for the trace that the text names.
-fn print_answers(rt: &impl Print, alloc: Global, text: &str) -> io::Result<()> {
+fn print_answers(rt: &impl Print, alloc: Global, text: &str, parts: Option<u32>) -> io::Result<()> {
     let (Some(one), Some(other)) = (profiled(alloc, text, EQUAL), profiled(alloc, text, UNEQUAL))
     else {
         return println!(rt; "no profile");
@@ -150,8 +219,6 @@ fn print_answers(rt: &impl Print, alloc: Global, text: &str) -> io::Result<()> {
     if is_confirmed(alloc, text, &other, UNEQUAL) != Some(true) {
         println!(rt; "the profiler on one thread differs under 2 and 7")?;
     }
-    if is_confirmed_by_parts(alloc, text, &one) != Some(true) {
-        println!(rt; "the parts of one event differ")?;
-    }
-    Ok(())
+    print_differing(rt, alloc, text, &one, EQUAL, parts)?;
+    print_differing(rt, alloc, text, &other, UNEQUAL, parts)
 }
