@@ -1,0 +1,17 @@
+//! Where tests can hold a worker.
+
+use std::sync::Wait;
+
+/// Called by each worker after it has drawn a part and before it works on it. A test can hold it there; what is answered
+/// doesn't depend on it.
+pub trait Gate: Sync {
+    /// Before this part in this round, both counted as in the calls that make rounds.
+    fn before<R: Wait>(&self, rt: &R, round: u8, part: u32);
+}
+
+/// A gate that holds nobody.
+pub struct OpenGate;
+
+impl Gate for OpenGate {
+    fn before<R: Wait>(&self, _rt: &R, _round: u8, _part: u32) {}
+}

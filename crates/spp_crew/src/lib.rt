@@ -1,0 +1,12 @@
+//! The answers to a trace, made by worker threads that share its parts.
+//!
+//! A crew of workers goes through the parts of a cut trace in rounds. In each round the workers draw the numbers of the
+//! parts, each once, do the round's job on them, and put what came of it into one book, which joins the pieces in
+//! whatever order they come.
+#![tactic(auto)]
+
+mod gate;
+mod round;
+
+pub use gate::{Gate, OpenGate};
+pub use round::run_round;
