@@ -154,6 +154,28 @@ impl Table {
         self.add_all(share.root(), share.rows())
     }
 
+    /// Adds the rows of another table, whose sums with these must fit their types. It takes time linear in the other's
+    /// rows, besides a step, amortized, for each site number up to its greatest.
+    ///
+    /// # Errors
+    ///
+    /// Where room for its rows was refused; the table then has the rows that it had.
+    pub fn merge(&mut self, other: &Table) -> Result<(), AllocError>
+        requires root_fits { Fits (plus self.old.root other.now.root) }
+        requires sites_fit { (s : ℕ) → Fits (plus (row_at self.old s) (row_at other.now s)) }
+        ensures sums { OnOk result (IsSum self.old other.now self.new) }
+        ensures stays { OnErr result (self.new ≡ self.old) }
+        ensures no_zero_row { HasNoZeroRow self.new }
+    {
+        self.add_all(&other.root, &other.rows)
+    }
+
+    /// How many sites have been added to: what it costs to add this table to another. Contracts say nothing of it, since
+    /// they don't see a row that is zero.
+    pub fn row_count(&self) -> usize {
+        self.rows.len()
+    }
+
     /// Adds to the root's row, and these rows to those of their sites.
     fn add_all(&mut self, root: &Row, rows: &[SiteRow]) -> Result<(), AllocError>
         requires limit { AreOfSites rows.now }
