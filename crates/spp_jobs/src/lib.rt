@@ -1,0 +1,7 @@
+//! What workers do with the parts of a cut trace: three jobs, each of which any number of them can share.
+#![tactic(auto)]
+
+mod lists;
+mod survey;
+
+pub use survey::{Survey, SurveyJob};
