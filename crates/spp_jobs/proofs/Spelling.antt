@@ -216,3 +216,8 @@ range_told j h k p lt =
     let count : get_or (counts ++ rest) k 0 ≡ (get_or j.cut.parts k p).count =
     get_or_append_left counts rest 0 k (omega arith) ∙ get_or-map (λ q. q.count) j.cut.parts k p 0 lt in
     ap₂ (λ a b. (a, b)) at count
+
+pub range_is : (j : JobOf) → IsCut j.cut → (k : ℕ) (p : PartOf) → k < parts_in (spell j) → p ≡ get_or j.cut.parts k p → (p.first, p.count) ≡ range_in (spell j) k
+range_is j h k p lt is =
+    let within : k < length j.cut.parts = omega (arith, parts_told j) in
+    ap (λ (q : PartOf). (q.first, q.count)) is ∙ sym (range_told j h k p within)

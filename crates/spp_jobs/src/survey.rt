@@ -1,6 +1,6 @@
 //! The first round: what each part does to the open frames, and all of them together.
 
-ghost use Rattle.std.specs.Prelude.{◌≡◌, ◌<◌, ◌≤◌, ◌+◌, ℕ, List, IfOk, IfErr};
+ghost use Rattle.std.specs.Prelude.{◌≡◌, ◌<◌, ◌≤◌, ◌+◌, ℕ, List, IfOk, IfErr, OnOk, ◌++◌};
 ghost use Rattle.spp_book.specs.Jobs.{AreNeighbours, IsJoined, IsHandedBack, IsCopied};
 ghost use Rattle.spp_jobs.specs.Names.{spell, surveys, parts_in, range_in};
 ghost use Rattle.spp_jobs.specs.Surveys.{IsSurvey};
@@ -100,13 +100,27 @@ impl<'c, 't, 'a> Job for SurveyJob<'c, 't, 'a> {
     fn copy(alloc: Global, content: &Survey) -> Result<Survey, AllocError>
         ensures { IfOk result (λ c. IsCopied IsSurvey content.now c) }
     {
+        let (front, back) = content.each.as_slices();
         let mut each = VecDeque::with_capacity(alloc, content.each.len())?;
-        for summary in content.each.iter() {
-            each.push_back(Summary::copy(alloc, summary)?)?;
-        }
+        push_copies(alloc, &mut each, front)?;
+        push_copies(alloc, &mut each, back)?;
         Ok(Survey {
             each,
             whole: Summary::copy(alloc, &content.whole)?,
         })
     }
+}
+
+/// Adds copies of these summaries at the end.
+fn push_copies(
+    alloc: Global,
+    each: &mut VecDeque<Summary>,
+    summaries: &[Summary],
+) -> Result<(), AllocError>
+    ensures { OnOk result (each.new.items ≡ each.old.items ++ summaries.now) }
+{
+    for summary in summaries {
+        each.push_back(Summary::copy(alloc, summary)?)?;
+    }
+    Ok(())
 }
