@@ -3,7 +3,7 @@ use Rattle.std.proofs.Common.{◌≡◌, ℕ, zero, suc, ◌+◌, ◌-◌, ◌<�
 use Rattle.std.specs.List.{flat_map}
 use Rattle.std.proofs.lemmas.List.{length-append, length-drop, length-take-le, drop-drop, drop_more}
 use Rattle.std.proofs.lemmas.List.Sums.{sum_by-cons, sum_by-append}
-use Rattle.std.proofs.Math.Seq.{take-add}
+use Rattle.std.proofs.Math.Seq.{take-add, take-length}
 use Rattle.spp_event.specs.Recordings.{Recording}
 use Rattle.spp_cut.specs.Parts.{PartOf, CutOf, Cover, IsCut, events_in, records_in}
 use Rattle.spp_cut.proofs.Whole.{cover_le}
@@ -21,6 +21,12 @@ pub range_one : {A : Type 0} (xs : List A) (k : ℕ) (x : A) → k < length xs �
 range_one xs k x lt is =
     let one : (k + 1) - k ≡ suc zero = omega arith in
     ap (λ n. take n (drop k xs)) one ∙ ap (take (suc zero)) (drop_more xs k x lt) ∙ ap (λ y. y ∷ []) (sym is)
+
+-- the range of all elements
+pub range_all : {A : Type 0} (xs : List A) (k : ℕ) → k ≡ length xs → take (k - 0) (drop 0 xs) ≡ xs
+range_all xs k e =
+    let all : k - 0 ≡ length xs = omega arith in
+    ap (λ n. take n xs) all ∙ take-length xs
 
 -- how many events there are before a later part
 pub events_to : (ps : List PartOf) (i j : ℕ) → i < j → events_in (take j ps) ≡ events_in (take i ps) + events_in (take (j - i) (drop i ps))

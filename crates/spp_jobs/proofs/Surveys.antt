@@ -4,16 +4,17 @@ use Rattle.std.specs.List.{flat_map}
 use Rattle.std.proofs.lemmas.List.{map-append, append-nil}
 use Rattle.std.proofs.lemmas.Grind.{flat_map-append}
 use Rattle.spp_event.specs.Recordings.{Record}
-use Rattle.spp_cut.specs.Parts.{PartOf, CutOf, IsCut, events_in, records_in}
+use Rattle.spp_cut.specs.Parts.{PartOf, CutOf, IsCut, HasFewParts, events_in, records_in}
+use Rattle.spp_cut.proofs.Whole.{all_records}
 use Rattle.spp_maxplus.specs.declared.state.Burdens.{Burdens}
 use Rattle.spp_piece.specs.Account.{Account, account_of, together}
 use Rattle.spp_piece.proofs.Joins.{both_account}
 use Rattle.spp_book.specs.Jobs.{AreNeighbours, IsJoined}
 use Rattle.spp_jobs.specs.declared.survey.Survey.{Survey}
-use Rattle.spp_jobs.specs.Names.{surveys, JobOf, parts_in, parts_from, IsNamed}
+use Rattle.spp_jobs.specs.Names.{surveys, JobOf, spell, parts_in, parts_from, IsNamed}
 use Rattle.spp_jobs.specs.Surveys.{IsSurveyOf, IsSurvey}
 use Rattle.spp_jobs.proofs.Spelling.{same_job}
-use Rattle.spp_jobs.proofs.Cuts.{ranges_join, range_one, events_to, begins, counted}
+use Rattle.spp_jobs.proofs.Cuts.{ranges_join, range_one, range_all, events_to, begins, counted}
 
 -- the survey of one part
 pub survey_one : (a : JobOf) → IsCut a.cut → (k : ℕ) (p : PartOf) → k < length a.cut.parts → p ≡ get_or a.cut.parts k p → (c : Survey)
@@ -90,4 +91,15 @@ neighbours_joined left right both each whole name i j k low high most of_left of
       a,
       named,
       survey_joined a named.cut i j k low high left right of_left.2 (same_survey name a named j k right of_right) both each whole,
+    )
+
+-- the value of all parts
+pub survey_all : (a : JobOf) → a.kind ≡ surveys → IsCut a.cut → HasFewParts a.cut → (k : ℕ) → k ≡ length a.cut.parts → (c : Survey) → IsSurvey (spell a) 0 k c
+    → (c.each.items ≡ map (λ p. account_of a.burdens p.first (records_in p)) a.cut.parts) × (c.whole ≡ account_of a.burdens 0 a.cut.trace.records)
+survey_all a kind h few k all c v =
+    let named : IsNamed surveys (spell a) a = record { kind_is = kind; named = refl; cut = h; few = few } in
+    let of = same_survey (spell a) a named 0 k c v in
+    let parts : parts_from a.cut 0 k ≡ a.cut.parts = range_all a.cut.parts k all in (
+      of.each ∙ ap (map (λ (p : PartOf). account_of a.burdens p.first (records_in p))) parts,
+      of.whole ∙ ap (account_of a.burdens 0) (ap (flat_map records_in) parts ∙ all_records a.cut h),
     )

@@ -1,4 +1,4 @@
--- The names of jobs: lists of numbers, each of which spells one job. No two jobs have one name (`proofs/Spelling`).
+-- The names of jobs: lists of numbers, each of which spells one job. No two jobs have one name: `name_laws` says so.
 use Rattle.std.specs.Prelude.{◌≡◌, ℕ, ◌-◌, ◌++◌, List, [], ◌∷◌, length, map, flat_map, sum, take, drop, slice_index_or, Result, Ok, Err}
 use Rattle.spp_event.specs.declared.records.Event.{Event}
 use Rattle.spp_event.specs.declared.records.Event.TheVariants.{Strand, Call, Spawn, Ret, Sync}
@@ -22,11 +22,13 @@ pub record JobOf : Type 0 where
 
 -- ---- spelling
 
+-- a kind as a number
 abbrev pub spell_kind : Kind → ℕ
 spell_kind surveys = 0
 spell_kind tables = 1
 spell_kind paths = 2
 
+-- a fault of a record as a number
 abbrev pub spell_fault : EventFault → ℕ
 spell_fault Truncated = 0
 spell_fault Tag = 1
@@ -51,6 +53,7 @@ spell_list xs = length xs ∷ xs
 abbrev pub spell_lists : List (List ℕ) → List ℕ
 spell_lists xss = length xss ∷ flat_map spell_list xss
 
+-- a recording: its functions, its sites, its root function and its records
 abbrev pub spell_trace : Recording → List ℕ
 spell_trace t = spell_lists t.funcs ++ (spell_lists t.sites ++ t.root ∷ flat_map spell_record t.records)
 
@@ -58,7 +61,7 @@ spell_trace t = spell_lists t.funcs ++ (spell_lists t.sites ++ t.root ∷ flat_m
 abbrev pub counts_of : CutOf → List ℕ
 counts_of c = map (λ p. p.count) c.parts
 
--- the name of a job
+-- the name of a job: how many events each part has, its kind, its burdens, and the recording
 abbrev pub spell : JobOf → List ℕ
 spell j = spell_list (counts_of j.cut) ++ (spell_kind j.kind ∷ j.burdens.continuation ∷ j.burdens.join ∷ spell_trace j.cut.trace)
 
