@@ -1,12 +1,11 @@
 -- The values of surveys, joined.
-use Rattle.std.proofs.Common.{◌≡◌, ℕ, ◌+◌, ◌-◌, ◌<◌, ◌≤◌, List, [], ◌∷◌, ◌++◌, length, map, get_or, take, drop, refl, sym, ap, ap₂, subst, ◌∙◌, arith}
+use Rattle.std.proofs.Common.{◌≡◌, ℕ, ◌+◌, ◌-◌, ◌<◌, List, [], ◌∷◌, ◌++◌, length, map, get_or, take, refl, sym, ap, ap₂, subst, ◌∙◌, arith}
 use Rattle.std.specs.List.{flat_map}
 use Rattle.std.proofs.lemmas.List.{map-append, append-nil}
 use Rattle.std.proofs.lemmas.Grind.{flat_map-append}
 use Rattle.spp_event.specs.Recordings.{Record}
-use Rattle.spp_cut.specs.Parts.{PartOf, CutOf, IsCut, HasFewParts, events_in, records_in}
+use Rattle.spp_cut.specs.Parts.{PartOf, IsCut, HasFewParts, events_in, records_in}
 use Rattle.spp_cut.proofs.Whole.{all_records}
-use Rattle.spp_maxplus.specs.declared.state.Burdens.{Burdens}
 use Rattle.spp_piece.specs.Account.{Account, account_of, together}
 use Rattle.spp_piece.proofs.Joins.{both_account}
 use Rattle.spp_book.specs.Jobs.{AreNeighbours, IsJoined}

@@ -1,7 +1,7 @@
 -- The value of a survey.
 use Rattle.std.specs.Prelude.{◌≡◌, ℕ, List, map, flat_map, take}
-use Rattle.spp_cut.specs.Parts.{PartOf, CutOf, events_in, records_in}
-use Rattle.spp_piece.specs.Account.{Account, account_of}
+use Rattle.spp_cut.specs.Parts.{events_in, records_in}
+use Rattle.spp_piece.specs.Account.{account_of}
 use Rattle.spp_jobs.specs.Names.{JobOf, IsNamed, surveys, parts_from}
 use Rattle.spp_jobs.specs.declared.survey.Survey.{Survey}
 

@@ -1,5 +1,4 @@
-use Rattle.std.proofs.Common.{◌≡◌, get_or, sym, ap, ap₂, ◌∙◌}
-use Rattle.spp_cut.specs.Parts.{PartOf}
+use Rattle.std.proofs.Common.{get_or, ap, ap₂, ◌∙◌}
 use Rattle.spp_jobs.specs.Names.{surveys, JobOf}
 use Rattle.spp_jobs.proofs.Spelling.{range_is}
 use Rattle.spp_jobs.proofs.survey.SurveyJobJob.range.Goals as goal

@@ -1,5 +1,5 @@
-use Rattle.std.proofs.Common.{◌≡◌, ◌∷◌, ◌++◌, [], ◌+◌, ◌<◌, length, get_or, refl, ap, ap₂, ◌∙◌, arith}
-use Rattle.spp_jobs.specs.Names.{surveys, spell, JobOf}
+use Rattle.std.proofs.Common.{◌≡◌, ◌∷◌, ◌++◌, [], ◌<◌, length, get_or, refl, ap, ap₂, ◌∙◌, arith}
+use Rattle.spp_jobs.specs.Names.{surveys, JobOf}
 use Rattle.spp_jobs.proofs.Spelling.{parts_told}
 use Rattle.spp_jobs.proofs.Surveys.{survey_one}
 use Rattle.spp_jobs.proofs.survey.SurveyJobJob.run.Goals as goal
