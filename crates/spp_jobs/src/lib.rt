@@ -1,0 +1,9 @@
+//! What workers do with the parts of a cut trace: three jobs, each of which any number of them can share.
+#![tactic(auto)]
+
+mod laws;
+mod lists;
+mod survey;
+
+pub use laws::name_laws;
+pub use survey::{Survey, SurveyJob};
