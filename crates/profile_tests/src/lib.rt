@@ -18,6 +18,8 @@ mod reference;
 #[cfg(test)]
 mod serial;
 #[cfg(test)]
+mod settled;
+#[cfg(test)]
 mod site;
 #[cfg(test)]
 mod summary;
