@@ -6,6 +6,8 @@ mod figures;
 #[cfg(test)]
 mod frame;
 #[cfg(test)]
+mod marks;
+#[cfg(test)]
 mod maxplus;
 #[cfg(test)]
 mod parts;
