@@ -192,7 +192,7 @@ fn rows(table: &Table) -> (Row, Row) {
     (table.root_row(), table.row(0))
 }
 
-/// Whether parts of one event tell the rows of both paths of a run that the profiler tells that goes through it as a whole;
+/// Whether parts of one event tell the same rows of both paths as the profiler that goes through a run as a whole;
 /// none where it has no profile.
 fn tells_the_same(alloc: Global, events: &[Event]) -> Option<bool> {
     let bytes = trace_of(alloc, events).ok()?;
