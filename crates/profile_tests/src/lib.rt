@@ -6,6 +6,8 @@ mod figures;
 #[cfg(test)]
 mod frame;
 #[cfg(test)]
+mod marks;
+#[cfg(test)]
 mod maxplus;
 #[cfg(test)]
 mod parts;
@@ -17,6 +19,8 @@ mod path;
 mod reference;
 #[cfg(test)]
 mod serial;
+#[cfg(test)]
+mod settled;
 #[cfg(test)]
 mod site;
 #[cfg(test)]

@@ -2,7 +2,7 @@
 use crate::worked::{BAD, CALL, CALLS, FORK, GOOD, RET, S1, S2, S3, S4, S5, S7, SPAWN, SYNC};
 use spp_cut::{Cut, Parts, cut_at, cut_even};
 use spp_dag::{Choice, Choices, End, EntryFrame, Figures, FrameKind, Row};
-use spp_event::{Event, open_trace, trace_of};
+use spp_event::{Event, Trace, open_trace, trace_of};
 use spp_frame::ProfileFault;
 use spp_maxplus::{Burdens, State};
 use spp_parts::{Tabled, survey, table_in_parts};
@@ -12,7 +12,7 @@ use std::alloc::{AllocError, Global};
 use std::test::Fail;
 
 /// A thousand nested calls, then a thousand strands of one instruction in the innermost frame, then all returns.
-fn thousand(alloc: Global) -> Result<Vec<Event>, AllocError> {
+pub(crate) fn thousand(alloc: Global) -> Result<Vec<Event>, AllocError> {
     let mut events = Vec::new(alloc);
     for event in [CALL, S1, RET] {
         for _ in 0..1000 {
@@ -20,6 +20,12 @@ fn thousand(alloc: Global) -> Result<Vec<Event>, AllocError> {
         }
     }
     Ok(events)
+}
+
+/// A trace in parts of one event; none where no memory was left.
+pub(crate) fn singly<'t, 'a>(alloc: Global, trace: &'t Trace<'a>) -> Option<Cut<'t, 'a>> {
+    let parts = Parts::new(trace.count().clamp(1, Parts::MOST))?;
+    cut_even(alloc, trace, parts).ok()
 }
 
 /// What the figures of a cut trace are with a burden of 3.
@@ -31,7 +37,7 @@ fn figures_of(alloc: Global, cut: &Cut<'_, '_>) -> Result<Figures, ProfileFault>
 }
 
 /// The open frames where the parts of a cut trace begin; none where it isn't well-formed or no memory was left.
-fn stacks_of(alloc: Global, cut: &Cut<'_, '_>) -> Option<Entries> {
+pub(crate) fn stacks_of(alloc: Global, cut: &Cut<'_, '_>) -> Option<Entries> {
     let found = survey(alloc, cut, Burdens::equal(3)).ok()?;
     entries(alloc, cut.trace().root(), &found.each).ok()
 }
@@ -237,8 +243,9 @@ fn comes_to(
     let Ok(trace) = open_trace(alloc, &bytes) else {
         return Ok(false);
     };
-    let parts = Parts::new(trace.count().clamp(1, Parts::MOST)).unwrap_or_default();
-    let cut = cut_even(alloc, &trace, parts)?;
+    let Some(cut) = singly(alloc, &trace) else {
+        return Err(AllocError);
+    };
     Ok(figures_of(alloc, &cut) == end)
 }
 
@@ -271,8 +278,7 @@ fn of_all_parts_the_first_bad_event_is_told(rt: HostRuntime) -> Result<(), Fail>
 fn told_in_parts(alloc: Global, events: &[Event]) -> Option<Tabled> {
     let bytes = trace_of(alloc, events).ok()?;
     let trace = open_trace(alloc, &bytes).ok()?;
-    let parts = Parts::new(trace.count().clamp(1, Parts::MOST))?;
-    let cut = cut_even(alloc, &trace, parts).ok()?;
+    let cut = singly(alloc, &trace)?;
     table_in_parts(alloc, &cut, Burdens::equal(3)).ok()
 }
 
@@ -291,7 +297,7 @@ fn rows_at_once(alloc: Global, events: &[Event]) -> Option<(Row, Row)> {
 }
 
 /// The row of the root frame of a run of that work and span, with so many instructions directly in it.
-fn root_row(local: u128, work: u128, span: u128) -> Row {
+pub(crate) fn root_row(local: u128, work: u128, span: u128) -> Row {
     Row {
         count: 1,
         local,
@@ -339,7 +345,7 @@ fn tops_are_judged_beyond_the_part(rt: HostRuntime) -> Result<(), Fail> {
 }
 
 /// Spawns in spawned and called frames.
-const SPAWNS: [Event; 15] = [
+pub(crate) const SPAWNS: [Event; 15] = [
     S3, SPAWN, S5, SPAWN, S5, RET, S5, RET, CALL, S1, SPAWN, RET, RET, SYNC, S1,
 ];
 

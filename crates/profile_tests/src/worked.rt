@@ -60,6 +60,18 @@ pub(crate) const CALLS: [Event; 9] = [CALL, S1, CALL, S1, CALL, S1, RET, RET, RE
 /// A spawn within a spawn, and what follows both: the outer child is waited for at the end.
 pub(crate) const NESTED: [Event; 7] = [SPAWN, SPAWN, S3, RET, S1, RET, S2];
 
+/// The same, where a sync waits for the outer child.
+pub(crate) const WAITED: [Event; 9] = [SPAWN, SPAWN, S3, RET, S1, RET, S2, SYNC, S1];
+
+/// Two equal children, both waited for at the end.
+pub(crate) const EQUAL: [Event; 7] = [SPAWN, S5, RET, SPAWN, S5, RET, SYNC];
+
+/// A spawn within a call, beside a spawned child.
+pub(crate) const IN_CALL: [Event; 11] = [SPAWN, S6, RET, CALL, SPAWN, S5, RET, S1, RET, S2, SYNC];
+
+/// A child that is joined within one that weighs less than its continuation.
+pub(crate) const BESIDE: [Event; 8] = [SPAWN, SPAWN, S5, RET, SYNC, RET, S10, SYNC];
+
 /// Well-formed runs.
 pub(crate) const GOOD: &[Good] = &[
     Good {
@@ -103,7 +115,7 @@ pub(crate) const GOOD: &[Good] = &[
         },
     },
     Good {
-        events: &[SPAWN, S5, RET, SPAWN, S5, RET, SYNC],
+        events: &EQUAL,
         figures: Figures {
             work: 10,
             span: 5,
@@ -143,7 +155,7 @@ pub(crate) const GOOD: &[Good] = &[
         },
     },
     Good {
-        events: &[SPAWN, SPAWN, S3, RET, S1, RET, S2, SYNC, S1],
+        events: &WAITED,
         figures: Figures {
             work: 7,
             span: 4,
@@ -159,7 +171,7 @@ pub(crate) const GOOD: &[Good] = &[
         },
     },
     Good {
-        events: &[SPAWN, S6, RET, CALL, SPAWN, S5, RET, S1, RET, S2, SYNC],
+        events: &IN_CALL,
         figures: Figures {
             work: 14,
             span: 7,
