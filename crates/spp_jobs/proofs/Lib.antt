@@ -1,3 +1,5 @@
 pub mod Spelling
 pub mod Cuts
 pub mod Surveys
+pub mod Rows
+pub mod Tables

@@ -1,9 +1,12 @@
 //! What workers do with the parts of a cut trace: three jobs, each of which any number of them can share.
 #![tactic(auto)]
 
+mod adding;
 mod laws;
 mod lists;
 mod survey;
+mod tabled;
 
 pub use laws::name_laws;
 pub use survey::{Survey, SurveyJob};
+pub use tabled::{TableJob, Tabled};

@@ -35,7 +35,7 @@ use Rattle.spp_parts.proofs.Begins.{begin_in, PartAt, all_parts}
 
 -- ---- the shares add up
 
-small_fits : (r : Row) → IsSmallRow r → Fits r
+pub small_fits : (r : Row) → IsSmallRow r → Fits r
 small_fits r s =
     let a = s.count in
     let b = s.local in
