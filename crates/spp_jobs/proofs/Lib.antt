@@ -3,3 +3,4 @@ pub mod Cuts
 pub mod Surveys
 pub mod Rows
 pub mod Tables
+pub mod Paths

@@ -1,3 +1,4 @@
 pub mod Names
 pub mod Surveys
 pub mod Tables
+pub mod Paths

@@ -4,9 +4,11 @@
 mod adding;
 mod laws;
 mod lists;
+mod pathed;
 mod survey;
 mod tabled;
 
 pub use laws::name_laws;
+pub use pathed::{PathJob, Pathed};
 pub use survey::{Survey, SurveyJob};
 pub use tabled::{TableJob, Tabled};
