@@ -7,6 +7,8 @@
 
 mod gate;
 mod round;
+mod surveying;
 
 pub use gate::{Gate, OpenGate};
 pub use round::run_round;
+pub use surveying::figures;

@@ -1,7 +1,7 @@
-mod Accounts
-mod Begins
+pub mod Accounts
+pub mod Begins
 pub mod Entries
-mod Shares
-mod Chosen
-mod Runs
-mod Marked
+pub mod Shares
+pub mod Chosen
+pub mod Runs
+pub mod Marked
