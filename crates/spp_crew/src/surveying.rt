@@ -29,7 +29,7 @@ const SURVEY: u8 = 1;
 ///
 /// # Errors
 ///
-/// The first bad event, or `Memory` where a growth was refused or no thread could be started.
+/// The first bad event, or `Memory` where a growth was refused.
 pub(crate) fn survey<R: Threads + Wait + Sync, G: Gate>(
     rt: &R,
     alloc: Global,
@@ -61,16 +61,18 @@ pub(crate) fn survey<R: Threads + Wait + Sync, G: Gate>(
     })
 }
 
-/// The work, span and burdened span of a run, in the units of its strands, made by so many workers, 1 to 64, who share the
-/// parts in round 1. The work is below 2^92. Neither the number of workers nor their pace shows in the figures.
+/// The work, span and burdened span of a run, in instructions, made by so many workers, 1 to 64, each on a thread of its
+/// own but one. They draw the parts of the cut trace in round 1. The work is below 2^92. How many workers there are, which
+/// of them draws which part, and in which order the parts are done doesn't show in the figures.
 ///
-/// The events are read once, and the time of all workers together is linear in the numbers of events and parts, besides
-/// the joins. The memory is linear in the numbers of parts, of the frames that they leave open and of those that they
-/// close and don't open, and 64 KiB or more for each worker but one.
+/// Each event is read once. All workers together take a time linear in the number of events, besides the joins of the
+/// summaries, which are made one at a time. The memory is linear in the numbers of parts, of the frames that they leave open
+/// and of those that they close and don't open; a thread has a stack of its own besides.
 ///
 /// # Errors
 ///
-/// The first bad event, or `Memory` where a growth was refused or no thread could be started.
+/// The first bad event, or `Memory` where a growth was refused. A thread that can't be started is no error: its share is
+/// left to the others.
 pub fn figures<R: Threads + Wait + Sync, G: Gate>(
     rt: &R,
     alloc: Global,

@@ -23,7 +23,7 @@ use spp_stack::Entries;
 use std::alloc::{AllocError, Global};
 
 /// The choices in each part, where the stacks are those where the parts begin.
-pub(crate) fn choices_of(
+pub fn choices_of(
     alloc: Global,
     cut: &Cut<'_, '_>,
     burdens: Burdens,
