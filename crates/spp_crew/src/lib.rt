@@ -6,7 +6,11 @@
 #![tactic(auto)]
 
 mod gate;
+mod marking;
 mod round;
+mod surveying;
 
 pub use gate::{Gate, OpenGate};
+pub use marking::marks;
 pub use round::run_round;
+pub use surveying::figures;

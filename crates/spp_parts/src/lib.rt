@@ -11,6 +11,6 @@ mod surveying;
 pub use beginnings::entries_of;
 pub use in_parts::table_in_parts;
 pub use marks::marks_in_parts;
-pub use on_path::path_in_parts;
+pub use on_path::{choices_of, path_in_parts};
 pub use results::{Survey, Tabled};
 pub use surveying::survey;

@@ -22,8 +22,13 @@ use spp_site::Table;
 use spp_stack::Entries;
 use std::alloc::{AllocError, Global};
 
-/// The choices in each part, where the stacks are those where the parts begin.
-pub(crate) fn choices_of(
+/// The choices in each part, where the stacks are those where the parts begin. Each event is read once, on one thread, in
+/// the time that [`run_part`](spp_pass::run_part) takes for each part.
+///
+/// # Errors
+///
+/// Where a growth was refused.
+pub fn choices_of(
     alloc: Global,
     cut: &Cut<'_, '_>,
     burdens: Burdens,

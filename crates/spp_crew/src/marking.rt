@@ -1,0 +1,178 @@
+//! Which events of a run are on its path, marked by workers.
+
+ghost use Rattle.std.specs.Prelude.{◌≡◌, ◌+◌, ◌<◌, ◌≤◌, length, IfErr, OnOk, Err};
+ghost use Rattle.std.specs.Thread.{IsSync};
+ghost use Rattle.spp_crew.specs.Marks.{CanMark, AreMarked};
+ghost use Rattle.spp_frame.specs.Answers.{IsFaultOf};
+ghost use Rattle.spp_frame.specs.declared.Fault.{Fault};
+ghost use Rattle.spp_frame.specs.declared.profile_fault.ProfileFault.TheVariants.{Bad};
+ghost use Rattle.spp_maxplus.specs.State.{unburdened};
+ghost use Rattle.spp_parts.specs.Marks.{AreMarks};
+
+use crate::gate::Gate;
+use crate::surveying::survey;
+use spp_cut::{Cut, events_before, lend};
+use spp_frame::ProfileFault;
+use spp_maxplus::Burdens;
+use spp_parts::{choices_of, entries_of};
+use spp_path::{Settled, Under, mark_part, settle};
+use spp_stack::Entries;
+use std::alloc::{AllocError, Global};
+use std::sync::Wait;
+use std::thread::{Threads, join_mut};
+
+/// The round in which the events are marked.
+const MARKS: u8 = 4;
+
+/// Marks the events of the parts from number `from` up to, not including, `end`, one part after the other.
+///
+/// # Errors
+///
+/// Where a growth was refused; the bytes may then be any.
+fn mark_alone<R: Wait, G: Gate>(
+    rt: &R,
+    alloc: Global,
+    cut: &Cut<'_, '_>,
+    from: usize,
+    end: usize,
+    stacks: &Entries,
+    settled: &Settled<'_>,
+    gate: &G,
+    marks: &mut [u8],
+) -> Result<(), AllocError>
+    requires { CanMark cut.now stacks.now settled.now from end marks.old }
+    ensures length { length marks.new ≡ length marks.old }
+    ensures marks { OnOk result (AreMarked cut.now settled.now from marks.new) }
+{
+    let parts = cut.parts();
+    if end - from == 1 {
+        gate.before(rt, MARKS, from as u32);
+        return mark_part(alloc, &parts[from], stacks.entry(from), settled, marks);
+    }
+    let half = (end - from) / 2;
+    let middle = from + half;
+    let events = events_before(&parts[from..end], half);
+    let (first, second) = lend(marks, events);
+    mark_alone(rt, alloc, cut, from, middle, stacks, settled, gate, first)?;
+    mark_alone(rt, alloc, cut, middle, end, stacks, settled, gate, second)
+}
+
+/// The same by so many workers, who share the parts.
+#[cycle(halves)]
+fn mark_range<R: Threads + Wait + Sync, G: Gate>(
+    rt: &R,
+    alloc: Global,
+    cut: &Cut<'_, '_>,
+    from: usize,
+    end: usize,
+    stacks: &Entries,
+    settled: &Settled<'_>,
+    workers: u32,
+    gate: &G,
+    marks: &mut [u8],
+) -> Result<(), AllocError>
+    requires { CanMark cut.now stacks.now settled.now from end marks.old }
+    ensures length { length marks.new ≡ length marks.old }
+    ensures marks { OnOk result (AreMarked cut.now settled.now from marks.new) }
+{
+    if workers < 2 || end - from < 2 {
+        return mark_alone(rt, alloc, cut, from, end, stacks, settled, gate, marks);
+    }
+    let parts = cut.parts();
+    let half = (end - from) / 2;
+    let middle = from + half;
+    let events = events_before(&parts[from..end], half);
+    let (first, second) = lend(marks, events);
+    let (first_done, second_done) = mark_halves(
+        rt, alloc, cut, from, middle, end, stacks, settled, workers, gate, first, second,
+    );
+    first_done?;
+    second_done
+}
+
+/// The same, where the bytes are lent in two halves, with an answer for each: half of the workers mark the parts from
+/// number `middle` on, on a new thread.
+#[cycle(halves)]
+fn mark_halves<R: Threads + Wait + Sync, G: Gate>(
+    rt: &R,
+    alloc: Global,
+    cut: &Cut<'_, '_>,
+    from: usize,
+    middle: usize,
+    end: usize,
+    stacks: &Entries,
+    settled: &Settled<'_>,
+    workers: u32,
+    gate: &G,
+    first: &mut [u8],
+    second: &mut [u8],
+) -> (Result<(), AllocError>, Result<(), AllocError>)
+    requires first { CanMark cut.now stacks.now settled.now from middle first.old }
+    requires second { CanMark cut.now stacks.now settled.now middle end second.old }
+    ensures first_length { length first.new ≡ length first.old }
+    ensures second_length { length second.new ≡ length second.old }
+    ensures first { OnOk result.0 (AreMarked cut.now settled.now from first.new) }
+    ensures second { OnOk result.1 (AreMarked cut.now settled.now middle second.new) }
+{
+    let theirs = workers / 2;
+    let ours = workers - theirs;
+    let mut on_new_thread = || -> Result<(), AllocError>
+        requires { IsSync R.row × CanMark cut.now stacks.now settled.now middle end second.now }
+        ensures { (length second.exit.now ≡ length second.entry.now) × OnOk result (AreMarked cut.entry.now settled.entry.now middle second.exit.now) }
+    {
+        mark_range(
+            rt, alloc, cut, middle, end, stacks, settled, theirs, gate, second,
+        )
+    };
+    let mut here = || -> Result<(), AllocError>
+        requires { IsSync R.row × CanMark cut.now stacks.now settled.now from middle first.now }
+        ensures { (length first.exit.now ≡ length first.entry.now) × OnOk result (AreMarked cut.entry.now settled.entry.now from first.exit.now) }
+    {
+        mark_range(
+            rt, alloc, cut, from, middle, stacks, settled, ours, gate, first,
+        )
+    };
+    let (second_done, first_done) = join_mut(rt, &mut on_new_thread, &mut here);
+    (first_done, second_done)
+}
+
+/// Marks which events of a cut trace are on its path, the one that is greatest without burdens, by so many workers, 1 to
+/// 64, each on a thread of its own but one: byte `i` is 1 where event `i` is on the path, else 0. The gate is called in
+/// round 1 before a part is summarised, and in round 4 before its events are marked.
+///
+/// Each event is read three times: by the workers for the summaries, on one thread for the choices, and by the workers
+/// for the marks, where each has a run of neighbouring parts. The memory is linear in the numbers of parts, of the frames
+/// that are open where parts begin or that parts close and don't open, and of spawned children, besides the frames that
+/// are open at a time in each part that is being marked, and the stacks of the threads.
+///
+/// # Errors
+///
+/// The first bad event, and then the bytes are as they were; or `Memory` where a growth was refused, and then they may be
+/// any. A thread that can't be started is no error: its share is left to the others.
+pub fn marks<R: Threads + Wait + Sync, G: Gate>(
+    rt: &R,
+    alloc: Global,
+    cut: &Cut<'_, '_>,
+    workers: u32,
+    gate: &G,
+    marks: &mut [u8],
+) -> Result<(), ProfileFault>
+    requires some { 0 < workers }
+    requires most { workers ≤ 64 }
+    requires bytes { length marks.old ≡ length cut.now.trace.records }
+    ensures marks { OnOk result (AreMarks cut.now.trace unburdened marks.new) }
+    ensures fault { IfErr result (λ f. IsFaultOf cut.now.trace.records f) }
+    ensures kept { (fault : Fault) → result ≡ Err (Bad fault) → marks.new ≡ marks.old }
+{
+    let burdens = Burdens::equal(0);
+    let found = survey(rt, alloc, cut, workers, burdens, gate)?;
+    let stacks = entries_of(alloc, cut, &found.each)?;
+    drop(found.each);
+    let choices = choices_of(alloc, cut, burdens, &stacks)?;
+    let settled = settle(alloc, &stacks, &choices, Under::Zero)?;
+    let count = cut.parts().len();
+    mark_range(
+        rt, alloc, cut, 0, count, &stacks, &settled, workers, gate, marks,
+    )?;
+    Ok(())
+}

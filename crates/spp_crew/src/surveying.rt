@@ -1,0 +1,92 @@
+//! The figures of a run, made by workers.
+
+ghost use Rattle.std.specs.Prelude.{◌≡◌, ◌<◌, ◌≤◌, ◌^◌, List, length, IfOk, IfErr};
+ghost use Rattle.std.specs.List.{All};
+ghost use Rattle.spp_dag.specs.Figures.{AreFigures};
+ghost use Rattle.spp_event.specs.declared.records.Event.{Event as EventValue};
+ghost use Rattle.spp_frame.specs.Answers.{IsFaultOf};
+ghost use Rattle.spp_frame.specs.Nesting.{AreEvents};
+ghost use Rattle.spp_parts.specs.Summaries.{AreSummariesOf};
+ghost use Rattle.spp_stack.specs.Parts.{AreOfParts};
+
+use crate::gate::Gate;
+use crate::round::run_round;
+use spp_cut::Cut;
+use spp_dag::Figures;
+use spp_frame::ProfileFault;
+use spp_jobs::{Survey, SurveyJob};
+use spp_maxplus::Burdens;
+use spp_parts::Survey as Surveyed;
+use std::alloc::Global;
+use std::sync::Wait;
+use std::thread::Threads;
+
+/// The round in which the survey is made.
+const SURVEY: u8 = 1;
+
+/// The summaries of the parts of a cut trace, with the figures that all parts together come to, made by so many workers
+/// in round 1.
+///
+/// # Errors
+///
+/// The first bad event, or `Memory` where a growth was refused.
+pub(crate) fn survey<R: Threads + Wait + Sync, G: Gate>(
+    rt: &R,
+    alloc: Global,
+    cut: &Cut<'_, '_>,
+    workers: u32,
+    burdens: Burdens,
+    gate: &G,
+) -> Result<Surveyed, ProfileFault>
+    requires some { 0 < workers }
+    requires most { workers ≤ 64 }
+    ensures figures { IfOk result (λ s. AreFigures cut.now.trace.records burdens s.whole) }
+    ensures small { IfOk result (λ s. s.whole.work < 2 ^ 92) }
+    ensures count { IfOk result (λ s. length s.each.items ≡ length cut.now.parts) }
+    ensures few { IfOk result (λ s. length s.each.items ≤ 65536) }
+    ensures burdens { IfOk result (λ s. All (λ a. a.burdens ≡ burdens) s.each.items) }
+    ensures each { IfOk result (λ s. AreSummariesOf cut.now burdens s.each.items) }
+    ensures parts { IfOk result (λ s. (es : List EventValue) → AreEvents cut.now.trace.records es → AreOfParts es burdens s.each.items) }
+    ensures fault { IfErr result (λ f. IsFaultOf cut.now.trace.records f) }
+{
+    // For what they state: the limits, and that the parts hold all events.
+    cut.trace().keeps_limits();
+    let _parts = cut.parts();
+    let job = SurveyJob::new(cut, burdens);
+    let Survey { each, whole } = run_round(rt, alloc, &job, workers, SURVEY, gate)?;
+    let whole = whole.finish()?;
+    Ok(Surveyed {
+        each: each.into_vec(),
+        whole,
+    })
+}
+
+/// The work, span and burdened span of a run, in instructions, made by so many workers, 1 to 64, each on a thread of its
+/// own but one. They draw the parts of the cut trace in round 1. The work is below 2^92. How many workers there are, which
+/// of them draws which part, and in which order the parts are done doesn't show in the figures.
+///
+/// Each event is read once. All workers together take a time linear in the number of events, besides the joins of the
+/// summaries, which are made one at a time. The memory is linear in the numbers of parts, of the frames that they leave open
+/// and of those that they close and don't open; a thread has a stack of its own besides.
+///
+/// # Errors
+///
+/// The first bad event, or `Memory` where a growth was refused. A thread that can't be started is no error: its share is
+/// left to the others.
+pub fn figures<R: Threads + Wait + Sync, G: Gate>(
+    rt: &R,
+    alloc: Global,
+    cut: &Cut<'_, '_>,
+    workers: u32,
+    burdens: Burdens,
+    gate: &G,
+) -> Result<Figures, ProfileFault>
+    requires some { 0 < workers }
+    requires most { workers ≤ 64 }
+    ensures figures { IfOk result (λ f. AreFigures cut.now.trace.records burdens f) }
+    ensures small { IfOk result (λ f. f.work < 2 ^ 92) }
+    ensures fault { IfErr result (λ f. IsFaultOf cut.now.trace.records f) }
+{
+    let Surveyed { whole, .. } = survey(rt, alloc, cut, workers, burdens, gate)?;
+    Ok(whole)
+}
