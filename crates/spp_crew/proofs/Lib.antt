@@ -1,2 +1,3 @@
 pub mod Surveyed
 pub mod Halves
+mod Profiled

@@ -5,7 +5,7 @@ use std::sync::Wait;
 /// Called by each worker after it has drawn a part and before it works on it. A test can hold it there; what is answered
 /// doesn't depend on it.
 pub trait Gate: Sync {
-    /// Before this part in this round, both counted as in the calls that make rounds.
+    /// Called before `part` is worked on; `round` is the number of the round, from 1.
     fn before<R: Wait>(&self, rt: &R, round: u8, part: u32);
 }
 

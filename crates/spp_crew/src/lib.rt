@@ -7,10 +7,12 @@
 
 mod gate;
 mod marking;
+mod profiling;
 mod round;
 mod surveying;
 
 pub use gate::{Gate, OpenGate};
 pub use marking::marks;
+pub use profiling::profile;
 pub use round::run_round;
 pub use surveying::figures;

@@ -12,7 +12,8 @@ use std::sync::Wait;
 use std::sync::ledger::Blank;
 use std::thread::{Threads, join};
 
-/// One worker: draws numbers until there are none, and puts what came of each part. It stops where it finds no memory.
+/// One worker: draws numbers until there are none, and puts what came of each part. It stops where it finds no memory. A put
+/// is not refused, since each number is drawn once; if it were, the worker would stop too.
 fn work<J: Job, N: Naming, R: Wait, G: Gate>(
     rt: &R,
     alloc: Global,
@@ -110,13 +111,14 @@ fn run_named<J: Job + Sync, N: Naming + Send + Sync, R: Threads + Wait + Sync, G
     Desk::close(alloc, desk, pass).map_err(|_| AllocError)
 }
 
-/// The job's value of all its parts, made by so many workers, 1 to 64, each on a thread of its own but one. Each part is
-/// drawn by one of them, who calls the gate with the number of the round, does the part, and puts the piece. The joins are
-/// made under the book's lock, the parts outside it.
+/// The job's value of all its parts, made by 1 to 64 workers: one on this thread, each other on a thread of its own. A
+/// worker draws a part, calls the gate, does the part and puts the piece. Parts are done outside the book's lock, joins
+/// under it. `round` is for the gate alone.
 ///
 /// # Errors
 ///
-/// Where an allocation failed or no thread could be started. A worker that finds no memory stops, and the others go on.
+/// Where an allocation failed. A worker that finds no memory stops, and the others go on. A thread that can't be started is
+/// no error: its share is left to the others.
 pub fn run_round<J: Job + Sync, R: Threads + Wait + Sync, G: Gate>(
     rt: &R,
     alloc: Global,

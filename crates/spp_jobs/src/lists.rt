@@ -6,7 +6,7 @@ ghost use Rattle.std.specs.VecDeque.{deque_len, deque_capacity};
 use std::alloc::AllocError;
 use std::collections::VecDeque;
 
-/// Makes the longer of the two lists long enough for both. Their elements stay.
+/// Makes room in the longer of the two lists for the elements of the other. Their elements stay.
 ///
 /// # Errors
 ///

@@ -1,4 +1,4 @@
-//! The third round: the rows on both paths.
+//! The job that counts frames on both paths.
 
 ghost use Rattle.std.specs.Prelude.{◌≡◌, ◌<◌, ◌≤◌, ◌+◌, ℕ, List, Option, IfOk, IfErr, OnOk, OnErr};
 ghost use Rattle.spp_dag.specs.Shares.{plus};
@@ -56,7 +56,7 @@ impl Pathed {
     }
 }
 
-/// The job of the third round: to count the frames of the parts by call site on both paths.
+/// The job of counting the frames of the parts by call site on both paths.
 ///
 /// Contracts see the parts, the stacks where they begin, the burdens, and the two paths.
 #[derive(Drop)]

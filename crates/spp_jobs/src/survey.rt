@@ -1,4 +1,4 @@
-//! The first round: what each part does to the open frames, and all of them together.
+//! The job that summarises: what each part does to the open frames, and all of them together.
 
 ghost use Rattle.std.specs.Prelude.{◌≡◌, ◌<◌, ◌≤◌, ◌+◌, ℕ, List, IfOk, IfErr, OnOk, ◌++◌};
 ghost use Rattle.spp_book.specs.Jobs.{AreNeighbours, IsJoined, IsHandedBack, IsCopied};
@@ -22,7 +22,7 @@ pub struct Survey {
     pub whole: Summary,
 }
 
-/// The job of the first round: to summarise the parts of a cut trace.
+/// The job of summarising the parts of a cut trace.
 #[derive(Drop)]
 pub struct SurveyJob<'c, 't, 'a> {
     cut: &'c Cut<'t, 'a>,

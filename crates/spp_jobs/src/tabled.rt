@@ -1,4 +1,4 @@
-//! The second round: the rows on the whole dag, and the choices that settle the paths.
+//! The job that counts frames on the whole dag, and notes the choices that settle the paths.
 
 ghost use Rattle.std.specs.Prelude.{◌≡◌, ◌<◌, ◌≤◌, ◌+◌, ◌++◌, ℕ, List, IfOk, IfErr, OnOk};
 ghost use Rattle.spp_book.specs.Jobs.{AreNeighbours, IsJoined, IsHandedBack, IsCopied};
@@ -29,7 +29,7 @@ pub struct Tabled {
     pub choices: VecDeque<Choices>,
 }
 
-/// The job of the second round: to count the frames of the parts by call site, and to note their choices.
+/// The job of counting the frames of the parts by call site, and of noting their choices.
 ///
 /// Contracts see the parts, the stacks where they begin, and the burdens.
 #[derive(Drop)]

@@ -20,7 +20,7 @@ use spp_site::{ClosedFrame, Table};
 use std::alloc::Global;
 
 /// What the root frame itself adds to its row, where the run comes to these figures.
-pub(crate) fn root_row(whole: &Figures) -> Row
+pub fn root_row(whole: &Figures) -> Row
     ensures { result ≡ frame_row (record { local = 0; work = whole.now.work; span = whole.now.span; top_site = true; top_caller = true }) }
 {
     let closed = ClosedFrame {

@@ -1,4 +1,5 @@
-//! The tables of a run by way of its parts.
+//! A run by way of its parts: its figures, the open frames where parts begin, its tables, and which events are on its
+//! paths.
 #![tactic(auto)]
 
 mod beginnings;
@@ -9,7 +10,7 @@ mod results;
 mod surveying;
 
 pub use beginnings::entries_of;
-pub use in_parts::table_in_parts;
+pub use in_parts::{root_row, table_in_parts};
 pub use marks::marks_in_parts;
 pub use on_path::{choices_of, path_in_parts};
 pub use results::{Survey, Tabled};

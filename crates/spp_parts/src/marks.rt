@@ -56,8 +56,8 @@ fn mark_range(
 /// Marks which events of a cut trace are on one of its two paths, settled by way of its parts: byte `i` is 1 where event
 /// `i` is on the path, else 0.
 ///
-/// Time and memory are those of [`path_in_parts`](crate::path_in_parts), without the table, besides a step for each part
-/// at each halving of the parts.
+/// Time and memory are those of [`path_in_parts`](crate::path_in_parts), without the table, besides n log n steps for n
+/// parts.
 ///
 /// # Errors
 ///

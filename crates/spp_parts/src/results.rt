@@ -1,4 +1,4 @@
-//! What the two rounds give.
+//! What is told of all parts of a trace together.
 
 use spp_dag::{Choices, Figures};
 use spp_site::Table;

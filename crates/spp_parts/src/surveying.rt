@@ -1,4 +1,4 @@
-//! The first round: what each part does to the open frames, and what the run comes to.
+//! What each part does to the open frames, and what the run comes to.
 
 ghost use Rattle.std.specs.Prelude.{◌≡◌, ◌<◌, ◌≤◌, ◌^◌, ◌++◌, ◌∷◌, [], List, length, IfOk, IfErr, OnOk};
 ghost use Rattle.std.specs.List.{All};

@@ -6,7 +6,8 @@
 //! the events keeps the weights of each open frame, 48 bytes, for its span, and 48 bytes more of a frame on the path.
 //!
 //! Both go by the parts of a trace too: [`settle`] goes back over the choices of all parts, and tells of each what it
-//! needs to know of the path, so that [`part_rows`] can read the parts in any order.
+//! needs to know of the path, so that [`part_rows`] and [`mark_part`] can read the parts in any order. The latter tells
+//! which events of a part are on the path.
 #![tactic(auto)]
 
 mod entered;

@@ -113,7 +113,8 @@ impl<'e> Marking<'e> {
 /// part: byte `k` is 1 where the part's event `k` is on the path, else 0.
 ///
 /// The events of the part are read once, each in constant time, amortized. A frame that was open before is taken in once
-/// it returns. The memory is linear in the number of frames that are opened in the part and open at a time.
+/// it returns. The memory is linear in the number of those frames that are opened in the part, are on the
+/// path and are open at a time.
 ///
 /// # Errors
 ///

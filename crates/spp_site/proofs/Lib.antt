@@ -8,3 +8,4 @@ pub mod Small
 pub mod Marked
 pub mod RowSums
 pub mod LastFirst
+pub mod WholeProfile

@@ -1,4 +1,4 @@
-use Rattle.spp_serial.proofs.Whole.{whole}
+use Rattle.spp_site.proofs.WholeProfile.{whole}
 use Rattle.spp_serial.proofs.profile_serial.Goals as goal
 
 pub returns-clause-profile : goal.returns-clause-profile

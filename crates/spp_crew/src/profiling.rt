@@ -1,0 +1,153 @@
+//! The whole profile of a run, made by workers.
+
+ghost use Rattle.std.specs.Prelude.{◌≡◌, ◌<◌, ◌≤◌, ◌^◌, List, length, IfOk, IfErr};
+ghost use Rattle.spp_dag.specs.Figures.{AreFigures};
+ghost use Rattle.spp_event.specs.declared.records.Event.{Event as EventValue};
+ghost use Rattle.spp_frame.specs.Answers.{IsFaultOf};
+ghost use Rattle.spp_frame.specs.Nesting.{AreEvents};
+ghost use Rattle.spp_jobs.specs.Names.{tables, paths};
+ghost use Rattle.spp_jobs.specs.Paths.{IsPathedOf};
+ghost use Rattle.spp_jobs.specs.Tables.{IsRun, IsTabledOf};
+ghost use Rattle.spp_maxplus.specs.State.{unburdened};
+ghost use Rattle.spp_parts.specs.Choices.{AreChoicesOf};
+ghost use Rattle.spp_site.specs.Profiles.{IsDagTable, IsPathTable, IsProfileOf};
+ghost use Rattle.spp_stack.specs.Parts.{AreEntriesOf};
+
+use crate::gate::Gate;
+use crate::round::run_round;
+use crate::surveying::survey;
+use spp_cut::Cut;
+use spp_dag::Choices;
+use spp_frame::ProfileFault;
+use spp_jobs::{PathJob, Pathed, TableJob, Tabled};
+use spp_maxplus::Burdens;
+use spp_parts::{entries_of, root_row};
+use spp_path::{Under, settle};
+use spp_site::Profile;
+use spp_stack::Entries;
+use std::alloc::{AllocError, Global};
+use std::sync::Wait;
+use std::thread::Threads;
+
+/// The round in which frames are counted on the whole dag, and choices noted.
+const TABLES: u8 = 2;
+
+/// The round in which frames are counted on both paths.
+const PATHS: u8 = 3;
+
+/// The rows of all parts on the whole dag, without what the root frame adds itself, and the choices in each, made by so
+/// many workers in round 2.
+///
+/// # Errors
+///
+/// Where a growth was refused.
+fn tabled<R: Threads + Wait + Sync, G: Gate>(
+    rt: &R,
+    alloc: Global,
+    cut: &Cut<'_, '_>,
+    stacks: &Entries,
+    workers: u32,
+    burdens: Burdens,
+    gate: &G,
+) -> Result<Tabled, AllocError>
+    requires some { 0 < workers }
+    requires most { workers ≤ 64 }
+    requires entries { AreEntriesOf cut.now burdens stacks.now }
+    ensures { IfOk result (λ t. IsTabledOf (record { kind = tables; cut = cut.now; burdens = burdens }) 0 (length cut.now.parts) t) }
+{
+    // For what they state.
+    let _parts = cut.parts();
+    let job = TableJob::new(cut, stacks, burdens);
+    run_round(rt, alloc, &job, workers, TABLES, gate)
+}
+
+/// The rows of all parts on both paths, without what the root frame adds itself, made by so many workers in round 3: both
+/// paths are settled first, on one thread, by the choices of the parts.
+///
+/// # Errors
+///
+/// Where a growth was refused.
+fn pathed<R: Threads + Wait + Sync, G: Gate>(
+    rt: &R,
+    alloc: Global,
+    cut: &Cut<'_, '_>,
+    stacks: &Entries,
+    choices: &[Choices],
+    workers: u32,
+    burdens: Burdens,
+    gate: &G,
+) -> Result<Pathed, AllocError>
+    requires some { 0 < workers }
+    requires most { workers ≤ 64 }
+    requires run { IsRun cut.now }
+    requires entries { AreEntriesOf cut.now burdens stacks.now }
+    requires choices { (es : List EventValue) → AreEvents cut.now.trace.records es → AreChoicesOf es burdens cut.now.parts choices.now }
+    ensures { IfOk result (λ t. IsPathedOf (record { kind = paths; cut = cut.now; burdens = burdens }) 0 (length cut.now.parts) t) }
+{
+    // For what they state.
+    let _parts = cut.parts();
+    let path = settle(alloc, stacks, choices, Under::Zero)?;
+    let burdened = settle(alloc, stacks, choices, Under::Burdens)?;
+    let job = PathJob::new(cut, stacks, burdens, &path, &burdened);
+    run_round(rt, alloc, &job, workers, PATHS, gate)
+}
+
+/// The profile of a run: its figures under these burdens, and its tables on the whole dag, on the first greatest path (the
+/// critical path), and on the first path that is greatest under the burdens. No row bears burdens. It is made by so many
+/// workers, 1 to 64, each on a thread of its own but one, who draw the parts of the cut trace in three rounds. How many
+/// workers there are, which of them draws which part, and in which order the parts are done doesn't show in the profile.
+///
+/// Each event is read four times: for the summaries, for the table of the dag, and for that of each path. All workers
+/// together take a time linear in the number of events, besides, for each part, the numbers of sites and of functions. The
+/// joins of what comes of the parts are made one at a time. The memory is linear in the numbers of parts, of the frames that
+/// they leave open or close and don't open, of spawned children, of sites and of functions; a thread has a stack of its own
+/// besides. The work is below 2^92.
+///
+/// # Errors
+///
+/// The first bad event, or `Memory` where a growth was refused. A thread that can't be started is no error: its share is
+/// left to the others.
+pub fn profile<R: Threads + Wait + Sync, G: Gate>(
+    rt: &R,
+    alloc: Global,
+    cut: &Cut<'_, '_>,
+    workers: u32,
+    burdens: Burdens,
+    gate: &G,
+) -> Result<Profile, ProfileFault>
+    requires some { 0 < workers }
+    requires most { workers ≤ 64 }
+    ensures figures { IfOk result (λ p. AreFigures cut.now.trace.records burdens p.figures) }
+    ensures small { IfOk result (λ p. p.figures.work < 2 ^ 92) }
+    ensures dag { IfOk result (λ p. IsDagTable cut.now.trace p.dag) }
+    ensures path { IfOk result (λ p. IsPathTable cut.now.trace unburdened p.path) }
+    ensures burdened_path { IfOk result (λ p. IsPathTable cut.now.trace burdens p.burdened_path) }
+    ensures profile { IfOk result (λ p. IsProfileOf cut.now.trace burdens p) }
+    ensures fault { IfErr result (λ f. IsFaultOf cut.now.trace.records f) }
+{
+    // For what it states.
+    let _parts = cut.parts();
+    let found = survey(rt, alloc, cut, workers, burdens, gate)?;
+    let figures = found.whole;
+    let stacks = entries_of(alloc, cut, &found.each)?;
+    drop(found.each);
+    let Tabled { table, choices } = tabled(rt, alloc, cut, &stacks, workers, burdens, gate)?;
+    let choices = choices.into_vec();
+    let Pathed {
+        path,
+        burdened_path,
+    } = pathed(rt, alloc, cut, &stacks, &choices, workers, burdens, gate)?;
+    let root = root_row(&figures);
+    let mut dag = table;
+    dag.add_root(&root);
+    let mut path = path;
+    path.add_root(&root);
+    let mut burdened_path = burdened_path;
+    burdened_path.add_root(&root);
+    Ok(Profile {
+        figures,
+        dag,
+        path,
+        burdened_path,
+    })
+}
