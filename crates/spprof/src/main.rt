@@ -36,14 +36,7 @@ where
         return run(rt, rt.alloc(), request, &mut first, out, err);
     };
     match fs::open(rt, path.as_str()) {
-        Ok(file) => run(
-            rt,
-            rt.alloc(),
-            request,
-            &mut InSource::new(file),
-            out,
-            err,
-        ),
+        Ok(file) => run(rt, rt.alloc(), request, &mut InSource::new(file), out, err),
         Err(e) if e.kind() == ErrorKind::OutOfMemory => show_usage(UsageFault::Memory, out, err),
         Err(_) => refuse_input(err),
     }
