@@ -44,10 +44,13 @@ expect 'nqueens' 0 "work 32744$lf" '' "$top/examples/nqueens.sptrace" check
 
 # The figures of the recorded traces are that program's too.
 figures_of() { # NAME FILE BURDEN WORK SPAN BURDENED PARALLELISM BURDENED_PARALLELISM
-    local text="work $4${lf}span $5${lf}burdened $6${lf}parallelism $7${lf}burdened parallelism $8$lf" parts
+    local text="work $4${lf}span $5${lf}burdened $6${lf}parallelism $7${lf}burdened parallelism $8$lf" parts workers
     expect "figures of $1" 0 "$text" '' /dev/null figures --burden "$3" "$2"
     for parts in 1 2 7 65536; do
         expect "figures of $1 in $parts parts" 0 "$text" '' /dev/null figures --parts $parts --burden "$3" "$2"
+    done
+    for workers in 1 2 64; do
+        expect "figures of $1 by $workers workers" 0 "$text" '' /dev/null figures --parts 7 --workers $workers --burden "$3" "$2"
     done
 }
 figures_of 'the small trace' "$small" 3 17 13 16 1.30 1.06
@@ -69,6 +72,13 @@ report_of() { # TRACE FILE WORDS..: with these words, the program prints just th
 for trace in cilksort fib nqueens; do
     report_of $trace $trace.report profile
     report_of $trace $trace.csv profile --csv
+    for workers in 1 2 64; do
+        report_of $trace $trace.report profile --workers $workers
+        report_of $trace $trace.csv profile --csv --parts 100 --workers=$workers
+    done
+    for parts in 1 7 65536; do
+        report_of $trace $trace.report profile --parts=$parts
+    done
 done
 # The sample of README.md.
 sed -n '/^    \$ .*profile --burden 100 /,/^\*The first/p' "$top/README.md" | sed -e '1d' -e '/^\*/d' -e 's/^    //' | sed '$d' > "$folder/sample"
@@ -286,9 +296,14 @@ shown no_command 2
 shown two_files 2 check a b
 shown two_texts 2 encode a b
 shown unknown_option 2 encode --nothing
-shown no_parts 2 figures --parts 0
-shown too_many_parts 2 figures --parts 65537
+for command in figures profile; do
+    shown no_parts 2 $command --parts 0
+    shown too_many_parts 2 $command --parts 65537
+    shown no_workers 2 $command --workers 0
+    shown too_many_workers 2 $command --workers 65
+done
 shown parts_of_check 2 check --parts 3
+shown workers_of_check 2 check --workers 2
 shown too_great_burden 2 figures --burden 4294967296
 shown too_great_join_burden 2 profile --join-burden 4294967296
 for word in chek encod --nothing ''; do
@@ -298,17 +313,20 @@ for word in 4294967296 -1 x ''; do
     for command in figures profile; do
         expect "$command, no burden: '$word'" 2 '' 'error: *' "$small" $command --burden "$word"
         expect "$command, no join burden: '$word'" 2 '' 'error: *' "$small" $command --join-burden "$word"
+        expect "$command, no number of parts: '$word'" 2 '' 'error: *' "$small" $command --parts "$word"
+        expect "$command, no number of workers: '$word'" 2 '' 'error: *' "$small" $command --workers "$word"
     done
-    expect "no number of parts: '$word'" 2 '' 'error: *' "$small" figures --parts "$word"
 done
 expect 'parts without a number' 2 '' 'error: *' "$small" figures --parts
+expect 'workers without a number' 2 '' 'error: *' "$small" profile --workers
 expect 'a join burden without a number' 2 '' 'error: *' "$small" figures --join-burden
 for command in check encode; do
     expect "$command with a burden" 2 '' 'error: *' "$small" $command --burden 3
     expect "$command with a join burden" 2 '' 'error: *' "$small" $command --join-burden 3
 done
-for command in check profile encode; do
+for command in check encode; do
     expect "$command with parts" 2 '' 'error: *' "$small" $command --parts 3
+    expect "$command with workers" 2 '' 'error: *' "$small" $command --workers 2
 done
 for command in check figures encode; do
     expect "$command with --csv" 2 '' 'error: *' "$small" $command --csv
@@ -318,6 +336,7 @@ expect 'a burden of 0' 0 "$of_small 13$lf*" '' "$small" figures --burden 0
 expect 'a burden behind =' 0 "$of_small 16$lf*" '' "$small" figures --burden=3
 expect 'the greatest burden' 0 "$of_small 4294967308$lf*" '' "$small" figures --burden 4294967295
 expect 'a burden, parts and a file' 0 "$of_small 16$lf*" '' /dev/null figures --burden 3 --parts=7 "$small"
+expect 'a burden, parts, workers and a file' 0 "$of_small 16$lf*" '' /dev/null profile --burden 3 --parts=7 --workers 2 "$small"
 expect 'a burden of a profile' 0 "$of_small 16$lf*" '' /dev/null profile --burden 3 "$small"
 expect 'tables alone with a burden' 0 "name,*" '' /dev/null profile --csv --burden 3 "$small"
 # What edges of each kind bear: --burden is for both, and --join-burden for those of returns in its place, wherever it

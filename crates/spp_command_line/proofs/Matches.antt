@@ -98,23 +98,24 @@ burden_read {E} G fallback (Some t) r parses none value = go r (value t refl)
         ((λ fits. read.1), (λ bad. absurd (bad (read.0.0, omega arith, omega (arith, read.0.1)))))
     go None h = ((λ fits. absurd (parses t (Err h.0) h.1 (fits.0, omega (arith, fits.2)))), (λ bad. refl))
 
-pub parts_read : {E : Type 0} (G : List ℕ → Result ℕ E → Type 0) (text : Option Text) (r o : Option ℕ) (n : ℕ)
+-- the same of a number from 1 on, which a type of its own keeps
+pub count_read : {E : Type 0} (most fallback : ℕ) → most ≤ 4294967295 → (G : List ℕ → Result ℕ E → Type 0) (text : Option Text) (r o : Option ℕ) (n : ℕ)
     → ((t : Text) (x : Result ℕ E) → G t x → ParsesUnsigned 32 10 t x)
     → (text ≡ None → r ≡ None) → ((t : Text) → text ≡ Some t → ReadsOne G t r)
-    → MatchOption r (o ≡ None) (λ x. (IsSome o ↔ ((1 ≤ x) × (x ≤ 65536))) × IfSome o (λ p. p ≡ x))
-    → UnwrapsOrElse o (λ p. p ≡ 16) n
-    → IsNumberOr 1 65536 16 text n
-parts_read G None r o n parses none value made kept = go r o (none refl) made kept
+    → MatchOption r (o ≡ None) (λ x. (IsSome o ↔ ((1 ≤ x) × (x ≤ most))) × IfSome o (λ p. p ≡ x))
+    → UnwrapsOrElse o (λ p. p ≡ fallback) n
+    → IsNumberOr 1 most fallback text n
+count_read most fallback few G None r o n parses none value made kept = go r o (none refl) made kept
   where
-    go : (r o : Option ℕ) → r ≡ None → MatchOption r (o ≡ None) (λ x. (IsSome o ↔ ((1 ≤ x) × (x ≤ 65536))) × IfSome o (λ p. p ≡ x)) → UnwrapsOrElse o (λ p. p ≡ 16) n → n ≡ 16
+    go : (r o : Option ℕ) → r ≡ None → MatchOption r (o ≡ None) (λ x. (IsSome o ↔ ((1 ≤ x) × (x ≤ most))) × IfSome o (λ p. p ≡ x)) → UnwrapsOrElse o (λ p. p ≡ fallback) n → n ≡ fallback
     go (Some v) o e made kept = cc
     go None (Some p) e made kept = cc
     go None None e made kept = kept
-parts_read G (Some t) r o n parses none value made kept = go r o (value t refl) made kept
+count_read most fallback few G (Some t) r o n parses none value made kept = go r o (value t refl) made kept
   where
     go : (r o : Option ℕ) → ReadsOne G t r
-        → MatchOption r (o ≡ None) (λ x. (IsSome o ↔ ((1 ≤ x) × (x ≤ 65536))) × IfSome o (λ p. p ≡ x)) → UnwrapsOrElse o (λ p. p ≡ 16) n
-        → IsNumberOr 1 65536 16 (Some t) n
+        → MatchOption r (o ≡ None) (λ x. (IsSome o ↔ ((1 ≤ x) × (x ≤ most))) × IfSome o (λ p. p ≡ x)) → UnwrapsOrElse o (λ p. p ≡ fallback) n
+        → IsNumberOr 1 most fallback (Some t) n
     go (Some v) (Some p) h made kept =
         let read = parses t (Ok v) h in
         let bounds = made.0.0 refl in
@@ -127,4 +128,4 @@ parts_read G (Some t) r o n parses none value made kept = go r o (value t refl) 
           (λ bad. kept),
         )
     go None (Some p) h made kept = cc
-    go None None h made kept = ((λ fits. absurd (parses t (Err h.0) h.1 (fits.0, omega (arith, fits.2)))), (λ bad. kept))
+    go None None h made kept = ((λ fits. absurd (parses t (Err h.0) h.1 (fits.0, omega (arith, fits.2, few)))), (λ bad. kept))

@@ -15,12 +15,12 @@ use Rattle.spp_command_line.specs.Spprof.{spprof}
 use Rattle.spp_command_line.specs.Usage.{Gives, IsRequestOf}
 
 -- the words have no fault, they give a request these values, and no request of them has others
-abbrev pub Ask : List Text → Command → List Text → Burdens → ℕ → Bool → Type 0
-Ask words command files burdens parts csv =
+abbrev pub Ask : List Text → Command → List Text → Burdens → ℕ → ℕ → Bool → Type 0
+Ask words command files burdens parts workers csv =
     (fault_of spprof (codes "spprof" ∷ words) ≡ [])
     × ((r : Request) → IsRequestOf (subcommand_of spprof (codes "spprof" ∷ words)) r
-    → (r.command ≡ command) × (map string_bytes r.files.items ≡ files) × (r.burdens ≡ burdens) × (r.parts ≡ parts) × (r.csv ≡ csv))
-    × Gives (subcommand_of spprof (codes "spprof" ∷ words)) command files burdens parts csv
+    → (r.command ≡ command) × (map string_bytes r.files.items ≡ files) × (r.burdens ≡ burdens) × (r.parts ≡ parts) × (r.workers ≡ workers) × (r.csv ≡ csv))
+    × Gives (subcommand_of spprof (codes "spprof" ∷ words)) command files burdens parts workers csv
 
 -- the words have just this fault
 abbrev pub Fail : List Text → ErrorKind → Type 0
@@ -34,16 +34,16 @@ name_of Encode = codes "encode"
 
 -- a command alone asks for itself, over standard input, with the defaults
 abbrev pub CommandAlone : Type 0
-CommandAlone = (command : Command) → Ask (name_of command ∷ []) command [] (equal 15000) 16 false
+CommandAlone = (command : Command) → Ask (name_of command ∷ []) command [] (equal 15000) 16 4 false
 
 -- and so with `-`
 abbrev pub Dash : Type 0
-Dash = (command : Command) → Ask (name_of command ∷ codes "-" ∷ []) command [] (equal 15000) 16 false
+Dash = (command : Command) → Ask (name_of command ∷ codes "-" ∷ []) command [] (equal 15000) 16 4 false
 
 -- one word more, if it doesn't begin with `-` (45), is the file
 abbrev pub OneWord : Type 0
 OneWord = (command : Command) (first : ℕ) (rest : Text) → (first == 45) ≡ false
-    → Ask (name_of command ∷ (first ∷ rest) ∷ []) command ((first ∷ rest) ∷ []) (equal 15000) 16 false
+    → Ask (name_of command ∷ (first ∷ rest) ∷ []) command ((first ∷ rest) ∷ []) (equal 15000) 16 4 false
 
 -- a second such word is a fault
 abbrev pub TwoWords : Type 0
@@ -52,27 +52,31 @@ TwoWords = (command : Command) (first second : ℕ) (rest more : Text) → (firs
 
 abbrev pub FiguresInParts : Type 0
 FiguresInParts =
-    Ask (codes "figures" ∷ codes "--burden" ∷ codes "7" ∷ codes "--parts=4" ∷ codes "a" ∷ []) Figures (codes "a" ∷ []) (equal 7) 4 false
+    Ask (codes "figures" ∷ codes "--burden" ∷ codes "7" ∷ codes "--parts=4" ∷ codes "a" ∷ []) Figures (codes "a" ∷ []) (equal 7) 4 4 false
 
 abbrev pub ProfileAsCsv : Type 0
-ProfileAsCsv = Ask (codes "profile" ∷ codes "--csv" ∷ codes "-" ∷ []) Profile [] (equal 15000) 16 true
+ProfileAsCsv = Ask (codes "profile" ∷ codes "--csv" ∷ codes "-" ∷ []) Profile [] (equal 15000) 16 4 true
+
+abbrev pub ProfileByWorkers : Type 0
+ProfileByWorkers =
+    Ask (codes "profile" ∷ codes "--workers" ∷ codes "2" ∷ codes "--parts=7" ∷ codes "a" ∷ []) Profile (codes "a" ∷ []) (equal 15000) 7 2 false
 
 -- --join-burden alone leaves the burden of continuation edges as it is
 abbrev pub JoinBurden : Type 0
 JoinBurden =
-    Ask (codes "figures" ∷ codes "--join-burden" ∷ codes "3" ∷ []) Figures [] (record { continuation = 15000; join = 3 }) 16 false
+    Ask (codes "figures" ∷ codes "--join-burden" ∷ codes "3" ∷ []) Figures [] (record { continuation = 15000; join = 3 }) 16 4 false
 
 -- beside --burden it wins, before it as behind it
 abbrev pub TwoBurdens : Type 0
 TwoBurdens =
-    Ask (codes "profile" ∷ codes "--burden" ∷ codes "3" ∷ codes "--join-burden=0" ∷ []) Profile [] (record { continuation = 3; join = 0 }) 16 false
-    × Ask (codes "profile" ∷ codes "--join-burden=0" ∷ codes "--burden" ∷ codes "3" ∷ []) Profile [] (record { continuation = 3; join = 0 }) 16 false
+    Ask (codes "profile" ∷ codes "--burden" ∷ codes "3" ∷ codes "--join-burden=0" ∷ []) Profile [] (record { continuation = 3; join = 0 }) 16 4 false
+    × Ask (codes "profile" ∷ codes "--join-burden=0" ∷ codes "--burden" ∷ codes "3" ∷ []) Profile [] (record { continuation = 3; join = 0 }) 16 4 false
 
 -- the greatest burdens, and one more
 abbrev pub GreatBurdens : Type 0
 GreatBurdens =
-    Ask (codes "figures" ∷ codes "--burden=4294967295" ∷ []) Figures [] (equal 4294967295) 16 false
-    × Ask (codes "figures" ∷ codes "--burden=0" ∷ codes "--join-burden=4294967295" ∷ []) Figures [] (record { continuation = 0; join = 4294967295 }) 16 false
+    Ask (codes "figures" ∷ codes "--burden=4294967295" ∷ []) Figures [] (equal 4294967295) 16 4 false
+    × Ask (codes "figures" ∷ codes "--burden=0" ∷ codes "--join-burden=4294967295" ∷ []) Figures [] (record { continuation = 0; join = 4294967295 }) 16 4 false
     × Fail (codes "figures" ∷ codes "--burden=4294967296" ∷ []) ValueValidation
     × Fail (codes "figures" ∷ codes "--join-burden=4294967296" ∷ []) ValueValidation
 
@@ -86,4 +90,14 @@ abbrev pub Version : Type 0
 Version = Fail (codes "--version" ∷ []) DisplayVersion
 
 abbrev pub NoParts : Type 0
-NoParts = Fail (codes "figures" ∷ codes "--parts" ∷ codes "0" ∷ []) ValueValidation
+NoParts =
+    Fail (codes "figures" ∷ codes "--parts" ∷ codes "0" ∷ []) ValueValidation
+    × Fail (codes "profile" ∷ codes "--parts" ∷ codes "0" ∷ []) ValueValidation
+
+-- no worker, one too many, and a command that has none
+abbrev pub NoWorkers : Type 0
+NoWorkers =
+    Fail (codes "figures" ∷ codes "--workers" ∷ codes "0" ∷ []) ValueValidation
+    × Fail (codes "profile" ∷ codes "--workers" ∷ codes "0" ∷ []) ValueValidation
+    × Fail (codes "profile" ∷ codes "--workers=65" ∷ []) ValueValidation
+    × Fail (codes "check" ∷ codes "--workers" ∷ codes "2" ∷ []) UnknownArgument

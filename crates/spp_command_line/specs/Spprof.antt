@@ -37,6 +37,15 @@ parts_rule = record (new_rule (codes "parts")) {
   parser = Some (Signed (pos 1) (pos 65536));
 }
 
+-- --workers N, 1 to 64; 4 where it isn't given
+abbrev pub workers_rule : Rule
+workers_rule = record (new_rule (codes "workers")) {
+  long = Some (codes "workers");
+  value_names = 1;
+  defaults = codes "4" ∷ [];
+  parser = Some (Signed (pos 1) (pos 64));
+}
+
 -- --csv, which takes no value
 abbrev pub csv_rule : Rule
 csv_rule = record (new_rule (codes "csv")) { long = Some (codes "csv"); action = Some SetTrue }
@@ -47,8 +56,8 @@ over_file name options = record (new_shape name) { rules = file_rule ∷ options
 
 abbrev pub commands : List Shape
 commands = over_file (codes "check") []
-    ∷ over_file (codes "figures") (burden_rule ∷ join_burden_rule ∷ parts_rule ∷ [])
-    ∷ over_file (codes "profile") (burden_rule ∷ join_burden_rule ∷ csv_rule ∷ [])
+    ∷ over_file (codes "figures") (burden_rule ∷ join_burden_rule ∷ parts_rule ∷ workers_rule ∷ [])
+    ∷ over_file (codes "profile") (burden_rule ∷ join_burden_rule ∷ parts_rule ∷ workers_rule ∷ csv_rule ∷ [])
     ∷ over_file (codes "encode") []
     ∷ []
 

@@ -67,15 +67,16 @@ AreBurdens rows b =
 
 -- what `clap` found, a command's name and the texts of its arguments, gives a request these values; an argument that the
 -- command hasn't got, as --parts has none at `check`, has no text
-abbrev pub Gives : Option (Text × List Row) → Command → List Text → Burdens → ℕ → Bool → Type 0
-Gives None command files burdens parts csv = ⊥
-Gives (Some (name, rows)) command files burdens parts csv =
+abbrev pub Gives : Option (Text × List Row) → Command → List Text → Burdens → ℕ → ℕ → Bool → Type 0
+Gives None command files burdens parts workers csv = ⊥
+Gives (Some (name, rows)) command files burdens parts workers csv =
     IsNamed name command
     × (files ≡ paths_of (first_of (codes "FILE") rows))
     × AreBurdens rows burdens
     × IsNumberOr 1 65536 16 (one_of (codes "parts") rows) parts
+    × IsNumberOr 1 64 4 (one_of (codes "workers") rows) workers
     × IsFlag (one_of (codes "csv") rows) csv
 
 -- the request is what `clap` found
 abbrev pub IsRequestOf : Option (Text × List Row) → Request → Type 0
-IsRequestOf found r = Gives found r.command (map string_bytes r.files.items) r.burdens r.parts r.csv
+IsRequestOf found r = Gives found r.command (map string_bytes r.files.items) r.burdens r.parts r.workers r.csv

@@ -2,10 +2,11 @@
 
 ghost use Rattle.std.specs.Prelude.{◌≡◌, ◌∷◌, [], IfOk, false, codes};
 ghost use Rattle.clap.specs.Words.{app_of, rule_of};
-ghost use Rattle.spp_command_line.specs.Spprof.{IsAt, burden_rule, csv_rule, file_rule, join_burden_rule, over_file, parts_rule, spprof};
+ghost use Rattle.spp_command_line.specs.Spprof.{IsAt, burden_rule, csv_rule, file_rule, join_burden_rule, over_file, parts_rule, spprof, workers_rule};
 
 use clap::{Arg, ArgAction, Command, value_parser};
 use spp_cut::Parts;
+use spp_request::Workers;
 use std::alloc::{AllocError, Global};
 
 const ABOUT: &str = "A call-site profiler for recorded fork-join runs";
@@ -20,6 +21,9 @@ const DEFAULT_BURDEN_WORD: &str = "15000";
 
 /// The number of parts where none is given, as a word.
 const DEFAULT_PARTS_WORD: &str = "16";
+
+/// The number of workers where none is given, as a word.
+const DEFAULT_WORKERS_WORD: &str = "4";
 
 const STATUSES: &str = "Exit status:
   0  the answer stands on standard output, whole
@@ -90,6 +94,20 @@ fn parts<'a>(alloc: Global) -> Arg<'a>
         )
 }
 
+/// How many workers answer.
+fn workers<'a>(alloc: Global) -> Arg<'a>
+    ensures rule { rule_of result ≡ workers_rule }
+    ensures local { result.global ≡ false }
+{
+    let most = i64::from(Workers::MOST);
+    Arg::new(alloc, "workers")
+        .long("workers")
+        .value_name("N")
+        .value_parser(value_parser!(u32).range(1..=most))
+        .default_value(DEFAULT_WORKERS_WORD)
+        .help("Threads that work on the parts, 1 to 64; the answer is the same for each number")
+}
+
 /// Whether the values of the tables are asked for alone.
 fn csv<'a>(alloc: Global) -> Arg<'a>
     ensures rule { rule_of result ≡ csv_rule }
@@ -112,31 +130,39 @@ fn check<'a>(alloc: Global) -> Result<Command<'a>, AllocError>
     )
 }
 
-fn figures<'a>(alloc: Global) -> Result<Command<'a>, AllocError>
-    ensures { IfOk result (IsAt (over_file (codes "figures") (burden_rule ∷ join_burden_rule ∷ parts_rule ∷ []))) }
+/// A command over one trace, with the options of commands that go by parts of it.
+fn command_by_parts<'a>(
+    alloc: Global,
+    name: &'a str,
+    about: &'a str,
+) -> Result<Command<'a>, AllocError>
+    ensures { IfOk result (IsAt (over_file name.now (burden_rule ∷ join_burden_rule ∷ parts_rule ∷ workers_rule ∷ []))) }
 {
-    command_over(
+    command_over(alloc, name, about, THE_TRACE)?
+        .arg(burden(alloc))?
+        .arg(join_burden(alloc))?
+        .arg(parts(alloc))?
+        .arg(workers(alloc))
+}
+
+fn figures<'a>(alloc: Global) -> Result<Command<'a>, AllocError>
+    ensures { IfOk result (IsAt (over_file (codes "figures") (burden_rule ∷ join_burden_rule ∷ parts_rule ∷ workers_rule ∷ []))) }
+{
+    command_by_parts(
         alloc,
         "figures",
         "Print the work, the span and the burdened span of a run",
-        THE_TRACE,
-    )?
-    .arg(burden(alloc))?
-    .arg(join_burden(alloc))?
-    .arg(parts(alloc))
+    )
 }
 
 fn profile<'a>(alloc: Global) -> Result<Command<'a>, AllocError>
-    ensures { IfOk result (IsAt (over_file (codes "profile") (burden_rule ∷ join_burden_rule ∷ csv_rule ∷ []))) }
+    ensures { IfOk result (IsAt (over_file (codes "profile") (burden_rule ∷ join_burden_rule ∷ parts_rule ∷ workers_rule ∷ csv_rule ∷ []))) }
 {
-    command_over(
+    command_by_parts(
         alloc,
         "profile",
         "Print the figures of a run and three tables of its call sites",
-        THE_TRACE,
     )?
-    .arg(burden(alloc))?
-    .arg(join_burden(alloc))?
     .arg(csv(alloc))
 }
 

@@ -1,5 +1,5 @@
 //! What words of a command line ask for.
-ghost use Rattle.spp_command_line.specs.Laws.{CommandAlone, Dash, FiguresInParts, GreatBurdens, Help, JoinBurden, NoCommand, NoParts, OneWord, ProfileAsCsv, TwoBurdens, TwoWords, Version};
+ghost use Rattle.spp_command_line.specs.Laws.{CommandAlone, Dash, FiguresInParts, GreatBurdens, Help, JoinBurden, NoCommand, NoParts, NoWorkers, OneWord, ProfileAsCsv, ProfileByWorkers, TwoBurdens, TwoWords, Version};
 
 /// What the definitions say of words: of some shapes of words, and of lists of words worked by hand. Its contract is what
 /// it is for.
@@ -9,6 +9,7 @@ pub fn word_laws()
     ensures one_word { OneWord }
     ensures figures_in_parts { FiguresInParts }
     ensures profile_as_csv { ProfileAsCsv }
+    ensures profile_by_workers { ProfileByWorkers }
     ensures join_burden { JoinBurden }
     ensures two_burdens { TwoBurdens }
     ensures great_burdens { GreatBurdens }
@@ -16,5 +17,6 @@ pub fn word_laws()
     ensures help { Help }
     ensures version { Version }
     ensures no_parts { NoParts }
+    ensures no_workers { NoWorkers }
     ensures two_words { TwoWords }
 {}

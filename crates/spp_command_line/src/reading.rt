@@ -14,7 +14,7 @@ use clap::Error;
 use clap::error::ErrorKind;
 use spp_cut::Parts;
 use spp_maxplus::Burdens;
-use spp_request::{Command, Request, UsageFault};
+use spp_request::{Command, Request, UsageFault, Workers};
 use std::alloc::{AllocError, Global};
 use std::convert::AsStr;
 
@@ -68,12 +68,14 @@ fn request_of(
     file: Option<&str>,
     burdens: Burdens,
     parts: Parts,
+    workers: Workers,
     csv: bool,
 ) -> Result<Request, AllocError>
     ensures command { IfOk result (λ r. r.command ≡ command) }
     ensures files { IfOk result (λ r. map string_bytes r.files.items ≡ paths_of (option_map (λ f. f.now) file.entry)) }
     ensures burdens { IfOk result (λ r. r.burdens ≡ burdens) }
     ensures parts { IfOk result (λ r. r.parts ≡ parts) }
+    ensures workers { IfOk result (λ r. r.workers ≡ workers) }
     ensures csv { IfOk result (λ r. r.csv ≡ csv) }
 {
     let mut files = Vec::new(alloc);
@@ -87,6 +89,7 @@ fn request_of(
         files,
         burdens,
         parts,
+        workers,
         csv,
     })
 }
@@ -122,12 +125,14 @@ pub fn read_request<S: AsStr>(alloc: Global, words: &[S]) -> Result<Request, Usa
         join: join_burden,
     };
     let parts = given.get_one::<u32>("parts").and_then(Parts::new);
+    let workers = given.get_one::<u32>("workers").and_then(Workers::new);
     Ok(request_of(
         alloc,
         command,
         given.get_str("FILE"),
         burdens,
         parts.unwrap_or_default(),
+        workers.unwrap_or_default(),
         given.get_flag("csv"),
     )?)
 }

@@ -4,6 +4,7 @@ ghost use Rattle.std.specs.Prelude.{◌≡◌, ◌+◌, ◌<◌, ◌≤◌, leng
 ghost use Rattle.std.specs.Thread.{IsSync};
 ghost use Rattle.spp_crew.specs.Marks.{CanMark, AreMarked};
 ghost use Rattle.spp_frame.specs.Answers.{IsFaultOf};
+ghost use Rattle.spp_frame.specs.Nesting.{IsWellFormed};
 ghost use Rattle.spp_frame.specs.declared.Fault.{Fault};
 ghost use Rattle.spp_frame.specs.declared.profile_fault.ProfileFault.TheVariants.{Bad};
 ghost use Rattle.spp_maxplus.specs.State.{unburdened};
@@ -160,6 +161,7 @@ pub fn marks<R: Threads + Wait + Sync, G: Gate>(
     requires some { 0 < workers }
     requires most { workers ≤ 64 }
     requires bytes { length marks.old ≡ length cut.now.trace.records }
+    ensures formed { OnOk result (IsWellFormed cut.now.trace.records) }
     ensures marks { OnOk result (AreMarks cut.now.trace unburdened marks.new) }
     ensures fault { IfErr result (λ f. IsFaultOf cut.now.trace.records f) }
     ensures kept { (fault : Fault) → result ≡ Err (Bad fault) → marks.new ≡ marks.old }

@@ -3,6 +3,7 @@
 ghost use Rattle.std.specs.Prelude.{◌≡◌, ◌<◌, ◌≤◌, length, IfErr, OnOk, Err};
 ghost use Rattle.spp_cut.specs.Parts.{events_in};
 ghost use Rattle.spp_frame.specs.Answers.{IsFaultOf};
+ghost use Rattle.spp_frame.specs.Nesting.{IsWellFormed};
 ghost use Rattle.spp_frame.specs.declared.Fault.{Fault};
 ghost use Rattle.spp_frame.specs.declared.profile_fault.ProfileFault.TheVariants.{Bad};
 ghost use Rattle.spp_maxplus.specs.declared.state.Burdens.{Burdens as BurdensValue};
@@ -71,6 +72,7 @@ pub fn marks_in_parts(
     marks: &mut [u8],
 ) -> Result<(), ProfileFault>
     requires { length marks.old ≡ length cut.now.trace.records }
+    ensures formed { OnOk result (IsWellFormed cut.now.trace.records) }
     ensures marks { OnOk result (AreMarks cut.now.trace (burdens_under under burdens) marks.new) }
     ensures fault { IfErr result (λ f. IsFaultOf cut.now.trace.records f) }
     ensures kept { (fault : Fault) → result ≡ Err (Bad fault) → marks.new ≡ marks.old }

@@ -2,5 +2,7 @@
 #![tactic(auto)]
 
 mod request;
+mod workers;
 
 pub use request::{Command, Request, UsageFault};
+pub use workers::Workers;

@@ -2,6 +2,7 @@
 ghost use Rattle.std.specs.Prelude.{◌≡◌};
 ghost use Rattle.spp_request.specs.declared.request.UsageFault.TheVariants.{Memory};
 
+use crate::workers::Workers;
 use spp_cut::Parts;
 use spp_maxplus::Burdens;
 use std::alloc::{AllocError, AllocFailed};
@@ -32,6 +33,9 @@ pub struct Request {
     pub burdens: Burdens,
     /// Into how many parts the trace is cut, which changes no answer; 16 where no number is given.
     pub parts: Parts,
+    /// How many workers answer, which changes no answer; 4 where no number is given. Only commands that go by parts of the
+    /// trace have them.
+    pub workers: Workers,
     /// Whether comma-separated values are asked for.
     pub csv: bool,
 }

@@ -3,8 +3,8 @@ use Rattle.std.proofs.Common.{◌≡◌, List, ℕ, IfOk, Result, Ok, Err, sym, 
 use Rattle.std.specs.Prelude.{MatchResult}
 use Rattle.std.specs.String.{string_bytes}
 use Rattle.spp_shell.specs.Tasks.{IfLine}
-use Rattle.spp_shell.specs.declared.task.Refusal.{Refusal}
-use Rattle.spp_shell.specs.declared.task.Refusal.TheVariants.{Line, Memory}
+use Rattle.spp_shell.specs.declared.refusal.Refusal.{Refusal}
+use Rattle.spp_shell.specs.declared.refusal.Refusal.TheVariants.{Line, Memory}
 
 -- a line that was made, where there was memory for it
 pub line_made : {E : Type 0} (made : Result _ E) (r : Refusal) (P : List ℕ → Type 0) → MatchResult made (λ text. r ≡ Line text) (λ _. r ≡ Memory) → IfOk made (λ text. P (string_bytes text)) → IfLine r P

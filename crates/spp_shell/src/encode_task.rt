@@ -1,18 +1,14 @@
 //! The task `encode`: the bytes of the trace that a text names, or its first fault.
-ghost use Rattle.std.specs.Prelude.{◌≡◌, ◌≢◌, IfOk};
+ghost use Rattle.std.specs.Prelude.{◌≡◌, ◌≢◌, [], ◌∷◌, IfOk, IfErr};
 ghost use Rattle.std.specs.String.{string_bytes};
 ghost use Rattle.spp_text.specs.Reading.{fault_at};
 ghost use Rattle.spp_shell.specs.Tasks.{IfLine};
 ghost use Rattle.spp_shell.specs.Encode.{IsEncodeText, IsEncodeLine, end_line, text_line};
 
-use crate::task::{Refusal, Task};
+use crate::refusal::Refusal;
 use spp_text::{TextFault, TextWhy, parse_text};
 use std::alloc::{AllocError, Global};
 use std::str;
-
-/// Gives the bytes of the trace that a text names.
-#[derive(Drop)]
-pub(crate) struct Encode;
 
 /// The line for a fault of a text.
 fn line_of_text(alloc: Global, fault: TextFault) -> Result<String, AllocError>
@@ -43,22 +39,20 @@ fn fault_behind(front: &[u8]) -> TextFault
     }
 }
 
-impl Task for Encode {
-    ghost text_for = { λ _. IsEncodeText };
-
-    ghost line_for = { λ _. IsEncodeLine };
-
-    fn answer(&self, alloc: Global, bytes: &[u8]) -> Result<Vec<u8>, Refusal> {
-        let text = match str::from_utf8(bytes) {
-            Ok(text) => text,
-            Err(e) => {
-                let fault = fault_behind(&bytes[..e.valid_up_to()]);
-                return Err(refusal_of_text(alloc, fault));
-            }
-        };
-        match parse_text(alloc, text) {
-            Ok(trace) => Ok(trace),
-            Err(fault) => Err(refusal_of_text(alloc, fault)),
+/// The bytes of the trace that a text names, or why there are none.
+pub(crate) fn answer_encode(alloc: Global, bytes: &[u8]) -> Result<Vec<u8>, Refusal>
+    ensures text { IfOk result (λ text. IsEncodeText (bytes.now ∷ []) text.items) }
+    ensures line { IfErr result (λ refusal. IfLine refusal (IsEncodeLine (bytes.now ∷ []))) }
+{
+    let text = match str::from_utf8(bytes) {
+        Ok(text) => text,
+        Err(e) => {
+            let fault = fault_behind(&bytes[..e.valid_up_to()]);
+            return Err(refusal_of_text(alloc, fault));
         }
+    };
+    match parse_text(alloc, text) {
+        Ok(trace) => Ok(trace),
+        Err(fault) => Err(refusal_of_text(alloc, fault)),
     }
 }

@@ -1,53 +1,37 @@
-//! The task `figures`: the work, the span and the burdened span of a run, by way of parts of its trace, or its first
-//! fault.
-ghost use Rattle.std.specs.Prelude.{◌≡◌, IfErr};
+//! The task `figures`: the work, the span and the burdened span of a run, by workers that share the parts of its
+//! trace, or its first fault.
+ghost use Rattle.std.specs.Prelude.{[], ◌∷◌, IfOk, IfErr};
 ghost use Rattle.spp_shell.specs.Tasks.{IfLine};
 ghost use Rattle.spp_shell.specs.Check.{IsCheckLine};
 ghost use Rattle.spp_shell.specs.Figures.{IsFiguresText};
 
 use crate::opening::{open_or_refuse, refusal_of_event};
-use crate::task::{Refusal, Task};
-use spp_cut::Parts;
+use crate::refusal::Refusal;
+use spp_crew::{OpenGate, figures};
+use spp_cut::cut_even;
 use spp_frame::ProfileFault;
-use spp_maxplus::Burdens;
 use spp_report::figures_text;
 use spp_request::Request;
-use spp_summary::figures_in_parts;
 use std::alloc::Global;
+use std::sync::Wait;
+use std::thread::Threads;
 
-/// Tells the figures of a run.
-#[derive(Drop)]
-pub(crate) struct FiguresTask {
-    /// What continuation edges and return edges bear, in instructions.
-    pub(crate) burdens: Burdens,
-    /// Into how many parts the trace is cut, which changes no answer.
-    pub(crate) parts: Parts,
-}
-
-impl FiguresTask {
-    /// The task that is asked for.
-    pub(crate) fn of(request: &Request) -> Self
-        ensures burdens { result.burdens ≡ request.now.burdens }
-        ensures parts { result.parts ≡ request.now.parts }
-    {
-        FiguresTask {
-            burdens: request.burdens,
-            parts: request.parts,
-        }
-    }
-}
-
-impl Task for FiguresTask {
-    ghost text_for = { λ task. IsFiguresText task.burdens };
-
-    ghost line_for = { λ _. IsCheckLine };
-
-    fn answer(&self, alloc: Global, bytes: &[u8]) -> Result<Vec<u8>, Refusal> {
-        let trace = open_or_refuse(alloc, bytes)?;
-        match figures_in_parts(alloc, &trace, self.burdens, self.parts) {
-            Ok(figures) => Ok(figures_text(alloc, &figures)?),
-            Err(ProfileFault::Bad(fault)) => Err(refusal_of_event(alloc, fault)),
-            Err(ProfileFault::Memory) => Err(Refusal::Memory),
-        }
+/// The figures of the run whose trace these bytes are, as a text, or why there is none.
+pub(crate) fn answer_figures<R: Threads + Wait + Sync>(
+    rt: &R,
+    alloc: Global,
+    request: &Request,
+    bytes: &[u8],
+) -> Result<Vec<u8>, Refusal>
+    ensures text { IfOk result (λ text. IsFiguresText request.now.burdens (bytes.now ∷ []) text.items) }
+    ensures line { IfErr result (λ refusal. IfLine refusal (IsCheckLine (bytes.now ∷ []))) }
+{
+    let trace = open_or_refuse(alloc, bytes)?;
+    let cut = cut_even(alloc, &trace, request.parts)?;
+    let workers = request.workers.number();
+    match figures(rt, alloc, &cut, workers, request.burdens, &OpenGate) {
+        Ok(figures) => Ok(figures_text(alloc, &figures)?),
+        Err(ProfileFault::Bad(fault)) => Err(refusal_of_event(alloc, fault)),
+        Err(ProfileFault::Memory) => Err(Refusal::Memory),
     }
 }

@@ -5,7 +5,7 @@ ghost use Rattle.spp_event.specs.Header.{IsTraceOf};
 ghost use Rattle.spp_shell.specs.Tasks.{IfLine};
 ghost use Rattle.spp_shell.specs.Check.{TellsHeader, header_line, event_line};
 
-use crate::task::Refusal;
+use crate::refusal::Refusal;
 use spp_event::{HeaderFault, Trace, open_trace};
 use spp_frame::Fault;
 use std::alloc::{AllocError, Global};

@@ -1,38 +1,19 @@
-//! The task `profile`: the figures and tables of a run, or its trace's first fault.
-ghost use Rattle.std.specs.Prelude.{◌≡◌, ◌<◌, ◌^◌, IfOk};
+//! The task `profile`: the figures and tables of a run, by workers that share the parts of its trace, or its first fault.
+ghost use Rattle.std.specs.Prelude.{◌≡◌, ◌<◌, ◌^◌, [], ◌∷◌, IfOk, IfErr};
+ghost use Rattle.spp_shell.specs.Tasks.{IfLine};
 ghost use Rattle.spp_shell.specs.Check.{IsCheckLine};
 ghost use Rattle.spp_shell.specs.Profiles.{IsProfileText, report_text};
 
 use crate::opening::{open_or_refuse, refusal_of_event};
-use crate::task::{Refusal, Task};
+use crate::refusal::Refusal;
+use spp_crew::{OpenGate, profile};
+use spp_cut::cut_even;
 use spp_frame::ProfileFault;
-use spp_maxplus::Burdens;
 use spp_report::{Named, csv_text, plain_text};
 use spp_request::Request;
-use spp_serial::profile_serial;
 use std::alloc::{AllocError, Global};
-
-/// Tells the figures and tables of a run.
-#[derive(Drop)]
-pub(crate) struct ProfileTask {
-    /// What continuation edges and return edges bear, in instructions.
-    pub(crate) burdens: Burdens,
-    /// Whether the tables alone are told, as comma-separated values.
-    pub(crate) csv: bool,
-}
-
-impl ProfileTask {
-    /// The task that is asked for.
-    pub(crate) fn of(request: &Request) -> Self
-        ensures burdens { result.burdens ≡ request.now.burdens }
-        ensures csv { result.csv ≡ request.now.csv }
-    {
-        ProfileTask {
-            burdens: request.burdens,
-            csv: request.csv,
-        }
-    }
-}
+use std::sync::Wait;
+use std::thread::Threads;
 
 /// The tables alone as comma-separated values, where `csv` says so, or else the figures and tables as text.
 fn report(alloc: Global, named: &Named<'_, '_>, csv: bool) -> Result<Vec<u8>, AllocError>
@@ -46,23 +27,28 @@ fn report(alloc: Global, named: &Named<'_, '_>, csv: bool) -> Result<Vec<u8>, Al
     }
 }
 
-impl Task for ProfileTask {
-    ghost text_for = { λ task. IsProfileText task.burdens task.csv };
-
-    ghost line_for = { λ _. IsCheckLine };
-
-    fn answer(&self, alloc: Global, bytes: &[u8]) -> Result<Vec<u8>, Refusal> {
-        let trace = open_or_refuse(alloc, bytes)?;
-        match profile_serial(alloc, &trace, self.burdens) {
-            Ok(profile) => {
-                let named = Named {
-                    trace: &trace,
-                    profile: &profile,
-                };
-                Ok(report(alloc, &named, self.csv)?)
-            }
-            Err(ProfileFault::Bad(fault)) => Err(refusal_of_event(alloc, fault)),
-            Err(ProfileFault::Memory) => Err(Refusal::Memory),
+/// The report of the run whose trace these bytes are, or why there is none.
+pub(crate) fn answer_profile<R: Threads + Wait + Sync>(
+    rt: &R,
+    alloc: Global,
+    request: &Request,
+    bytes: &[u8],
+) -> Result<Vec<u8>, Refusal>
+    ensures text { IfOk result (λ text. IsProfileText request.now.burdens request.now.csv (bytes.now ∷ []) text.items) }
+    ensures line { IfErr result (λ refusal. IfLine refusal (IsCheckLine (bytes.now ∷ []))) }
+{
+    let trace = open_or_refuse(alloc, bytes)?;
+    let cut = cut_even(alloc, &trace, request.parts)?;
+    let workers = request.workers.number();
+    match profile(rt, alloc, &cut, workers, request.burdens, &OpenGate) {
+        Ok(profile) => {
+            let named = Named {
+                trace: &trace,
+                profile: &profile,
+            };
+            Ok(report(alloc, &named, request.csv)?)
         }
+        Err(ProfileFault::Bad(fault)) => Err(refusal_of_event(alloc, fault)),
+        Err(ProfileFault::Memory) => Err(Refusal::Memory),
     }
 }

@@ -10,6 +10,8 @@ use std::alloc::Global;
 use std::io::ErrorKind;
 use std::process::ExitCode;
 use std::rt::{Env, Files};
+use std::sync::Wait;
+use std::thread::Threads;
 use std::{env, fs};
 
 /// The words of the command line.
@@ -27,14 +29,14 @@ fn words<R: Env + AllocGlobal>(rt: &R) -> Result<Vec<String>, UsageFault> {
 /// Answers the request, from its file or from standard input.
 fn answer<R, O: Sink, E: Sink>(rt: &R, request: &Request, out: &mut O, err: &mut E) -> u8
 where
-    R: Files + Input + AllocGlobal,
+    R: Files + Input + Threads + Wait + Sync + AllocGlobal,
 {
     let Some(path) = request.files.first() else {
         let mut first = InSource::new(rt.reader());
-        return run(rt.alloc(), request, &mut first, out, err);
+        return run(rt, rt.alloc(), request, &mut first, out, err);
     };
     match fs::open(rt, path.as_str()) {
-        Ok(file) => run(rt.alloc(), request, &mut InSource::new(file), out, err),
+        Ok(file) => run(rt, rt.alloc(), request, &mut InSource::new(file), out, err),
         Err(e) if e.kind() == ErrorKind::OutOfMemory => show_usage(UsageFault::Memory, out, err),
         Err(_) => refuse_input(err),
     }

@@ -3,44 +3,48 @@
 use super::fakes::{dripping, empty_cup};
 use spp_cut::Parts;
 use spp_maxplus::Burdens;
-use spp_request::{Command, Request};
+use spp_request::{Command, Request, Workers};
 use spp_shell::run;
 use std::alloc::Global;
+use std::sync::Wait;
+use std::thread::Threads;
 
-/// A request for this over standard input, with burdens of 3 and 16 parts.
+/// A request for this over standard input, with burdens of 3, 16 parts and 4 workers.
 pub fn request_for(alloc: Global, command: Command) -> Request {
     Request {
         command,
         files: Vec::new(alloc),
         burdens: Burdens::equal(3),
         parts: Parts::default(),
+        workers: Workers::default(),
         csv: false,
     }
 }
 
 /// Runs the command on the bytes, and says whether it ended with this status, output and line of fault.
-pub fn command_ends_with(
-    alloc: Global,
+pub fn command_ends_with<R: Threads + Wait + Sync + AllocGlobal>(
+    rt: &R,
     command: Command,
     bytes: &[u8],
     ends: u8,
     text: &[u8],
     line: &[u8],
 ) -> bool {
-    let request = request_for(alloc, command);
-    request_ends_with(alloc, &request, bytes, ends, text, line)
+    let request = request_for(rt.alloc(), command);
+    request_ends_with(rt, &request, bytes, ends, text, line)
 }
 
 /// Runs the request on the bytes, and says the same.
-pub fn request_ends_with(
-    alloc: Global,
+pub fn request_ends_with<R: Threads + Wait + Sync + AllocGlobal>(
+    rt: &R,
     request: &Request,
     bytes: &[u8],
     ends: u8,
     text: &[u8],
     line: &[u8],
 ) -> bool {
+    let alloc = rt.alloc();
     let (mut out, mut err) = (empty_cup(alloc, 2000), empty_cup(alloc, 100));
-    let got = run(alloc, request, &mut dripping(bytes), &mut out, &mut err);
+    let got = run(rt, alloc, request, &mut dripping(bytes), &mut out, &mut err);
     got == ends && out.taken.as_slice() == text && err.taken.as_slice() == line
 }

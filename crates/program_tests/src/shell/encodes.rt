@@ -4,7 +4,8 @@ use super::commands::{command_ends_with, request_for};
 use super::fakes::{dripping, empty_cup};
 use spp_request::Command;
 use spp_shell::{run, status};
-use std::alloc::Global;
+use std::sync::Wait;
+use std::thread::Threads;
 
 const TEXT: &[u8] = b"func main\nstrand 1\n";
 
@@ -14,16 +15,16 @@ const TRACE: &[u8] = b"SPTRACE1\x00\x00\x00\x01\x00\x00\x00\x00\x00\x00\x00\x00\
 \x00\x00\x00\x00\x00\x00\x00\x00\x00\x00\x00\x00\x00\x00\x00\x01";
 
 /// Whether `encode` of the bytes is refused with this line of fault.
-fn is_refused(alloc: Global, bytes: &[u8], line: &str) -> bool {
+fn is_refused<R: Threads + Wait + Sync + AllocGlobal>(rt: &R, bytes: &[u8], line: &str) -> bool {
     let none = b"".as_slice();
-    command_ends_with(alloc, Command::Encode, bytes, 1, none, line.as_bytes())
+    command_ends_with(rt, Command::Encode, bytes, 1, none, line.as_bytes())
 }
 
 #[test]
 fn a_good_text_gives_the_bytes_of_its_trace(rt: HostRuntime) {
     let none = b"".as_slice();
     assert_eq!(rt; TRACE.len(), 46);
-    assert!(rt; command_ends_with(rt.alloc(), Command::Encode, TEXT, 0, TRACE, none));
+    assert!(rt; command_ends_with(&rt, Command::Encode, TEXT, 0, TRACE, none));
 }
 
 /// Texts with a fault, some of them no UTF-8, and the line that tells it.
@@ -41,7 +42,7 @@ const FAULTY: &[(&[u8], &str)] = &[
 #[test]
 fn a_faulty_text_is_told_in_one_line(rt: HostRuntime) {
     for (bytes, line) in FAULTY {
-        assert!(rt; is_refused(rt.alloc(), bytes, line), "{line}");
+        assert!(rt; is_refused(&rt, bytes, line), "{line}");
     }
 }
 
@@ -50,6 +51,7 @@ fn an_output_that_fails_has_the_first_bytes(rt: HostRuntime) {
     for room in [0usize, 1, 24, 45] {
         let (mut out, mut err) = (empty_cup(rt.alloc(), room), empty_cup(rt.alloc(), 100));
         let ends = run(
+            &rt,
             rt.alloc(),
             &request_for(rt.alloc(), Command::Encode),
             &mut dripping(TEXT),

@@ -3,8 +3,9 @@
 use super::commands::{command_ends_with, request_ends_with, request_for};
 use spp_cut::Parts;
 use spp_maxplus::Burdens;
-use spp_request::{Command, Request};
-use std::alloc::Global;
+use spp_request::{Command, Request, Workers};
+use std::sync::Wait;
+use std::thread::Threads;
 
 /// A strand of 1, a child that is spawned with a strand of 10, a strand of 4 beside it, a sync, and a strand of 2.
 const SMALL: &[u8] = b"SPTRACE1\x00\x00\x00\x02\x00\x00\x00\x01\x00\x00\x00\x00\x00\x00\x00\x07\
@@ -63,48 +64,49 @@ burdened_path_count,burdened_path_local,burdened_path_site_count,burdened_path_s
 A,1,10,1,10,10,1,10,10,1,10,1,10,10,1,10,10,0,0,0,0,0,0,0,0
 ";
 
-/// Whether `figures` of the bytes ends with this status, output and line of fault, in so many parts.
-fn ends_in_parts(
-    alloc: Global,
-    parts: u32,
+/// Whether the command on the bytes ends with this status, output and line of fault, in so many parts and by so many
+/// workers.
+fn ends_by<R: Threads + Wait + Sync + AllocGlobal>(
+    rt: &R,
+    command: Command,
+    shared: (u32, u32),
     bytes: &[u8],
     ends: u8,
     text: &str,
     line: &str,
 ) -> bool {
+    let (parts, workers) = shared;
     let request = Request {
         parts: Parts::new(parts).unwrap_or_default(),
-        ..request_for(alloc, Command::Figures)
+        workers: Workers::new(workers).unwrap_or_default(),
+        ..request_for(rt.alloc(), command)
     };
-    request_ends_with(
-        alloc,
-        &request,
-        bytes,
-        ends,
-        text.as_bytes(),
-        line.as_bytes(),
-    )
+    request_ends_with(rt, &request, bytes, ends, text.as_bytes(), line.as_bytes())
 }
 
-/// The same for 1, 2, 7 and 65,536 parts, and as many as there are by default.
-fn ends_with(alloc: Global, bytes: &[u8], ends: u8, text: &str, line: &str) -> bool {
-    ends_in_parts(alloc, 1, bytes, ends, text, line)
-        && ends_in_parts(alloc, 2, bytes, ends, text, line)
-        && ends_in_parts(alloc, 7, bytes, ends, text, line)
-        && ends_in_parts(alloc, 65536, bytes, ends, text, line)
-        && command_ends_with(
-            alloc,
-            Command::Figures,
-            bytes,
-            ends,
-            text.as_bytes(),
-            line.as_bytes(),
-        )
+/// Numbers of parts, and of the workers that share them.
+const SHARED: &[(u32, u32)] = &[(1, 1), (2, 2), (7, 2), (16, 64), (65536, 4)];
+
+/// The same for various numbers of parts and workers, and as many as there are by default.
+fn ends_with<R: Threads + Wait + Sync + AllocGlobal>(
+    rt: &R,
+    command: Command,
+    bytes: &[u8],
+    ends: u8,
+    text: &str,
+    line: &str,
+) -> bool {
+    for shared in SHARED {
+        if !ends_by(rt, command, *shared, bytes, ends, text, line) {
+            return false;
+        }
+    }
+    command_ends_with(rt, command, bytes, ends, text.as_bytes(), line.as_bytes())
 }
 
 #[test]
 fn a_good_trace_prints_its_figures(rt: HostRuntime) {
-    assert!(rt; ends_with(rt.alloc(), SMALL, 0, FIGURES, ""));
+    assert!(rt; ends_with(&rt, Command::Figures, SMALL, 0, FIGURES, ""));
 }
 
 #[test]
@@ -115,22 +117,15 @@ fn a_trace_without_figures_is_told_in_one_line(rt: HostRuntime) {
         (68, "bad event 2: truncated\n"),
     ] {
         if let Some(bytes) = SMALL.get(..length) {
-            assert!(rt; ends_with(rt.alloc(), bytes, 1, "", line), "{line}");
+            assert!(rt; ends_with(&rt, Command::Figures, bytes, 1, "", line), "{line}");
+            assert!(rt; ends_with(&rt, Command::Profile, bytes, 1, "", line), "{line}");
         }
     }
 }
 
 #[test]
 fn a_good_trace_prints_its_report(rt: HostRuntime) {
-    let printed = command_ends_with(
-        rt.alloc(),
-        Command::Profile,
-        SMALL,
-        0,
-        REPORT.as_bytes(),
-        b"".as_slice(),
-    );
-    assert!(rt; printed);
+    assert!(rt; ends_with(&rt, Command::Profile, SMALL, 0, REPORT, ""));
 }
 
 #[test]
@@ -140,7 +135,7 @@ fn a_good_trace_prints_its_tables_alone(rt: HostRuntime) {
         ..request_for(rt.alloc(), Command::Profile)
     };
     let printed = request_ends_with(
-        rt.alloc(),
+        &rt,
         &request,
         SMALL,
         0,
@@ -161,7 +156,7 @@ fn each_kind_of_edge_has_its_burden(rt: HostRuntime) {
         ..request_for(rt.alloc(), Command::Profile)
     };
     let printed = request_ends_with(
-        rt.alloc(),
+        &rt,
         &request,
         SMALL,
         0,

@@ -6,7 +6,9 @@ use spp_report::Sink;
 use spp_request::{Command, Request, UsageFault};
 use spp_shell::{refuse_input, run, show_usage, status};
 use std::alloc::{AllocError, Global};
+use std::sync::Wait;
 use std::test::Fail;
+use std::thread::Threads;
 
 /// A request to check standard input.
 fn check_input(alloc: Global) -> Request {
@@ -34,18 +36,24 @@ fn trace_of(alloc: Global, records: [&[u8]; 2]) -> Result<Vec<u8>, AllocError> {
 }
 
 /// Whether `check` of the bytes ends with this status, output and line of fault.
-fn ends_with(alloc: Global, bytes: &[u8], ends: u8, text: &[u8], line: &[u8]) -> bool {
-    command_ends_with(alloc, Command::Check, bytes, ends, text, line)
+fn ends_with<R: Threads + Wait + Sync + AllocGlobal>(
+    rt: &R,
+    bytes: &[u8],
+    ends: u8,
+    text: &[u8],
+    line: &[u8],
+) -> bool {
+    command_ends_with(rt, Command::Check, bytes, ends, text, line)
 }
 
 #[test]
 fn a_good_trace_prints_its_work(rt: HostRuntime) -> Result<(), Fail> {
     let bytes = trace_of(rt.alloc(), [STRAND, STRAND])?;
     let text = b"work 36893488147419103230\n".as_slice();
-    assert!(rt; ends_with(rt.alloc(), bytes.as_slice(), 0, text, b"".as_slice()));
+    assert!(rt; ends_with(&rt, bytes.as_slice(), 0, text, b"".as_slice()));
     let bytes = trace_of(rt.alloc(), [CALL, RETURN])?;
     let text = b"work 0\n".as_slice();
-    assert!(rt; ends_with(rt.alloc(), bytes.as_slice(), 0, text, b"".as_slice()));
+    assert!(rt; ends_with(&rt, bytes.as_slice(), 0, text, b"".as_slice()));
     Ok(())
 }
 
@@ -61,7 +69,7 @@ const BAD_EVENTS: &[(&[u8], &[u8], &[u8])] = &[
 fn a_bad_trace_is_told_in_one_line(rt: HostRuntime) -> Result<(), Fail> {
     for (first, second, line) in BAD_EVENTS {
         let bytes = trace_of(rt.alloc(), [first, second])?;
-        assert!(rt; ends_with(rt.alloc(), bytes.as_slice(), 1, b"".as_slice(), line));
+        assert!(rt; ends_with(&rt, bytes.as_slice(), 1, b"".as_slice(), line));
     }
     Ok(())
 }
@@ -75,7 +83,7 @@ const BAD_HEADERS: &[(&[u8], &[u8])] = &[
 #[test]
 fn a_bad_header_is_told_in_one_line(rt: HostRuntime) {
     for (bytes, line) in BAD_HEADERS {
-        assert!(rt; ends_with(rt.alloc(), bytes, 1, b"".as_slice(), line));
+        assert!(rt; ends_with(&rt, bytes, 1, b"".as_slice(), line));
     }
 }
 
@@ -86,6 +94,7 @@ fn an_output_that_fails_ends_with_status_3(rt: HostRuntime) -> Result<(), Fail> 
         let (mut out, mut err) = (empty_cup(rt.alloc(), room), empty_cup(rt.alloc(), 100));
         let mut first = dripping(bytes.as_slice());
         let ends = run(
+            &rt,
             rt.alloc(),
             &check_input(rt.alloc()),
             &mut first,
@@ -109,6 +118,7 @@ fn an_input_that_fails_ends_with_status_3(rt: HostRuntime) -> Result<(), Fail> {
         let (mut out, mut err) = (empty_cup(rt.alloc(), 100), empty_cup(rt.alloc(), 100));
         let mut first = failing(bytes.as_slice(), fails_at);
         let ends = run(
+            &rt,
             rt.alloc(),
             &check_input(rt.alloc()),
             &mut first,
@@ -126,6 +136,7 @@ fn an_input_that_fails_ends_with_status_3(rt: HostRuntime) -> Result<(), Fail> {
 fn a_device_for_faults_that_fails_changes_nothing_else(rt: HostRuntime) {
     let (mut out, mut err) = (empty_cup(rt.alloc(), 100), empty_cup(rt.alloc(), 4));
     let ends = run(
+        &rt,
         rt.alloc(),
         &check_input(rt.alloc()),
         &mut dripping(b"".as_slice()),

@@ -91,6 +91,15 @@ parts_4 = ((omega arith, (omega arith, tt)), omega arith, omega arith)
 parts_unsaid : IsNumberIn 1 65536 (codes "16")
 parts_unsaid = ((omega arith, (omega arith, (omega arith, tt))), omega arith, omega arith)
 
+parts_7 : IsNumberIn 1 65536 (codes "7")
+parts_7 = ((omega arith, (omega arith, tt)), omega arith, omega arith)
+
+workers_2 : IsNumberIn 1 64 (codes "2")
+workers_2 = ((omega arith, (omega arith, tt)), omega arith, omega arith)
+
+workers_unsaid : IsNumberIn 1 64 (codes "4")
+workers_unsaid = ((omega arith, (omega arith, tt)), omega arith, omega arith)
+
 burden_unsaid : IsNumberIn 0 4294967295 (codes "15000")
 burden_unsaid = ((omega arith, (omega arith, (omega arith, (omega arith, (omega arith, (omega arith, tt)))))), omega arith, omega arith)
 
@@ -116,18 +125,26 @@ flag_on = ((λ e. cc), bad, (λ e. refl))
 
 pub returns-clause-figures_in_parts : goal.returns-clause-figures_in_parts
 unfolding clap_on_literals
-returns-clause-figures_in_parts c = (refl, (λ r h. (is_figures r.command h.0, h.1, as_given r.burdens (h.2.0.0 burden_7, h.2.1), h.3.0 parts_4, h.4.0 refl)), (refl, refl, (spells (codes "7") burden_7, refl), spells (codes "4") parts_4, no_flag))
+returns-clause-figures_in_parts c = (refl, (λ r h. (is_figures r.command h.0, h.1, as_given r.burdens (h.2.0.0 burden_7, h.2.1), h.3.0 parts_4, h.4.0 workers_unsaid, h.5.0 refl)), (refl, refl, (spells (codes "7") burden_7, refl), spells (codes "4") parts_4, spells (codes "4") workers_unsaid, no_flag))
 
 pub returns-clause-profile_as_csv : goal.returns-clause-profile_as_csv
 unfolding clap_on_literals
-returns-clause-profile_as_csv c = (refl, (λ r h. (is_profile r.command h.0, h.1, as_given r.burdens (h.2.0.0 burden_unsaid, h.2.1), h.3, h.4.2 refl)), (refl, refl, (spells (codes "15000") burden_unsaid, refl), refl, flag_on))
+returns-clause-profile_as_csv c = (refl, (λ r h. (is_profile r.command h.0, h.1, as_given r.burdens (h.2.0.0 burden_unsaid, h.2.1), h.3.0 parts_unsaid, h.4.0 workers_unsaid, h.5.2 refl)), (refl, refl, (spells (codes "15000") burden_unsaid, refl), spells (codes "16") parts_unsaid, spells (codes "4") workers_unsaid, flag_on))
+
+pub returns-clause-profile_by_workers : goal.returns-clause-profile_by_workers
+unfolding clap_on_literals
+returns-clause-profile_by_workers c = (
+  refl,
+  (λ r h. (is_profile r.command h.0, h.1, as_given r.burdens (h.2.0.0 burden_unsaid, h.2.1), h.3.0 parts_7, h.4.0 workers_2, h.5.1 refl)),
+  (refl, refl, (spells (codes "15000") burden_unsaid, refl), spells (codes "7") parts_7, spells (codes "2") workers_2, flag_off),
+)
 
 pub returns-clause-join_burden : goal.returns-clause-join_burden
 unfolding clap_on_literals
 returns-clause-join_burden c = (
   refl,
-  (λ r h. (is_figures r.command h.0, h.1, each_given r.burdens (h.2.0.0 burden_unsaid) (h.2.1.0 burden_3), h.3.0 parts_unsaid, h.4.0 refl)),
-  (refl, refl, (spells (codes "15000") burden_unsaid, spells (codes "3") burden_3), spells (codes "16") parts_unsaid, no_flag),
+  (λ r h. (is_figures r.command h.0, h.1, each_given r.burdens (h.2.0.0 burden_unsaid) (h.2.1.0 burden_3), h.3.0 parts_unsaid, h.4.0 workers_unsaid, h.5.0 refl)),
+  (refl, refl, (spells (codes "15000") burden_unsaid, spells (codes "3") burden_3), spells (codes "16") parts_unsaid, spells (codes "4") workers_unsaid, no_flag),
 )
 
 pub returns-clause-two_burdens : goal.returns-clause-two_burdens
@@ -135,24 +152,24 @@ unfolding clap_on_literals
 returns-clause-two_burdens c = (
   (
     refl,
-    (λ r h. (is_profile r.command h.0, h.1, each_given r.burdens (h.2.0.0 burden_3) (h.2.1.0 burden_0), h.3, h.4.1 refl)),
-    (refl, refl, (spells (codes "3") burden_3, spells (codes "0") burden_0), refl, flag_off),
+    (λ r h. (is_profile r.command h.0, h.1, each_given r.burdens (h.2.0.0 burden_3) (h.2.1.0 burden_0), h.3.0 parts_unsaid, h.4.0 workers_unsaid, h.5.1 refl)),
+    (refl, refl, (spells (codes "3") burden_3, spells (codes "0") burden_0), spells (codes "16") parts_unsaid, spells (codes "4") workers_unsaid, flag_off),
   ),
   (
     refl,
-    (λ r h. (is_profile r.command h.0, h.1, each_given r.burdens (h.2.0.0 burden_3) (h.2.1.0 burden_0), h.3, h.4.1 refl)),
-    (refl, refl, (spells (codes "3") burden_3, spells (codes "0") burden_0), refl, flag_off),
+    (λ r h. (is_profile r.command h.0, h.1, each_given r.burdens (h.2.0.0 burden_3) (h.2.1.0 burden_0), h.3.0 parts_unsaid, h.4.0 workers_unsaid, h.5.1 refl)),
+    (refl, refl, (spells (codes "3") burden_3, spells (codes "0") burden_0), spells (codes "16") parts_unsaid, spells (codes "4") workers_unsaid, flag_off),
   ),
 )
 
 pub returns-clause-great_burdens : goal.returns-clause-great_burdens
 unfolding clap_on_literals
 returns-clause-great_burdens c = (
-  (refl, (λ r h. (is_figures r.command h.0, h.1, as_given r.burdens (h.2.0.0 burden_most, h.2.1), h.3.0 parts_unsaid, h.4.0 refl)), (refl, refl, (spells (codes "4294967295") burden_most, refl), spells (codes "16") parts_unsaid, no_flag)),
+  (refl, (λ r h. (is_figures r.command h.0, h.1, as_given r.burdens (h.2.0.0 burden_most, h.2.1), h.3.0 parts_unsaid, h.4.0 workers_unsaid, h.5.0 refl)), (refl, refl, (spells (codes "4294967295") burden_most, refl), spells (codes "16") parts_unsaid, spells (codes "4") workers_unsaid, no_flag)),
   (
     refl,
-    (λ r h. (is_figures r.command h.0, h.1, each_given r.burdens (h.2.0.0 burden_0) (h.2.1.0 burden_most), h.3.0 parts_unsaid, h.4.0 refl)),
-    (refl, refl, (spells (codes "0") burden_0, spells (codes "4294967295") burden_most), spells (codes "16") parts_unsaid, no_flag),
+    (λ r h. (is_figures r.command h.0, h.1, each_given r.burdens (h.2.0.0 burden_0) (h.2.1.0 burden_most), h.3.0 parts_unsaid, h.4.0 workers_unsaid, h.5.0 refl)),
+    (refl, refl, (spells (codes "0") burden_0, spells (codes "4294967295") burden_most), spells (codes "16") parts_unsaid, spells (codes "4") workers_unsaid, no_flag),
   ),
   refl,
   refl,
@@ -168,7 +185,11 @@ returns-clause-version c = refl
 
 pub returns-clause-no_parts : goal.returns-clause-no_parts
 unfolding clap_on_literals
-returns-clause-no_parts c = refl
+returns-clause-no_parts c = (refl, refl)
+
+pub returns-clause-no_workers : goal.returns-clause-no_workers
+unfolding clap_on_literals
+returns-clause-no_workers c = (refl, refl, refl, refl)
 
 -- what `clap` holds for words of the command line, and for defaults
 unfoldable given : Text → List Text → Row
@@ -177,7 +198,7 @@ given id values = record { id = id; values = values; count = None; source = Some
 unfoldable unsaid : Text → Text → Reading → Row
 unsaid id value how = record { id = id; values = value ∷ []; count = None; source = Some DefaultValue; reading = how }
 
-one_check : (x : ℕ) (rest : Text) → (x == 45) ≡ false → Ask (codes "check" ∷ (x ∷ rest) ∷ []) Check ((x ∷ rest) ∷ []) (equal 15000) 16 false
+one_check : (x : ℕ) (rest : Text) → (x == 45) ≡ false → Ask (codes "check" ∷ (x ∷ rest) ∷ []) Check ((x ∷ rest) ∷ []) (equal 15000) 16 4 false
 unfolding clap_on_literals given unsaid
 one_check x rest plain =
     let rows : List Row = given (codes "FILE") ((x ∷ rest) ∷ []) ∷ [] in
@@ -186,37 +207,37 @@ one_check x rest plain =
       simp plain,
       (λ r h.
           let q : IsRequestOf (Some (codes "check", rows)) r = subst (λ o. IsRequestOf o r) found h in
-          (is_check r.command q.0, q.1 ∙ path, as_given r.burdens q.2, q.3, q.4.0 refl)),
-      subst (λ o. Gives o Check ((x ∷ rest) ∷ []) (equal 15000) 16 false) (sym found) (refl, sym path, (refl, refl), refl, no_flag),
+          (is_check r.command q.0, q.1 ∙ path, as_given r.burdens q.2, q.3, q.4, q.5.0 refl)),
+      subst (λ o. Gives o Check ((x ∷ rest) ∷ []) (equal 15000) 16 4 false) (sym found) (refl, sym path, (refl, refl), refl, refl, no_flag),
     )
 
-one_figures : (x : ℕ) (rest : Text) → (x == 45) ≡ false → Ask (codes "figures" ∷ (x ∷ rest) ∷ []) Figures ((x ∷ rest) ∷ []) (equal 15000) 16 false
+one_figures : (x : ℕ) (rest : Text) → (x == 45) ≡ false → Ask (codes "figures" ∷ (x ∷ rest) ∷ []) Figures ((x ∷ rest) ∷ []) (equal 15000) 16 4 false
 unfolding clap_on_literals given unsaid
 one_figures x rest plain =
-    let rows : List Row = given (codes "FILE") ((x ∷ rest) ∷ []) ∷ unsaid (codes "burden") (codes "15000") WithoutMinus ∷ unsaid (codes "parts") (codes "16") WithoutMinus ∷ [] in
+    let rows : List Row = given (codes "FILE") ((x ∷ rest) ∷ []) ∷ unsaid (codes "burden") (codes "15000") WithoutMinus ∷ unsaid (codes "parts") (codes "16") WithoutMinus ∷ unsaid (codes "workers") (codes "4") WithoutMinus ∷ [] in
     let found : subcommand_of spprof (codes "spprof" ∷ codes "figures" ∷ (x ∷ rest) ∷ []) ≡ Some (codes "figures", rows) = simp plain in
     let path : paths_of (Some (x ∷ rest)) ≡ (x ∷ rest) ∷ [] = simp plain in (
       simp plain,
       (λ r h.
           let q : IsRequestOf (Some (codes "figures", rows)) r = subst (λ o. IsRequestOf o r) found h in
-          (is_figures r.command q.0, q.1 ∙ path, as_given r.burdens (q.2.0.0 burden_unsaid, q.2.1), q.3.0 parts_unsaid, q.4.0 refl)),
-      subst (λ o. Gives o Figures ((x ∷ rest) ∷ []) (equal 15000) 16 false) (sym found) (refl, sym path, (spells (codes "15000") burden_unsaid, refl), spells (codes "16") parts_unsaid, no_flag),
+          (is_figures r.command q.0, q.1 ∙ path, as_given r.burdens (q.2.0.0 burden_unsaid, q.2.1), q.3.0 parts_unsaid, q.4.0 workers_unsaid, q.5.0 refl)),
+      subst (λ o. Gives o Figures ((x ∷ rest) ∷ []) (equal 15000) 16 4 false) (sym found) (refl, sym path, (spells (codes "15000") burden_unsaid, refl), spells (codes "16") parts_unsaid, spells (codes "4") workers_unsaid, no_flag),
     )
 
-one_profile : (x : ℕ) (rest : Text) → (x == 45) ≡ false → Ask (codes "profile" ∷ (x ∷ rest) ∷ []) Profile ((x ∷ rest) ∷ []) (equal 15000) 16 false
+one_profile : (x : ℕ) (rest : Text) → (x == 45) ≡ false → Ask (codes "profile" ∷ (x ∷ rest) ∷ []) Profile ((x ∷ rest) ∷ []) (equal 15000) 16 4 false
 unfolding clap_on_literals given unsaid
 one_profile x rest plain =
-    let rows : List Row = given (codes "FILE") ((x ∷ rest) ∷ []) ∷ unsaid (codes "burden") (codes "15000") WithoutMinus ∷ unsaid (codes "csv") (codes "false") AsWritten ∷ [] in
+    let rows : List Row = given (codes "FILE") ((x ∷ rest) ∷ []) ∷ unsaid (codes "burden") (codes "15000") WithoutMinus ∷ unsaid (codes "parts") (codes "16") WithoutMinus ∷ unsaid (codes "workers") (codes "4") WithoutMinus ∷ unsaid (codes "csv") (codes "false") AsWritten ∷ [] in
     let found : subcommand_of spprof (codes "spprof" ∷ codes "profile" ∷ (x ∷ rest) ∷ []) ≡ Some (codes "profile", rows) = simp plain in
     let path : paths_of (Some (x ∷ rest)) ≡ (x ∷ rest) ∷ [] = simp plain in (
       simp plain,
       (λ r h.
           let q : IsRequestOf (Some (codes "profile", rows)) r = subst (λ o. IsRequestOf o r) found h in
-          (is_profile r.command q.0, q.1 ∙ path, as_given r.burdens (q.2.0.0 burden_unsaid, q.2.1), q.3, q.4.1 refl)),
-      subst (λ o. Gives o Profile ((x ∷ rest) ∷ []) (equal 15000) 16 false) (sym found) (refl, sym path, (spells (codes "15000") burden_unsaid, refl), refl, flag_off),
+          (is_profile r.command q.0, q.1 ∙ path, as_given r.burdens (q.2.0.0 burden_unsaid, q.2.1), q.3.0 parts_unsaid, q.4.0 workers_unsaid, q.5.1 refl)),
+      subst (λ o. Gives o Profile ((x ∷ rest) ∷ []) (equal 15000) 16 4 false) (sym found) (refl, sym path, (spells (codes "15000") burden_unsaid, refl), spells (codes "16") parts_unsaid, spells (codes "4") workers_unsaid, flag_off),
     )
 
-one_encode : (x : ℕ) (rest : Text) → (x == 45) ≡ false → Ask (codes "encode" ∷ (x ∷ rest) ∷ []) Encode ((x ∷ rest) ∷ []) (equal 15000) 16 false
+one_encode : (x : ℕ) (rest : Text) → (x == 45) ≡ false → Ask (codes "encode" ∷ (x ∷ rest) ∷ []) Encode ((x ∷ rest) ∷ []) (equal 15000) 16 4 false
 unfolding clap_on_literals given unsaid
 one_encode x rest plain =
     let rows : List Row = given (codes "FILE") ((x ∷ rest) ∷ []) ∷ [] in
@@ -225,8 +246,8 @@ one_encode x rest plain =
       simp plain,
       (λ r h.
           let q : IsRequestOf (Some (codes "encode", rows)) r = subst (λ o. IsRequestOf o r) found h in
-          (is_encode r.command q.0, q.1 ∙ path, as_given r.burdens q.2, q.3, q.4.0 refl)),
-      subst (λ o. Gives o Encode ((x ∷ rest) ∷ []) (equal 15000) 16 false) (sym found) (refl, sym path, (refl, refl), refl, no_flag),
+          (is_encode r.command q.0, q.1 ∙ path, as_given r.burdens q.2, q.3, q.4, q.5.0 refl)),
+      subst (λ o. Gives o Encode ((x ∷ rest) ∷ []) (equal 15000) 16 4 false) (sym found) (refl, sym path, (refl, refl), refl, refl, no_flag),
     )
 
 pub returns-clause-one_word : goal.returns-clause-one_word
@@ -250,20 +271,20 @@ returns-clause-two_words c = two_words
 
 alone : CommandAlone
 unfolding clap_on_literals
-alone Check = (refl, (λ r h. (is_check r.command h.0, h.1, as_given r.burdens h.2, h.3, h.4.0 refl)), (refl, refl, (refl, refl), refl, no_flag))
-alone Figures = (refl, (λ r h. (is_figures r.command h.0, h.1, as_given r.burdens (h.2.0.0 burden_unsaid, h.2.1), h.3.0 parts_unsaid, h.4.0 refl)), (refl, refl, (spells (codes "15000") burden_unsaid, refl), spells (codes "16") parts_unsaid, no_flag))
-alone Profile = (refl, (λ r h. (is_profile r.command h.0, h.1, as_given r.burdens (h.2.0.0 burden_unsaid, h.2.1), h.3, h.4.1 refl)), (refl, refl, (spells (codes "15000") burden_unsaid, refl), refl, flag_off))
-alone Encode = (refl, (λ r h. (is_encode r.command h.0, h.1, as_given r.burdens h.2, h.3, h.4.0 refl)), (refl, refl, (refl, refl), refl, no_flag))
+alone Check = (refl, (λ r h. (is_check r.command h.0, h.1, as_given r.burdens h.2, h.3, h.4, h.5.0 refl)), (refl, refl, (refl, refl), refl, refl, no_flag))
+alone Figures = (refl, (λ r h. (is_figures r.command h.0, h.1, as_given r.burdens (h.2.0.0 burden_unsaid, h.2.1), h.3.0 parts_unsaid, h.4.0 workers_unsaid, h.5.0 refl)), (refl, refl, (spells (codes "15000") burden_unsaid, refl), spells (codes "16") parts_unsaid, spells (codes "4") workers_unsaid, no_flag))
+alone Profile = (refl, (λ r h. (is_profile r.command h.0, h.1, as_given r.burdens (h.2.0.0 burden_unsaid, h.2.1), h.3.0 parts_unsaid, h.4.0 workers_unsaid, h.5.1 refl)), (refl, refl, (spells (codes "15000") burden_unsaid, refl), spells (codes "16") parts_unsaid, spells (codes "4") workers_unsaid, flag_off))
+alone Encode = (refl, (λ r h. (is_encode r.command h.0, h.1, as_given r.burdens h.2, h.3, h.4, h.5.0 refl)), (refl, refl, (refl, refl), refl, refl, no_flag))
 
 pub returns-clause-command_alone : goal.returns-clause-command_alone
 returns-clause-command_alone c = alone
 
 dash : Dash
 unfolding clap_on_literals
-dash Check = (refl, (λ r h. (is_check r.command h.0, h.1, as_given r.burdens h.2, h.3, h.4.0 refl)), (refl, refl, (refl, refl), refl, no_flag))
-dash Figures = (refl, (λ r h. (is_figures r.command h.0, h.1, as_given r.burdens (h.2.0.0 burden_unsaid, h.2.1), h.3.0 parts_unsaid, h.4.0 refl)), (refl, refl, (spells (codes "15000") burden_unsaid, refl), spells (codes "16") parts_unsaid, no_flag))
-dash Profile = (refl, (λ r h. (is_profile r.command h.0, h.1, as_given r.burdens (h.2.0.0 burden_unsaid, h.2.1), h.3, h.4.1 refl)), (refl, refl, (spells (codes "15000") burden_unsaid, refl), refl, flag_off))
-dash Encode = (refl, (λ r h. (is_encode r.command h.0, h.1, as_given r.burdens h.2, h.3, h.4.0 refl)), (refl, refl, (refl, refl), refl, no_flag))
+dash Check = (refl, (λ r h. (is_check r.command h.0, h.1, as_given r.burdens h.2, h.3, h.4, h.5.0 refl)), (refl, refl, (refl, refl), refl, refl, no_flag))
+dash Figures = (refl, (λ r h. (is_figures r.command h.0, h.1, as_given r.burdens (h.2.0.0 burden_unsaid, h.2.1), h.3.0 parts_unsaid, h.4.0 workers_unsaid, h.5.0 refl)), (refl, refl, (spells (codes "15000") burden_unsaid, refl), spells (codes "16") parts_unsaid, spells (codes "4") workers_unsaid, no_flag))
+dash Profile = (refl, (λ r h. (is_profile r.command h.0, h.1, as_given r.burdens (h.2.0.0 burden_unsaid, h.2.1), h.3.0 parts_unsaid, h.4.0 workers_unsaid, h.5.1 refl)), (refl, refl, (spells (codes "15000") burden_unsaid, refl), spells (codes "16") parts_unsaid, spells (codes "4") workers_unsaid, flag_off))
+dash Encode = (refl, (λ r h. (is_encode r.command h.0, h.1, as_given r.burdens h.2, h.3, h.4, h.5.0 refl)), (refl, refl, (refl, refl), refl, refl, no_flag))
 
 pub returns-clause-dash : goal.returns-clause-dash
 returns-clause-dash c = dash

@@ -1,4 +1,4 @@
-use Rattle.std.proofs.Common.{◌∙◌, ap, ap₂, sym, subst, refl, map, codes, List, ℕ, unwrap_or}
+use Rattle.std.proofs.Common.{◌∙◌, ap, ap₂, sym, subst, refl, map, codes, List, ℕ, unwrap_or, arith}
 use Rattle.std.specs.Str.Parse.{ExplainsUnsignedError, HasUnsignedDigitsIfOk, ParsesUnsigned}
 use Rattle.clap.specs.Walk.{Text, one_of, rows_of}
 use Rattle.clap.specs.Matches.{found_of}
@@ -7,7 +7,7 @@ use Rattle.clap.specs.Faults.{fault_of, is_simple_and_free}
 use Rattle.clap.proofs.WalkLemmas.{first_value-rows, one_text-rows}
 use Rattle.spp_maxplus.specs.declared.state.Burdens.{Burdens}
 use Rattle.spp_command_line.specs.Usage.{AreBurdens, EndsBy, IsNamed, IsNumberOr, IsRequestOf, paths_of}
-use Rattle.spp_command_line.proofs.Matches.{entered_both, command_named, shown_among, spprof_free, spprof_simple, burden_read, parts_read}
+use Rattle.spp_command_line.proofs.Matches.{entered_both, command_named, shown_among, spprof_free, spprof_simple, burden_read, count_read}
 use Rattle.spp_command_line.proofs.reading.read_request.Goals as goal
 
 pub returns-in-Err-clause-refused : goal.returns-in-Err-clause-refused
@@ -38,6 +38,7 @@ returns-clause-found g c =
     let burden = one_text-rows f (codes "burden") in
     let join = one_text-rows f (codes "join-burden") in
     let parts = one_text-rows f (codes "parts") in
+    let workers = one_text-rows f (codes "workers") in
     let csv = one_text-rows f (codes "csv") in
     let r = c.in_ok-request_of.field-0 in
     let made = c.in_ok-request_of.ensures in
@@ -51,8 +52,11 @@ returns-clause-found g c =
         burden_read (λ bs r. ParsesUnsigned 32 10 bs r × ExplainsUnsignedError 10 bs r × HasUnsignedDigitsIfOk bs r) (unwrap_or c.get_one.result 15000) _ c.get_one-2.result (λ t x h. h.0) (λ e. c.get_one-2.ensures.none (join ∙ e)) (λ t e. c.get_one-2.ensures.value t (join ∙ e)),
       ),
       subst (IsNumberOr 1 65536 16 (one_of (codes "parts") (rows_of f))) (sym made.parts)
-          (parts_read (λ bs r. ParsesUnsigned 32 10 bs r × ExplainsUnsignedError 10 bs r × HasUnsignedDigitsIfOk bs r) _ c.get_one-3.result c.and_then-parts.result c.unwrap_or_default.result (λ t x h. h.0) (λ e. c.get_one-3.ensures.none (parts ∙ e))
+          (count_read 65536 16 (omega arith) (λ bs r. ParsesUnsigned 32 10 bs r × ExplainsUnsignedError 10 bs r × HasUnsignedDigitsIfOk bs r) _ c.get_one-3.result c.and_then-parts.result c.unwrap_or_default.result (λ t x h. h.0) (λ e. c.get_one-3.ensures.none (parts ∙ e))
           (λ t e. c.get_one-3.ensures.value t (parts ∙ e)) c.and_then-parts.ensures c.unwrap_or_default.ensures),
+      subst (IsNumberOr 1 64 4 (one_of (codes "workers") (rows_of f))) (sym made.workers)
+          (count_read 64 4 (omega arith) (λ bs r. ParsesUnsigned 32 10 bs r × ExplainsUnsignedError 10 bs r × HasUnsignedDigitsIfOk bs r) _ c.get_one-4.result c.and_then-workers.result c.unwrap_or_default-2.result (λ t x h. h.0) (λ e. c.get_one-4.ensures.none (workers ∙ e))
+          (λ t e. c.get_one-4.ensures.value t (workers ∙ e)) c.and_then-workers.ensures c.unwrap_or_default-2.ensures),
       (
         (λ e. made.csv ∙ c.get_flag.ensures.none (csv ∙ e)),
         (λ e. made.csv ∙ c.get_flag.ensures.other (csv ∙ e)),
