@@ -117,8 +117,14 @@ fn a_trace_without_figures_is_told_in_one_line(rt: HostRuntime) {
         (68, "bad event 2: truncated\n"),
     ] {
         if let Some(bytes) = SMALL.get(..length) {
-            assert!(rt; ends_with(&rt, Command::Figures, bytes, 1, "", line), "{line}");
-            assert!(rt; ends_with(&rt, Command::Profile, bytes, 1, "", line), "{line}");
+            assert!(rt;
+                ends_with(&rt, Command::Figures, bytes, 1, "", line),
+                "{line}"
+            );
+            assert!(rt;
+                ends_with(&rt, Command::Profile, bytes, 1, "", line),
+                "{line}"
+            );
         }
     }
 }
@@ -134,14 +140,7 @@ fn a_good_trace_prints_its_tables_alone(rt: HostRuntime) {
         csv: true,
         ..request_for(rt.alloc(), Command::Profile)
     };
-    let printed = request_ends_with(
-        &rt,
-        &request,
-        SMALL,
-        0,
-        CSV.as_bytes(),
-        b"".as_slice(),
-    );
+    let printed = request_ends_with(&rt, &request, SMALL, 0, CSV.as_bytes(), b"".as_slice());
     assert!(rt; printed);
 }
 
