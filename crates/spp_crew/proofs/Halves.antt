@@ -8,9 +8,10 @@ use Rattle.spp_maxplus.specs.declared.state.Burdens.{Burdens}
 use Rattle.spp_stack.specs.Chain.{Stacks}
 use Rattle.spp_path.specs.Marks.{AreMarksOf}
 use Rattle.spp_path.specs.Settled.{PathOf}
-use Rattle.spp_parts.specs.Marks.{parts_from, AreMarksFrom, IsSettledOver}
+use Rattle.spp_crew.specs.Marks.{AreMarksFrom, IsSettledOver}
+use Rattle.spp_jobs.specs.Names.{parts_from}
 use Rattle.spp_jobs.proofs.Cuts.{range_all}
-use Rattle.spp_parts.proofs.Marked.{events_parted, events_to, range_events, marks_two}
+use Rattle.spp_crew.proofs.Marked.{events_parted, events_to, range_events, marks_two}
 use Rattle.spp_crew.specs.Marks.{CanMark, AreMarked}
 
 pub ok_also : {X E P Q : Type 0} (x : Result X E) → (P → Q) → OnOk x P → OnOk x Q

@@ -1,3 +1,4 @@
-pub mod Surveyed
+pub mod FirstRound
 pub mod Halves
-mod Profiled
+pub mod Marked
+pub mod Profiled

@@ -17,8 +17,8 @@ use Rattle.spp_dag.proofs.Ties.{path_unique}
 use Rattle.spp_site.specs.Table.{Sums}
 use Rattle.spp_pass.specs.Shares.{IsShare}
 use Rattle.spp_path.specs.Parts.{IsPathShare}
-use Rattle.spp_parts.proofs.Shares.{Everywhere, OnPath, AreRowsTo}
-use Rattle.spp_parts.specs.Choices.{AreChoicesOf}
+use Rattle.spp_jobs.proofs.Shares.{Everywhere, OnPath, AreRowsTo}
+use Rattle.spp_jobs.specs.Choices.{AreChoicesOf}
 use Rattle.spp_jobs.specs.declared.tabled.Tabled.{Tabled}
 use Rattle.spp_jobs.specs.declared.pathed.Pathed.{Pathed}
 use Rattle.spp_jobs.specs.Names.{tables, paths, JobOf, spell, parts_in, parts_from}

@@ -13,6 +13,6 @@ mod surveying;
 
 pub use gate::{Gate, OpenGate};
 pub use marking::marks;
-pub use profiling::profile;
+pub use profiling::{profile, tabled};
 pub use round::run_round;
-pub use surveying::figures;
+pub use surveying::{Surveyed, figures, survey};

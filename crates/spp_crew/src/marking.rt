@@ -2,20 +2,20 @@
 
 ghost use Rattle.std.specs.Prelude.{◌≡◌, ◌+◌, ◌<◌, ◌≤◌, length, IfErr, OnOk, Err};
 ghost use Rattle.std.specs.Thread.{IsSync};
-ghost use Rattle.spp_crew.specs.Marks.{CanMark, AreMarked};
+ghost use Rattle.spp_crew.specs.Marks.{CanMark, AreMarked, AreMarks};
 ghost use Rattle.spp_frame.specs.Answers.{IsFaultOf};
 ghost use Rattle.spp_frame.specs.Nesting.{IsWellFormed};
 ghost use Rattle.spp_frame.specs.declared.Fault.{Fault};
 ghost use Rattle.spp_frame.specs.declared.profile_fault.ProfileFault.TheVariants.{Bad};
 ghost use Rattle.spp_maxplus.specs.State.{unburdened};
-ghost use Rattle.spp_parts.specs.Marks.{AreMarks};
 
 use crate::gate::Gate;
+use crate::profiling::tabled;
 use crate::surveying::survey;
 use spp_cut::{Cut, events_before, lend};
 use spp_frame::ProfileFault;
+use spp_jobs::{Tabled, entries_of};
 use spp_maxplus::Burdens;
-use spp_parts::{choices_of, entries_of};
 use spp_path::{Settled, Under, mark_part, settle};
 use spp_stack::Entries;
 use std::alloc::{AllocError, Global};
@@ -139,10 +139,11 @@ fn mark_halves<R: Threads + Wait + Sync, G: Gate>(
 
 /// Marks which events of a cut trace are on its path, the one that is greatest without burdens, by so many workers, 1 to
 /// 64, each on a thread of its own but one: byte `i` is 1 where event `i` is on the path, else 0. The gate is called in
-/// round 1 before a part is summarised, and in round 4 before its events are marked.
+/// round 1 before a part is summarised, in round 2 before its choices are noted, and in round 4 before its events are
+/// marked.
 ///
-/// Each event is read three times: by the workers for the summaries, on one thread for the choices, and by the workers
-/// for the marks, where each has a run of neighbouring parts. The memory is linear in the numbers of parts, of the frames
+/// Each event is read three times: for the summaries, for the choices, and for the marks, where each worker has a run of
+/// neighbouring parts. The memory is linear in the numbers of parts, of the frames
 /// that are open where parts begin or that parts close and don't open, and of spawned children, besides the frames that
 /// are open at a time in each part that is being marked, and the stacks of the threads.
 ///
@@ -166,13 +167,14 @@ pub fn marks<R: Threads + Wait + Sync, G: Gate>(
     ensures fault { IfErr result (λ f. IsFaultOf cut.now.trace.records f) }
     ensures kept { (fault : Fault) → result ≡ Err (Bad fault) → marks.new ≡ marks.old }
 {
+    let count = cut.parts().len();
     let burdens = Burdens::equal(0);
     let found = survey(rt, alloc, cut, workers, burdens, gate)?;
     let stacks = entries_of(alloc, cut, &found.each)?;
     drop(found.each);
-    let choices = choices_of(alloc, cut, burdens, &stacks)?;
+    let Tabled { choices, .. } = tabled(rt, alloc, cut, &stacks, workers, burdens, gate)?;
+    let choices = choices.into_vec();
     let settled = settle(alloc, &stacks, &choices, Under::Zero)?;
-    let count = cut.parts().len();
     mark_range(
         rt, alloc, cut, 0, count, &stacks, &settled, workers, gate, marks,
     )?;

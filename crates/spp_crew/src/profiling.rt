@@ -1,6 +1,6 @@
 //! The whole profile of a run, made by workers.
 
-ghost use Rattle.std.specs.Prelude.{◌≡◌, ◌<◌, ◌≤◌, ◌^◌, List, length, IfOk, IfErr};
+ghost use Rattle.std.specs.Prelude.{◌≡◌, ◌<◌, ◌≤◌, ◌^◌, List, length, true, IfOk, IfErr};
 ghost use Rattle.spp_dag.specs.Figures.{AreFigures};
 ghost use Rattle.spp_event.specs.declared.records.Event.{Event as EventValue};
 ghost use Rattle.spp_frame.specs.Answers.{IsFaultOf};
@@ -9,7 +9,8 @@ ghost use Rattle.spp_jobs.specs.Names.{tables, paths};
 ghost use Rattle.spp_jobs.specs.Paths.{IsPathedOf};
 ghost use Rattle.spp_jobs.specs.Tables.{IsRun, IsTabledOf};
 ghost use Rattle.spp_maxplus.specs.State.{unburdened};
-ghost use Rattle.spp_parts.specs.Choices.{AreChoicesOf};
+ghost use Rattle.spp_jobs.specs.Choices.{AreChoicesOf};
+ghost use Rattle.spp_site.specs.Rows.{frame_row};
 ghost use Rattle.spp_site.specs.Profiles.{IsDagTable, IsPathTable, IsProfileOf};
 ghost use Rattle.spp_stack.specs.Parts.{AreEntriesOf};
 
@@ -17,13 +18,12 @@ use crate::gate::Gate;
 use crate::round::run_round;
 use crate::surveying::survey;
 use spp_cut::Cut;
-use spp_dag::Choices;
+use spp_dag::{Choices, Figures, Row};
 use spp_frame::ProfileFault;
-use spp_jobs::{PathJob, Pathed, TableJob, Tabled};
+use spp_jobs::{PathJob, Pathed, TableJob, Tabled, entries_of};
 use spp_maxplus::Burdens;
-use spp_parts::{entries_of, root_row};
 use spp_path::{Under, settle};
-use spp_site::Profile;
+use spp_site::{ClosedFrame, Profile};
 use spp_stack::Entries;
 use std::alloc::{AllocError, Global};
 use std::sync::Wait;
@@ -35,13 +35,27 @@ const TABLES: u8 = 2;
 /// The round in which frames are counted on both paths.
 const PATHS: u8 = 3;
 
+/// What the root frame itself adds to its row, where the run comes to these figures.
+fn root_row(whole: &Figures) -> Row
+    ensures { result ≡ frame_row (record { local = 0; work = whole.now.work; span = whole.now.span; top_site = true; top_caller = true }) }
+{
+    let closed = ClosedFrame {
+        local: 0,
+        work: whole.work,
+        span: whole.span,
+        top_site: true,
+        top_caller: true,
+    };
+    closed.row()
+}
+
 /// The rows of all parts on the whole dag, without what the root frame adds itself, and the choices in each, made by so
 /// many workers in round 2.
 ///
 /// # Errors
 ///
 /// Where a growth was refused.
-fn tabled<R: Threads + Wait + Sync, G: Gate>(
+pub fn tabled<R: Threads + Wait + Sync, G: Gate>(
     rt: &R,
     alloc: Global,
     cut: &Cut<'_, '_>,

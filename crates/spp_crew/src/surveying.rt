@@ -6,7 +6,7 @@ ghost use Rattle.spp_dag.specs.Figures.{AreFigures};
 ghost use Rattle.spp_event.specs.declared.records.Event.{Event as EventValue};
 ghost use Rattle.spp_frame.specs.Answers.{IsFaultOf};
 ghost use Rattle.spp_frame.specs.Nesting.{AreEvents};
-ghost use Rattle.spp_parts.specs.Summaries.{AreSummariesOf};
+ghost use Rattle.spp_jobs.specs.Summaries.{AreSummariesOf};
 ghost use Rattle.spp_stack.specs.Parts.{AreOfParts};
 
 use crate::gate::Gate;
@@ -16,7 +16,7 @@ use spp_dag::Figures;
 use spp_frame::ProfileFault;
 use spp_jobs::{Survey, SurveyJob};
 use spp_maxplus::Burdens;
-use spp_parts::Survey as Surveyed;
+use spp_summary::Summary;
 use std::alloc::Global;
 use std::sync::Wait;
 use std::thread::Threads;
@@ -24,13 +24,22 @@ use std::thread::Threads;
 /// The round in which the survey is made.
 const SURVEY: u8 = 1;
 
+/// What the summaries of all parts of a trace tell.
+#[derive(Drop)]
+pub struct Surveyed {
+    /// The summary of each part, in order.
+    pub each: Vec<Summary>,
+    /// The work, span and burdened span of the run.
+    pub whole: Figures,
+}
+
 /// The summaries of the parts of a cut trace, with the figures that all parts together come to, made by so many workers
 /// in round 1.
 ///
 /// # Errors
 ///
 /// The first bad event, or `Memory` where a growth was refused.
-pub(crate) fn survey<R: Threads + Wait + Sync, G: Gate>(
+pub fn survey<R: Threads + Wait + Sync, G: Gate>(
     rt: &R,
     alloc: Global,
     cut: &Cut<'_, '_>,

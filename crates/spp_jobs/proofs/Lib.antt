@@ -1,6 +1,11 @@
-pub mod Spelling
+pub mod Accounts
+pub mod Begins
 pub mod Cuts
-pub mod Surveys
-pub mod Rows
-pub mod Tables
+pub mod Entries
 pub mod Paths
+pub mod Rows
+pub mod Runs
+pub mod Shares
+pub mod Spelling
+pub mod Surveys
+pub mod Tables

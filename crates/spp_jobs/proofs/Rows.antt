@@ -14,7 +14,7 @@ use Rattle.spp_site.specs.Table.{Sums, empty, row_at, IsSum}
 use Rattle.spp_site.specs.Profiles.{key_row}
 use Rattle.spp_site.proofs.Rows.{zero-plus}
 use Rattle.spp_pass.proofs.Bounded.{empty_rows}
-use Rattle.spp_parts.proofs.Shares.{small_fits}
+use Rattle.spp_jobs.proofs.Shares.{small_fits}
 
 -- ---- sums of two
 

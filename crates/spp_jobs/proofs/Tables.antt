@@ -16,7 +16,7 @@ use Rattle.spp_site.specs.Rows.{Fits}
 use Rattle.spp_site.specs.Table.{Sums, row_at, empty, IsSum}
 use Rattle.spp_site.specs.Profiles.{key_row}
 use Rattle.spp_pass.specs.Shares.{IsShare, IsPartOf}
-use Rattle.spp_parts.specs.Choices.{AreChoicesOf}
+use Rattle.spp_jobs.specs.Choices.{AreChoicesOf}
 use Rattle.spp_book.specs.Jobs.{AreNeighbours, IsJoined, IsCopied}
 use Rattle.spp_jobs.specs.declared.tabled.Tabled.{Tabled}
 use Rattle.spp_jobs.specs.Names.{tables, JobOf, spell, parts_in, parts_from, IsNamed}

@@ -6,7 +6,7 @@ use Rattle.spp_maxplus.specs.State.{unburdened}
 use Rattle.spp_stack.specs.Chain.{Stacks}
 use Rattle.spp_path.specs.Parts.{IsPathShare, IsSettledIn}
 use Rattle.spp_path.specs.Settled.{PathOf}
-use Rattle.spp_parts.specs.Marks.{IsSettledOver}
+use Rattle.spp_crew.specs.Marks.{IsSettledOver}
 use Rattle.spp_jobs.specs.Names.{JobOf, IsNamed, paths}
 use Rattle.spp_jobs.specs.Tables.{IsRun, begin}
 use Rattle.spp_jobs.specs.declared.pathed.Pathed.{Pathed}

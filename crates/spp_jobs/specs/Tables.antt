@@ -10,7 +10,7 @@ use Rattle.spp_dag.specs.Limits.{IsSmall}
 use Rattle.spp_stack.specs.Chain.{Stacks}
 use Rattle.spp_stack.specs.Parts.{AreEntriesOf}
 use Rattle.spp_pass.specs.Shares.{IsShare}
-use Rattle.spp_parts.specs.Choices.{AreChoicesOf}
+use Rattle.spp_jobs.specs.Choices.{AreChoicesOf}
 use Rattle.spp_jobs.specs.Names.{JobOf, IsNamed, tables, parts_from}
 use Rattle.spp_jobs.specs.declared.tabled.Tabled.{Tabled}
 

@@ -2,12 +2,14 @@
 #![tactic(auto)]
 
 mod adding;
+mod beginnings;
 mod laws;
 mod lists;
 mod pathed;
 mod survey;
 mod tabled;
 
+pub use beginnings::entries_of;
 pub use laws::name_laws;
 pub use pathed::{PathJob, Pathed};
 pub use survey::{Survey, SurveyJob};

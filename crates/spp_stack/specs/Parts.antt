@@ -48,8 +48,7 @@ abbrev pub IsEntryOf : List Event → Burdens → ℕ → List Account → Stack
 IsEntryOf es burdens root accounts s k = IsEntryAt es burdens root s k (begin_of accounts k)
 
 -- The stacks are those of a cut of a well-formed trace under the burdens: start k is the entry of the position where
--- part k begins, and one start more is that of the end. So a pass over part k can begin with start k (spp_parts
--- `proofs/Entries`).
+-- part k begins, and one start more is that of the end. So a pass over part k can begin with start k.
 pub record AreEntriesOf (cut : CutOf) (burdens : Burdens) (s : Stacks) : Type 0 where
   pub events : List Event
   pub are_events : AreEvents cut.trace.records events

@@ -7,17 +7,14 @@
 //! returns are taken in.
 #![tactic(auto)]
 
-mod by_parts;
 mod frames;
 mod opens;
 mod pending;
 mod reading;
 mod returns;
-mod spare;
 mod storage;
 mod summary;
 
-pub use by_parts::figures_in_parts;
 pub use frames::FrameReader;
 pub use returns::ReturnReader;
 pub use summary::{JoinRefused, Summary};

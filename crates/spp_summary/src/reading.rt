@@ -13,13 +13,12 @@ ghost use Rattle.spp_piece.specs.Machine.{event, entered as entered_at};
 
 use crate::opens::{Kept, Open, keep, leave};
 use crate::returns::Returns;
-use crate::spare::Spare;
 use crate::storage::Storage;
 use spp_cut::Part;
 use spp_event::{Event, EventFault};
 use spp_maxplus::{Burdens, ChildKind};
 use spp_piece::Segs;
-use std::alloc::AllocError;
+use std::alloc::{AllocError, Global};
 use std::collections::VecDeque;
 
 /// The parts of a summary. A strand changes the work alone: what has run since a frame was last changed is told by
@@ -47,19 +46,15 @@ pub(crate) struct Reading {
 }
 
 impl Reading {
-    /// No events, in these lists' memory.
-    pub(crate) fn new(spare: Spare) -> Self
+    /// No events.
+    pub(crate) fn new(alloc: Global) -> Self
         ensures value { so_far result ≡ no_events }
         ensures laid { IsLaid result }
     {
-        let mut lists = spare;
-        lists.returns.clear();
-        lists.opens.clear();
-        lists.states.clear();
         Reading {
-            returns: lists.returns,
-            opens: lists.opens,
-            states: lists.states,
+            returns: Returns::new(alloc),
+            opens: Vec::new(alloc),
+            states: Vec::new(alloc),
             middle: Segs::idle(),
             since: 0,
             run: 0,
@@ -239,13 +234,13 @@ impl Reading {
         Ok(())
     }
 
-    /// Reads the events of a part, up to the first bad record, into these lists.
+    /// Reads the events of a part, up to the first bad record.
     ///
     /// # Errors
     ///
     /// Where a growth was refused.
     pub(crate) fn of_part(
-        spare: Spare,
+        alloc: Global,
         part: &Part<'_, '_>,
         burdens: Burdens,
     ) -> Result<Reading, AllocError>
@@ -258,7 +253,7 @@ impl Reading {
         let own = part.again();
         let first = part.first();
         let events = part.count();
-        let mut reading = Reading::new(spare);
+        let mut reading = Reading::new(alloc);
         for k in 0..events {
             match own.event_at(k) {
                 Ok(event) => reading.read(burdens, first + k, event)?,

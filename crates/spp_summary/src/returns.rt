@@ -225,15 +225,6 @@ impl Returns {
             segs: SmallVec::from_slice(alloc, self.segs.as_slice())?,
         })
     }
-
-    /// None are left; the memory stays.
-    pub(crate) fn clear(&mut self)
-        ensures items { self.new.items ≡ [] }
-        ensures kept { self.new.kept ≡ 0 }
-    {
-        self.closes.clear();
-        self.segs.clear();
-    }
 }
 
 impl<'a> ReturnsLeft<'a> {

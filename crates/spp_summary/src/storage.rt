@@ -11,7 +11,6 @@ ghost use Rattle.spp_piece.specs.Summary.{along_by, summary_ops, play_returns, j
 use crate::opens::{Kept, Open};
 use crate::pending::Pending;
 use crate::returns::Returns;
-use crate::spare::Spare;
 use spp_event::EventFault;
 use spp_maxplus::Burdens;
 use spp_piece::Segs;
@@ -42,12 +41,11 @@ pub(crate) struct Storage {
 }
 
 /// The list of the one and then that of the other, where the one of the two that takes the other's elements has room
-/// for them; and the other of the two, empty.
-fn chained<T: Drop>(left: VecDeque<T>, right: VecDeque<T>, into_left: bool) -> (VecDeque<T>, Vec<T>)
+/// for them.
+fn chained<T: Drop>(left: VecDeque<T>, right: VecDeque<T>, into_left: bool) -> VecDeque<T>
     requires left { into_left ≡ true → deque_len left + deque_len right ≤ deque_capacity left }
     requires right { into_left ≡ false → deque_len left + deque_len right ≤ deque_capacity right }
-    ensures all { result.0.items ≡ left.items ++ right.items }
-    ensures emptied { result.1.items ≡ [] }
+    ensures { result.items ≡ left.items ++ right.items }
 {
     let mut left = left;
     let mut right = right;
@@ -55,12 +53,12 @@ fn chained<T: Drop>(left: VecDeque<T>, right: VecDeque<T>, into_left: bool) -> (
         while let Some(first) = right.pop_front() {
             left.push_back_reserved(first);
         }
-        (left, right.into_vec())
+        left
     } else {
         while let Some(last) = left.pop_back() {
             right.push_front_reserved(last);
         }
-        (right, left.into_vec())
+        right
     }
 }
 
@@ -324,51 +322,34 @@ impl Storage {
         self.change_innermost(&pending.segs().then(right.middle()), next);
     }
 
-    /// This piece and a later one, for the join with which there is room; and the lists that are needed no longer.
-    pub(crate) fn absorb(self, burdens: Burdens, right: Storage) -> (Storage, Spare)
+    /// This piece and a later one, for the join with which there is room.
+    pub(crate) fn absorb(self, burdens: Burdens, right: Storage) -> Storage
         requires left { IsLaid self }
         requires right { IsLaid right }
         requires room { HasRoom self right }
         requires load { load burdens (seen self) + load burdens (seen right) < 2 ^ 127 }
         requires work { self.before + self.run + (right.before + right.run) < 2 ^ 127 }
-        ensures value { seen result.0 ≡ joined burdens (seen self) (seen right) }
-        ensures laid { IsLaid result.0 }
+        ensures value { seen result ≡ joined burdens (seen self) (seen right) }
+        ensures laid { IsLaid result }
     {
         let mut left = self;
         let mut right = right;
         if let Some(_) = left.fault {
-            return (left, right.into_spare());
+            return left;
         }
         let work = left.before + left.run;
         left.go_on(burdens, &right);
         let into_left = right.opens.len() <= left.opens.len();
         right.place(work, left.before, left.run);
-        let (opens, no_opens) = chained(left.opens, right.opens, into_left);
-        let (states, no_states) = chained(left.states, right.states, into_left);
-        let both = Storage {
+        Storage {
             returns: left.returns,
-            opens,
-            states,
+            opens: chained(left.opens, right.opens, into_left),
+            states: chained(left.states, right.states, into_left),
             middle: left.middle,
             since: left.since,
             run: right.run,
             before: right.before,
             fault: right.fault,
-        };
-        let spare = Spare {
-            returns: right.returns,
-            opens: no_opens,
-            states: no_states,
-        };
-        (both, spare)
-    }
-
-    /// Its lists, which are needed no longer.
-    fn into_spare(self) -> Spare {
-        Spare {
-            returns: self.returns,
-            opens: self.opens.into_vec(),
-            states: self.states.into_vec(),
         }
     }
 

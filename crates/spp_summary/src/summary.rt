@@ -18,7 +18,6 @@ ghost use Rattle.spp_piece.specs.Bound.{cost, height, worst};
 use crate::frames::FrameReader;
 use crate::reading::Reading;
 use crate::returns::ReturnReader;
-use crate::spare::Spare;
 use crate::storage::Storage;
 use spp_cut::Part;
 use spp_dag::Figures;
@@ -81,23 +80,8 @@ impl Summary {
         ensures value { IfOk result (λ s. s ≡ account_of burdens part.now.first (records_in part.now)) }
         ensures acts { IfOk result (λ s. (stack : Stack) → action burdens s.sum (Ok stack) ≡ run burdens part.now.first (records_in part.now) (Ok stack)) }
     {
-        Summary::summarise_into(Spare::new(alloc), part, burdens)
-    }
-
-    /// The same in the memory of lists that are needed no longer.
-    ///
-    /// # Errors
-    ///
-    /// Where a growth was refused.
-    pub(crate) fn summarise_into(
-        spare: Spare,
-        part: &Part<'_, '_>,
-        burdens: Burdens,
-    ) -> Result<Summary, AllocError>
-        ensures { IfOk result (λ s. s ≡ account_of burdens part.now.first (records_in part.now)) }
-    {
         part.keeps_limits();
-        let reading = Reading::of_part(spare, part, burdens)?;
+        let reading = Reading::of_part(alloc, part, burdens)?;
         Ok(Summary {
             burdens,
             first: part.first(),
@@ -122,40 +106,18 @@ impl Summary {
         ensures ok { IfOk result (λ s. s ≡ together left right) }
         ensures err { IfErr result (λ r. (r.left ≡ left) × (r.right ≡ right)) }
     {
-        match Summary::join_sparing(left, right) {
-            Ok((both, _)) => Ok(both),
-            Err(refused) => Err(refused),
-        }
-    }
-
-    /// The same, and the lists that are needed no longer.
-    ///
-    /// # Errors
-    ///
-    /// Where a growth was refused; both are handed back.
-    pub(crate) fn join_sparing(
-        left: Summary,
-        right: Summary,
-    ) -> Result<(Summary, Spare), JoinRefused<Summary>>
-        requires burdens { left.burdens ≡ right.burdens }
-        requires neighbours { right.first ≡ left.first + left.events }
-        ensures ok { IfOk result (λ s. s.0 ≡ together left right) }
-        ensures err { IfErr result (λ r. (r.left ≡ left) × (r.right ≡ right)) }
-    {
         let mut left = left;
         let mut right = right;
         match left.storage.make_room(&mut right.storage) {
             Ok(()) => {}
             Err(_) => return Err(JoinRefused { left, right }),
         }
-        let (storage, spare) = left.storage.absorb(left.burdens, right.storage);
-        let both = Summary {
+        Ok(Summary {
             burdens: left.burdens,
             first: left.first,
             events: left.events + right.events,
-            storage,
-        };
-        Ok((both, spare))
+            storage: left.storage.absorb(left.burdens, right.storage),
+        })
     }
 
     /// What continuation edges and return edges bear.

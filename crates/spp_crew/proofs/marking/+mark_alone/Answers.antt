@@ -2,10 +2,10 @@ use Rattle.std.proofs.Common.{◌≡◌, ◌+◌, ◌-◌, ◌/◌, ◌<◌, Lis
 use Rattle.spp_event.specs.Recordings.{Recording}
 use Rattle.spp_cut.specs.Parts.{PartOf, events_in}
 use Rattle.spp_path.specs.Parts.{IsSettledIn}
-use Rattle.spp_parts.proofs.Begins.{begin_in, part_read, part_got}
-use Rattle.spp_parts.proofs.Entries.{entry_stands}
-use Rattle.spp_parts.proofs.Runs.{placed}
-use Rattle.spp_parts.proofs.Marked.{begin_events}
+use Rattle.spp_jobs.proofs.Begins.{begin_in, part_read, part_got}
+use Rattle.spp_jobs.proofs.Entries.{entry_stands}
+use Rattle.spp_jobs.proofs.Runs.{placed}
+use Rattle.spp_crew.proofs.Marked.{begin_events}
 use Rattle.spp_crew.proofs.Halves.{marked_one, marked_both, ok_also, halves_can}
 use Rattle.spp_crew.proofs.marking.+mark_alone.Goals as goal
 

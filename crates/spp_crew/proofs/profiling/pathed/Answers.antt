@@ -1,7 +1,7 @@
 use Rattle.std.proofs.Common.{◌≡◌, ◌+◌, length, refl, sym, ap, ◌∙◌}
 use Rattle.spp_maxplus.specs.State.{unburdened}
 use Rattle.spp_path.specs.declared.settled.Under.TheVariants as under
-use Rattle.spp_parts.proofs.Runs.{chosen_count, settled_in}
+use Rattle.spp_jobs.proofs.Runs.{chosen_count, settled_in}
 use Rattle.spp_crew.proofs.Profiled.{if_ok, pathed_told}
 use Rattle.spp_crew.proofs.profiling.pathed.Goals as goal
 

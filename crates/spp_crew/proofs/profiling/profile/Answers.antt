@@ -12,8 +12,8 @@ use Rattle.spp_site.specs.Rows.{Fits}
 use Rattle.spp_site.specs.Table.{Sums}
 use Rattle.spp_site.specs.Profiles.{IsDagTable, IsPathTable}
 use Rattle.spp_site.proofs.WholeProfile.{whole}
-use Rattle.spp_parts.specs.Choices.{AreChoicesOf}
-use Rattle.spp_parts.proofs.Shares.{Everywhere, OnPath, with_root, root_fits, path_of, dag_is, path_is}
+use Rattle.spp_jobs.specs.Choices.{AreChoicesOf}
+use Rattle.spp_jobs.proofs.Shares.{Everywhere, OnPath, with_root, root_fits, path_of, dag_is, path_is}
 use Rattle.spp_crew.proofs.Profiled.{table_of, path_of_job, dag_rows, path_rows, burdened_rows, all_choices}
 use Rattle.spp_crew.proofs.profiling.profile.Goals as goal
 

@@ -3,9 +3,9 @@ use Rattle.std.specs.List.{All}
 use Rattle.spp_event.specs.Recordings.{Recording}
 use Rattle.spp_piece.specs.Account.{Account}
 use Rattle.spp_dag.proofs.EventsOfRecords.{known_small}
-use Rattle.spp_summary.proofs.InParts.{told_ok, told_err}
-use Rattle.spp_parts.proofs.Accounts.{account_in, are_of_parts, accounts_burden, told_bad}
-use Rattle.spp_crew.proofs.Surveyed.{surveyed}
+use Rattle.spp_summary.proofs.Totals.{told_ok, told_err}
+use Rattle.spp_jobs.proofs.Accounts.{account_in, are_of_parts, accounts_burden, told_bad}
+use Rattle.spp_crew.proofs.FirstRound.{surveyed}
 use Rattle.spp_crew.proofs.surveying.survey.Goals as goal
 
 pub returns-in_err-whole-clause-fault : goal.returns-in_err-whole-clause-fault

@@ -3,9 +3,9 @@ use Rattle.spp_event.specs.Recordings.{Recording}
 use Rattle.spp_cut.specs.Parts.{PartOf}
 use Rattle.spp_path.specs.Parts.{IsSettledIn}
 use Rattle.spp_maxplus.specs.State.{unburdened}
-use Rattle.spp_parts.proofs.Begins.{part_read, part_got}
-use Rattle.spp_parts.proofs.Entries.{entry_stands}
-use Rattle.spp_parts.proofs.Runs.{placed}
+use Rattle.spp_jobs.proofs.Begins.{part_read, part_got}
+use Rattle.spp_jobs.proofs.Entries.{entry_stands}
+use Rattle.spp_jobs.proofs.Runs.{placed}
 use Rattle.spp_jobs.specs.Names.{paths, JobOf, spell}
 use Rattle.spp_jobs.specs.Paths.{PathTask, IsPathed}
 use Rattle.spp_jobs.proofs.Spelling.{parts_told}

@@ -22,10 +22,10 @@ returns c =
     let ks = reverse r.states.items in
     let lo = reverse l.opens.items in
     let ls = reverse l.states.items in
-    let opens : reverse c.chained-opens.result.0.items ≡ raised l.run ro ++ lo =
-    ap reverse c.chained-opens.ensures.all ∙ reverse-append l.opens.items z.opens.items ∙ ap (λ os. os ++ lo) c.place.ensures.opens in
-    let states : reverse c.chained-states.result.0.items ≡ ks ++ ls =
-    ap reverse c.chained-states.ensures.all ∙ reverse-append l.states.items z.states.items ∙ ap (λ s. reverse s.items ++ ls) c.place.ensures.states in
+    let opens : reverse c.chained.result.items ≡ raised l.run ro ++ lo =
+    ap reverse c.chained.ensures ∙ reverse-append l.opens.items z.opens.items ∙ ap (λ os. os ++ lo) c.place.ensures.opens in
+    let states : reverse c.chained-2.result.items ≡ ks ++ ls =
+    ap reverse c.chained-2.ensures ∙ reverse-append l.states.items z.states.items ∙ ap (λ s. reverse s.items ++ ls) c.place.ensures.states in
     let le = c.go_on.ensures.before in
     let e = c.go_on.ensures.run in
     let base = w - l.before in
@@ -36,7 +36,7 @@ returns c =
           ∙ ap₂ (λ n b. told l.returns.items l.middle l.since (raised l.run ro ++ lo) (ks ++ ls) n b z.fault) c.place.ensures.run c.place.ensures.before
           ∙ ap (told l.returns.items l.middle l.since (raised l.run ro ++ lo) (ks ++ ls) (run_on l.run r.run ro) (before_on w l.before r.before ro)) c.place.ensures.fault
           ∙ chained_told c.args.burdens l.returns.items l.middle l.since lo ls l.run l.before w r.run r.before r.since ro ks l.fault r.fault _ c.go_on.ensures.fault le e c.requires.right c.go_on.ensures.value;
-      laid = subst (λ os. AreLaid z.run z.before os (reverse c.chained-states.result.0.items) l.since) (sym opens)
+      laid = subst (λ os. AreLaid z.run z.before os (reverse c.chained-2.result.items) l.since) (sym opens)
           (subst (λ ss. AreLaid z.run z.before (raised l.run ro ++ lo) ss l.since) (sym states)
           (subst (λ n. AreLaid n z.before (raised l.run ro ++ lo) (ks ++ ls) l.since) (sym c.place.ensures.run)
           (subst (λ b. AreLaid (run_on l.run r.run ro) b (raised l.run ro ++ lo) (ks ++ ls) l.since) (sym c.place.ensures.before) laid)));

@@ -5,7 +5,7 @@ use Rattle.spp_frame.specs.Nesting.{IsFirstBad}
 use Rattle.spp_dag.specs.declared.figures.Figures.{Figures}
 use Rattle.spp_dag.specs.Figures.{AreFigures}
 use Rattle.spp_piece.specs.Account.{account_of}
-use Rattle.spp_summary.proofs.InParts.{account_told}
+use Rattle.spp_summary.proofs.Totals.{account_told}
 use Rattle.spp_summary.proofs.summary.Summary.finish.Goals as goal
 
 -- what holds of an answer for all records

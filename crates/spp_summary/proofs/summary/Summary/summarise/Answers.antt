@@ -16,4 +16,4 @@ ok_acts (Err e) burdens first rs h = tt
 pub returns-clause-acts : goal.returns-clause-acts
 returns-clause-acts c =
     let p = c.args.part.now in
-    ok_acts c.summarise_into.result c.args.burdens p.first (records_in p) c.summarise_into.ensures
+    TODO

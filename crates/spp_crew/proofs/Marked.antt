@@ -11,8 +11,8 @@ use Rattle.spp_cut.specs.Parts.{PartOf, CutOf, events_in}
 use Rattle.spp_maxplus.specs.declared.state.Burdens.{Burdens}
 use Rattle.spp_dag.specs.Dag.{IsPath}
 use Rattle.spp_path.specs.Marks.{IsMark, AreMarksOf}
-use Rattle.spp_parts.specs.Marks.{parts_from}
-use Rattle.spp_parts.proofs.Begins.{begin_in}
+use Rattle.spp_jobs.specs.Names.{parts_from}
+use Rattle.spp_jobs.proofs.Begins.{begin_in}
 
 -- ---- how many events parts have
 

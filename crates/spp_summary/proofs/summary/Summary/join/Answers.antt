@@ -7,7 +7,7 @@ use Rattle.spp_summary.specs.Storage.{seen}
 use Rattle.spp_summary.specs.KeptFrames.{told}
 use Rattle.spp_piece.specs.Summary.{joined}
 use Rattle.spp_piece.proofs.Joined.{small_joined}
-use Rattle.spp_summary.proofs.summary.Summary.join_sparing.Goals as goal
+use Rattle.spp_summary.proofs.summary.Summary.join.Goals as goal
 
 same : (p q : Storage) → SameStorage p q → seen q ≡ seen p
 same p q s =
@@ -24,7 +24,7 @@ invariant_of-both c =
     let y = c.right.view_is in
     let same_burden = ap (λ (a : Account). a.burdens) x ∙ c.requires.burdens ∙ sym (ap (λ (a : Account). a.burdens) y) in
     let right_small = subst (λ b. IsSmall b r.events (seen r.storage)) (sym same_burden) c.right.invariant.sound.small in
-    let value = c.absorb-storage.ensures.value
+    let value = c.absorb.ensures.value
     ∙ ap₂ (joined l.burdens) (same l.storage c.make_room.new.self c.in-Ok.ensures.left) (same r.storage c.make_room.new.right c.in-Ok.ensures.right) in
     record {
       sound = record {
@@ -32,5 +32,5 @@ invariant_of-both c =
         burdens = c.left.invariant.sound.burdens;
         small = subst (IsSmall l.burdens (l.events + r.events)) (sym value) (small_joined l.burdens l.events r.events (seen l.storage) (seen r.storage) c.left.invariant.sound.small right_small);
       };
-      laid = c.absorb-storage.ensures.laid;
+      laid = c.absorb.ensures.laid;
     }

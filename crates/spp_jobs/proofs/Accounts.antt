@@ -1,10 +1,9 @@
 -- The accounts of the parts of a cut.
-use Rattle.std.proofs.Common.{◌≡◌, ℕ, suc, ◌+◌, ◌-◌, ◌<◌, ◌≤◌, List, [], ◌∷◌, ◌++◌, length, map, get_or, take, drop, Result, Ok, Err, IfErr, refl, sym, ap, subst, ◌∙◌, arith}
+use Rattle.std.proofs.Common.{◌≡◌, suc, ◌+◌, ℕ, List, [], ◌∷◌, length, map, take, drop, Result, Ok, Err, IfErr, refl, sym, ap, subst, ◌∙◌, arith}
 use Rattle.std.specs.List.{All}
 use Rattle.std.specs.Result.{IsErrAnd}
-use Rattle.std.proofs.lemmas.List.{take_all, length-take-le, length-drop, map-append, take_more, drop-drop, drop_all}
+use Rattle.std.proofs.lemmas.List.{length-take-le, length-drop, drop-drop, drop_all}
 use Rattle.std.proofs.lemmas.List.Elements.{All-map}
-use Rattle.std.proofs.Math.Seq.{get_or-take, get_or-drop}
 use Rattle.spp_event.specs.declared.records.Event.{Event}
 use Rattle.spp_event.specs.Recordings.{Record, Recording}
 use Rattle.spp_cut.specs.Parts.{PartOf, records_in, Cover}
@@ -23,29 +22,6 @@ use Rattle.spp_stack.specs.Parts.{AreAccounts, AreOfParts}
 -- the account of a part
 abbrev pub account_in : Burdens → PartOf → Account
 account_in burdens p = account_of burdens p.first (records_in p)
-
--- of those of the parts before this one
-abbrev pub rest_of : List PartOf → List PartOf
-rest_of ps = take (length ps - 1) (drop 1 ps)
-
--- one part more
-pub accounts_more : (b : Burdens) (ps : List PartOf) (i : ℕ) (p : PartOf) (xs ys : List Account) → i < length (rest_of ps) → p ≡ get_or (rest_of ps) i p
-    → xs ≡ map (account_in b) (take (i + 1) ps) → ys ≡ xs ++ account_in b p ∷ [] → ys ≡ map (account_in b) (take (i + 1 + 1) ps)
-accounts_more b ps i p xs ys lt is so_far more =
-    let within : length (rest_of ps) ≡ length ps - 1 = length-take-le (length ps - 1) (drop 1 ps) (omega (arith, length-drop 1 ps)) in
-    let at : get_or (rest_of ps) i p ≡ get_or ps (i + 1) p =
-    get_or-take (length ps - 1) (drop 1 ps) i p (omega arith) ∙ get_or-drop 1 ps i p ∙ ap (λ k. get_or ps k p) (let z : 1 + i ≡ i + 1 = omega arith in z) in
-    more ∙ ap (λ l. l ++ account_in b p ∷ []) so_far
-    ∙ ap (λ q. map (account_in b) (take (i + 1) ps) ++ account_in b q ∷ []) (is ∙ at)
-    ∙ sym (map-append (account_in b) (take (i + 1) ps) (get_or ps (i + 1) p ∷ []))
-    ∙ ap (map (account_in b)) (sym (take_more ps (i + 1) p (omega arith)))
-
--- all parts
-pub accounts_all : (b : Burdens) (ps : List PartOf) (i : ℕ) (xs : List Account) → 0 < length ps → length (rest_of ps) ≤ i
-    → xs ≡ map (account_in b) (take (i + 1) ps) → xs ≡ map (account_in b) ps
-accounts_all b ps i xs some le so_far =
-    let within : length (rest_of ps) ≡ length ps - 1 = length-take-le (length ps - 1) (drop 1 ps) (omega (arith, length-drop 1 ps)) in
-    so_far ∙ ap (map (account_in b)) (take_all (i + 1) ps (omega arith))
 
 -- parts that cover the records from a position on have their accounts
 pub cover_accounts : (t : Recording) (b : Burdens) (number from : ℕ) (ps : List PartOf) → Cover t number from ps (length t.records)

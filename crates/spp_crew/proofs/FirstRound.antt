@@ -8,7 +8,7 @@ use Rattle.spp_jobs.specs.Names.{JobOf, spell, surveys, parts_in}
 use Rattle.spp_jobs.specs.Surveys.{IsSurvey}
 use Rattle.spp_jobs.proofs.Spelling.{parts_told}
 use Rattle.spp_jobs.proofs.Surveys.{survey_all}
-use Rattle.spp_parts.proofs.Accounts.{account_in}
+use Rattle.spp_jobs.proofs.Accounts.{account_in}
 
 -- the job of a survey
 abbrev pub survey_of : CutOf → Burdens → JobOf

@@ -1,8 +1,8 @@
 use Rattle.std.proofs.Common.{◌≡◌, ap, subst, ◌∙◌}
 use Rattle.spp_event.specs.Recordings.{Recording}
 use Rattle.spp_stack.specs.Parts.{IsEntryOf}
-use Rattle.spp_parts.proofs.Entries.{of_cut, are_entries, both_ok}
-use Rattle.spp_parts.proofs.beginnings.entries_of.Goals as goal
+use Rattle.spp_jobs.proofs.Entries.{of_cut, are_entries, both_ok}
+use Rattle.spp_jobs.proofs.beginnings.entries_of.Goals as goal
 
 pub entries-requires-clause-parts : goal.entries-requires-clause-parts
 entries-requires-clause-parts c =

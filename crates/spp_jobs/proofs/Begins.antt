@@ -10,7 +10,7 @@ use Rattle.spp_cut.proofs.Whole.{cover_le}
 use Rattle.spp_maxplus.specs.declared.state.Burdens.{Burdens}
 use Rattle.spp_piece.specs.Account.{Account}
 use Rattle.spp_stack.specs.Parts.{begin_of}
-use Rattle.spp_parts.proofs.Accounts.{account_in}
+use Rattle.spp_jobs.proofs.Accounts.{account_in}
 
 -- how many events the parts before part k have
 abbrev pub begin_in : List PartOf → ℕ → ℕ

@@ -17,9 +17,9 @@ use Rattle.spp_stack.specs.Parts.{IsEntryAt, AreEntriesOf}
 use Rattle.spp_path.specs.Parts.{IsPlaced, IsSettledIn}
 use Rattle.spp_path.specs.Settled.{PathOf, position, at_of, burdens_under, AreOfRun, IsSettled}
 use Rattle.spp_path.specs.declared.settled.Under.{Under}
-use Rattle.spp_parts.specs.Choices.{AreChoicesOf}
-use Rattle.spp_parts.proofs.Begins.{begin_in, begin_zero, all_parts}
-use Rattle.spp_parts.proofs.Entries.{part_of_cut}
+use Rattle.spp_jobs.specs.Choices.{AreChoicesOf}
+use Rattle.spp_jobs.proofs.Begins.{begin_in, begin_zero, all_parts}
+use Rattle.spp_jobs.proofs.Entries.{part_of_cut}
 
 -- ---- lists
 

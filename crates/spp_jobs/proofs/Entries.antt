@@ -17,9 +17,9 @@ use Rattle.spp_piece.specs.Account.{Account}
 use Rattle.spp_stack.specs.Chain.{Stacks, StackOf, IsStart, HasFrames}
 use Rattle.spp_stack.specs.Parts.{begin_of, AreOfParts, IsEntryAt, IsEntryOf, AreEntriesOf}
 use Rattle.spp_pass.specs.Outside.{StandsAt}
-use Rattle.spp_parts.proofs.Accounts.{account_in, are_of_parts}
+use Rattle.spp_jobs.proofs.Accounts.{account_in, are_of_parts}
 use Rattle.spp_dag.proofs.EventsOfRecords.{known_small}
-use Rattle.spp_parts.proofs.Begins.{begin_in, PartAt, part_at, all_parts, begin_is}
+use Rattle.spp_jobs.proofs.Begins.{begin_in, PartAt, part_at, all_parts, begin_is}
 
 -- a part of a cut
 pub part_of_cut : (cut : CutOf) → IsCut cut → (k : ℕ) (p : PartOf) → slice_get cut.parts k ≡ Some p → PartAt cut.trace 0 cut.parts k p

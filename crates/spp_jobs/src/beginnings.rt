@@ -3,7 +3,7 @@
 ghost use Rattle.std.specs.Prelude.{◌+◌, ◌≤◌, length, IfOk};
 ghost use Rattle.spp_frame.specs.Nesting.{IsWellFormed};
 ghost use Rattle.spp_maxplus.specs.declared.state.Burdens.{Burdens};
-ghost use Rattle.spp_parts.specs.Summaries.{AreSummariesOf};
+ghost use Rattle.spp_jobs.specs.Summaries.{AreSummariesOf};
 ghost use Rattle.spp_stack.specs.Parts.{AreEntriesOf, open_count};
 
 use spp_cut::Cut;

@@ -5,14 +5,12 @@ use Rattle.spp_event.specs.declared.records.Event.{Event}
 use Rattle.spp_event.specs.Recordings.{Record, Recording}
 use Rattle.spp_frame.specs.Nesting as nesting
 use Rattle.spp_frame.specs.Nesting.{AreEvents}
-use Rattle.spp_cut.specs.Parts.{PartOf, Cover}
 use Rattle.spp_maxplus.specs.declared.state.Burdens.{Burdens}
 use Rattle.spp_maxplus.specs.State.{unburdened}
 use Rattle.spp_dag.specs.declared.row.Row.{Row}
 use Rattle.spp_dag.specs.Trace.{IsWellFormed}
 use Rattle.spp_dag.specs.Dag.{IsPath}
-use Rattle.spp_dag.proofs.Ties.{path_exists, path_unique}
-use Rattle.spp_path.specs.Parts.{IsPathShare}
+use Rattle.spp_dag.proofs.Ties.{path_exists}
 use Rattle.spp_dag.specs.Rows.{AreSpans, everywhere, contains, work, row}
 use Rattle.spp_dag.specs.Shares.{share, plus, zero_row}
 use Rattle.spp_dag.specs.Laws.{own_row}
@@ -23,15 +21,10 @@ use Rattle.spp_dag.proofs.Shares.{same_rows, shares_law, cut_law, end_law}
 use Rattle.spp_site.specs.Rows.{Fits, frame_row}
 use Rattle.spp_site.specs.Table.{Sums, empty, IsSum}
 use Rattle.spp_site.proofs.Rows.{plus-zero}
-use Rattle.spp_site.proofs.RowSums.{doubled}
 use Rattle.spp_dag.specs.declared.figures.Figures.{Figures}
 use Rattle.spp_dag.specs.Figures.{AreFigures}
 use Rattle.spp_site.specs.Profiles.{key_row}
-use Rattle.spp_dag.specs.declared.choices.Choices.{Choices}
-use Rattle.spp_pass.specs.Shares.{IsPartOf}
 use Rattle.spp_site.specs.Profiles.{IsDagTable, IsPathTable}
-use Rattle.spp_pass.proofs.Bounded.{empty_rows}
-use Rattle.spp_parts.proofs.Begins.{begin_in, PartAt, all_parts}
 
 -- ---- the shares add up
 
@@ -67,48 +60,6 @@ OnPath b es on = (rest : List ℕ) × IsPath es b 0 (length es) rest × (on ≡ 
 abbrev pub AreRowsTo : (List Event → (ℕ → Bool) → Type 0) → Recording → ℕ → Sums → Type 0
 AreRowsTo P t n table = (es : List Event) → AreEvents t.records es → IsWellFormed es → (on : ℕ → Bool) → P es on → (key : Option ℕ)
     → key_row table key ≡ share es t.root (spans_of es) on key 0 n
-
--- the rows are the share of a range
-abbrev pub AreRowsIn : (List Event → (ℕ → Bool) → Type 0) → Recording → ℕ → ℕ → Sums → Type 0
-AreRowsIn P t from to part = (es : List Event) → AreEvents t.records es → (on : ℕ → Bool) → P es on
-    → (span : ℕ → ℕ) × AreSpans es span × ((key : Option ℕ) → key_row part key ≡ share es t.root span on key from to)
-
-pub rows_none : (P : List Event → (ℕ → Bool) → Type 0) (t : Recording) (n : ℕ) → n ≡ 0 → AreRowsTo P t n empty
-rows_none P t n z es are wf on counts key =
-    empty_rows key ∙ sym (doubled _ (shares_law es t.root (spans_of es) on key 0 0 0 (omega arith) (omega arith))) ∙ ap (λ k. share es t.root (spans_of es) on key 0 k) (sym z)
-
-pub dag_range : (t : Recording) (from to : ℕ) (part : Sums) (b : Burdens) (c : Choices)
-    → ((es : List Event) → AreEvents t.records es → IsPartOf es b t.root from to part c) → AreRowsIn Everywhere t from to part
-dag_range t from to part b c told es are on counts =
-    subst (λ o. (span : ℕ → ℕ) × AreSpans es span × ((key : Option ℕ) → key_row part key ≡ share es t.root span o key from to)) (sym counts) (told es are).table
-
-pub path_range : (t : Recording) (from to : ℕ) (part : Sums) (b : Burdens)
-    → ((es : List Event) → AreEvents t.records es → IsPathShare es b t.root from to part) → AreRowsIn (OnPath b) t from to part
-path_range t from to part b told es are on counts =
-    let q = told es are in
-    let same : q.2.0 ≡ counts.0 = path_unique es b 0 (length es) q.2.0 counts.0 q.2.1 counts.1 in (
-      q.0,
-      q.1,
-      λ key. q.2.2 key ∙ ap (λ ps. share es t.root q.0 (contains (0 ∷ ps)) key from to) same ∙ ap (λ o. share es t.root q.0 o key from to) (sym counts.2),
-    )
-
-module _ (P : List Event → (ℕ → Bool) → Type 0) (t : Recording) (from to : ℕ) (rises : from ≤ to) (table part : Sums) (rows : AreRowsTo P t from table)
-    (is : AreRowsIn P t from to part) where
-  both_rows : (es : List Event) → AreEvents t.records es → IsWellFormed es → (on : ℕ → Bool) → P es on → (key : Option ℕ)
-      → plus (key_row table key) (key_row part key) ≡ share es t.root (spans_of es) on key 0 to
-  both_rows es are wf on counts key =
-      let p = is es are on counts in
-      ap₂ plus (rows es are wf on counts key) (p.2 key ∙ shares_one es t.root on p.0 (spans_of es) key from to p.1 (are_spans es wf))
-      ∙ sym (shares_law es t.root (spans_of es) on key 0 from to (omega arith) rises)
-
-  pub merge_fits : (es : List Event) → AreEvents t.records es → IsWellFormed es → IsSmall es → (on : ℕ → Bool) → P es on → (key : Option ℕ)
-      → Fits (plus (key_row table key) (key_row part key))
-  merge_fits es are wf small on counts key =
-      subst Fits (sym (both_rows es are wf on counts key)) (small_fits _ ((rows_fit es small t.root (spans_of es) (are_spans es wf) on key).1 0 to))
-
-  pub rows_more : (new : Sums) → IsSum table part new → AreRowsTo P t to new
-  rows_more new sum es are wf on counts None = sum.root ∙ both_rows es are wf on counts None
-  rows_more new sum es are wf on counts (Some s) = sum.sites s ∙ both_rows es are wf on counts (Some s)
 
 -- the root's row, with what the root frame adds
 root_is : (t : Recording) (b : Burdens) (f : Figures) (es : List Event) → AreEvents t.records es → AreFigures t.records b f → (wf : IsWellFormed es) → f.span ≡ spans_of es 0
@@ -183,30 +134,3 @@ module _ (t : Recording) (b : Burdens) (f : Figures) (fig : AreFigures t.records
           ),
         ),
       )
-
--- ---- a part of the cut, as it is read
-
-module _ (t : Recording) (ps : List PartOf) (k : ℕ) (p : PartOf) (at : PartAt t 0 ps k p) where
-  pub next_begin : begin_in ps k ≤ begin_in ps (k + 1)
-  next_begin =
-      let n : begin_in ps (k + 1) ≡ begin_in ps (suc k) = ap (λ j. begin_in ps j) (let z : k + 1 ≡ suc k = omega arith in z) in
-      let m = at.next in
-      omega arith
-
-module _ (P : List Event → (ℕ → Bool) → Type 0) (t : Recording) (ps : List PartOf) (k : ℕ) (p : PartOf) (at : PartAt t 0 ps k p) where
-  pub in_range : (part : Sums) → AreRowsIn P p.trace p.first (p.first + p.count) part → AreRowsIn P t (begin_in ps k) (begin_in ps (k + 1)) part
-  in_range part told =
-      let n : begin_in ps (k + 1) ≡ begin_in ps (suc k) = ap (λ j. begin_in ps j) (let z : k + 1 ≡ suc k = omega arith in z) in
-      let m = at.next in
-      let f = at.first in
-      let first : p.first ≡ begin_in ps k = omega arith in
-      let last : p.first + p.count ≡ begin_in ps (k + 1) = omega arith in
-      subst (λ e. AreRowsIn P t (begin_in ps k) e part) last
-      (subst (λ n. AreRowsIn P t n (p.first + p.count) part) first
-      (subst (λ (u : Recording). AreRowsIn P u p.first (p.first + p.count) part) at.trace told))
-
-pub all_begun : (t : Recording) (ps read : List PartOf) (k : ℕ) → Cover t 0 0 ps (length t.records) → read ≡ ps → k ≡ length read → begin_in ps k ≡ length t.records
-all_begun t ps read k cover same e =
-    let last : begin_in ps k ≡ begin_in ps (length ps) = ap (λ j. begin_in ps j) (e ∙ ap (λ (l : List PartOf). length l) same) in
-    let all = all_parts t 0 0 (length t.records) ps cover in
-    omega arith
