@@ -1,14 +1,12 @@
 -- What the rounds of tables and of paths tell of a cut trace.
-use Rattle.std.proofs.Common.{◌≡◌, ℕ, Bool, List, ◌∷◌, length, take, Option, Result, Ok, Err, IfOk, refl, sym, ap, subst, ◌∙◌}
+use Rattle.std.proofs.Common.{◌≡◌, List, ◌∷◌, length, Result, Ok, Err, IfOk, refl, sym, ap, subst, ◌∙◌}
 use Rattle.std.proofs.Math.Seq.{take-length}
 use Rattle.spp_event.specs.declared.records.Event.{Event}
-use Rattle.spp_event.specs.Recordings.{Recording}
 use Rattle.spp_frame.specs.Nesting.{AreEvents}
 use Rattle.spp_cut.specs.Parts.{PartOf, CutOf, IsCut, HasFewParts, events_in}
 use Rattle.spp_cut.proofs.Halves.{all_events}
 use Rattle.spp_maxplus.specs.declared.state.Burdens.{Burdens}
 use Rattle.spp_maxplus.specs.State.{unburdened}
-use Rattle.spp_dag.specs.Dag.{IsPath}
 use Rattle.spp_dag.specs.Rows.{everywhere, contains}
 use Rattle.spp_dag.specs.Shares.{share}
 use Rattle.spp_dag.proofs.EventsOfRecords.{same_events}

@@ -1,5 +1,5 @@
 -- The values of the tables of paths, joined.
-use Rattle.std.proofs.Common.{◌≡◌, ℕ, ◌+◌, ◌<◌, ◌≤◌, Bool, List, ◌∷◌, length, get_or, Option, refl, sym, ap, subst, ◌∙◌, arith}
+use Rattle.std.proofs.Common.{◌≡◌, ℕ, ◌+◌, ◌<◌, ◌≤◌, Bool, List, ◌∷◌, length, get_or, Option, refl, sym, ap, subst, ◌∙◌}
 use Rattle.spp_event.specs.declared.records.Event.{Event}
 use Rattle.spp_event.specs.Recordings.{Recording}
 use Rattle.spp_frame.specs.Nesting.{AreEvents}
@@ -7,7 +7,7 @@ use Rattle.spp_cut.specs.Parts.{PartOf, CutOf, IsCut, HasFewParts}
 use Rattle.spp_maxplus.specs.declared.state.Burdens.{Burdens}
 use Rattle.spp_maxplus.specs.State.{unburdened}
 use Rattle.spp_dag.specs.Dag.{IsPath}
-use Rattle.spp_dag.specs.Rows.{AreSpans, contains}
+use Rattle.spp_dag.specs.Rows.{contains}
 use Rattle.spp_dag.specs.Shares.{share, plus}
 use Rattle.spp_dag.proofs.Ties.{path_exists, path_unique}
 use Rattle.spp_site.specs.Rows.{Fits}

@@ -5,7 +5,7 @@ use Rattle.spp_dag.specs.declared.row.Row.{Row}
 use Rattle.spp_dag.specs.Trace.{IsWellFormed}
 use Rattle.spp_dag.specs.Limits.{IsSmall}
 use Rattle.spp_dag.specs.Rows.{AreSpans}
-use Rattle.spp_dag.specs.Shares.{share, plus, zero_row}
+use Rattle.spp_dag.specs.Shares.{share, plus}
 use Rattle.spp_dag.proofs.Bounds.{rows_fit}
 use Rattle.spp_dag.proofs.Profiles.{shares_one, spans_of, are_spans}
 use Rattle.spp_dag.proofs.Shares.{same_rows, shares_law}

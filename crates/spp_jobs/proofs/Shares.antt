@@ -1,5 +1,5 @@
 -- The shares of the parts of a cut make the rows of the dag, and those of a path.
-use Rattle.std.proofs.Common.{◌≡◌, ℕ, suc, ◌+◌, ◌≤◌, Bool, true, cond, List, [], ◌∷◌, length, Option, Some, None, Ok, refl, sym, ap, ap₂, subst, ◌∙◌, arith}
+use Rattle.std.proofs.Common.{◌≡◌, ℕ, suc, Bool, true, cond, List, [], ◌∷◌, length, Option, Some, None, Ok, refl, sym, ap, ap₂, subst, ◌∙◌, arith}
 use Rattle.std.proofs.lemmas.List.{length-map}
 use Rattle.spp_event.specs.declared.records.Event.{Event}
 use Rattle.spp_event.specs.Recordings.{Record, Recording}
@@ -11,15 +11,15 @@ use Rattle.spp_dag.specs.declared.row.Row.{Row}
 use Rattle.spp_dag.specs.Trace.{IsWellFormed}
 use Rattle.spp_dag.specs.Dag.{IsPath}
 use Rattle.spp_dag.proofs.Ties.{path_exists}
-use Rattle.spp_dag.specs.Rows.{AreSpans, everywhere, contains, work, row}
+use Rattle.spp_dag.specs.Rows.{everywhere, contains, work, row}
 use Rattle.spp_dag.specs.Shares.{share, plus, zero_row}
 use Rattle.spp_dag.specs.Laws.{own_row}
 use Rattle.spp_dag.specs.Limits.{IsSmall, IsSmallRow}
 use Rattle.spp_dag.proofs.Bounds.{rows_fit}
-use Rattle.spp_dag.proofs.Profiles.{shares_one, greatest_one, spans_of, are_spans, root_work}
-use Rattle.spp_dag.proofs.Shares.{same_rows, shares_law, cut_law, end_law}
+use Rattle.spp_dag.proofs.Profiles.{greatest_one, spans_of, are_spans, root_work}
+use Rattle.spp_dag.proofs.Shares.{same_rows, cut_law, end_law}
 use Rattle.spp_site.specs.Rows.{Fits, frame_row}
-use Rattle.spp_site.specs.Table.{Sums, empty, IsSum}
+use Rattle.spp_site.specs.Table.{Sums}
 use Rattle.spp_site.proofs.Rows.{plus-zero}
 use Rattle.spp_dag.specs.declared.figures.Figures.{Figures}
 use Rattle.spp_dag.specs.Figures.{AreFigures}

@@ -1,5 +1,5 @@
 -- The values of tables, joined.
-use Rattle.std.proofs.Common.{◌≡◌, ℕ, ◌+◌, ◌-◌, ◌<◌, ◌≤◌, Bool, List, [], ◌∷◌, ◌++◌, length, get_or, take, drop, Option, Some, None, refl, sym, ap, ap₂, subst, ◌∙◌, arith}
+use Rattle.std.proofs.Common.{◌≡◌, ℕ, ◌+◌, ◌<◌, ◌≤◌, List, [], ◌∷◌, ◌++◌, length, get_or, Option, refl, sym, ap, subst, ◌∙◌, arith}
 use Rattle.spp_event.specs.declared.records.Event.{Event}
 use Rattle.spp_event.specs.Recordings.{Recording, InLimits, AreEventsOf}
 use Rattle.spp_frame.specs.Nesting.{AreEvents}
@@ -13,7 +13,7 @@ use Rattle.spp_dag.specs.Shares.{plus}
 use Rattle.spp_dag.specs.Trace.{IsWellFormed}
 use Rattle.spp_dag.proofs.EventsOfRecords.{same_events, known_small}
 use Rattle.spp_site.specs.Rows.{Fits}
-use Rattle.spp_site.specs.Table.{Sums, row_at, empty, IsSum}
+use Rattle.spp_site.specs.Table.{Sums, empty, IsSum}
 use Rattle.spp_site.specs.Profiles.{key_row}
 use Rattle.spp_pass.specs.Shares.{IsShare, IsPartOf}
 use Rattle.spp_jobs.specs.Choices.{AreChoicesOf}
@@ -22,7 +22,7 @@ use Rattle.spp_jobs.specs.declared.tabled.Tabled.{Tabled}
 use Rattle.spp_jobs.specs.Names.{tables, JobOf, spell, parts_in, parts_from, IsNamed}
 use Rattle.spp_jobs.specs.Tables.{AreSame, IsRun, begin, IsTabledOf, IsTabled}
 use Rattle.spp_jobs.proofs.Spelling.{same_job}
-use Rattle.spp_jobs.proofs.Cuts.{ranges_join, range_one, range_all, events_to, begins}
+use Rattle.spp_jobs.proofs.Cuts.{ranges_join, range_one, events_to, begins}
 use Rattle.spp_jobs.proofs.Rows.{AreRows, rows_of, range_of, one_fits, one_rows, two_fit, two_rows}
 
 -- ---- where parts begin

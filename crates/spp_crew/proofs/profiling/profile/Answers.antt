@@ -1,7 +1,5 @@
-use Rattle.std.proofs.Common.{◌≡◌, ℕ, ◌∷◌, None, length, List, refl, sym, ap, subst, ◌∙◌}
-use Rattle.spp_event.specs.declared.records.Event.{Event}
+use Rattle.std.proofs.Common.{ℕ, ◌∷◌, length, List, refl, sym, ap, subst, ◌∙◌}
 use Rattle.spp_event.specs.Recordings.{Recording}
-use Rattle.spp_frame.specs.Nesting.{AreEvents}
 use Rattle.spp_maxplus.specs.declared.state.Burdens.{Burdens}
 use Rattle.spp_maxplus.specs.State.{unburdened}
 use Rattle.spp_dag.specs.declared.choices.Choices.{Choices}
@@ -13,7 +11,7 @@ use Rattle.spp_site.specs.Table.{Sums}
 use Rattle.spp_site.specs.Profiles.{IsDagTable, IsPathTable}
 use Rattle.spp_site.proofs.WholeProfile.{whole}
 use Rattle.spp_jobs.specs.Choices.{AreChoicesOf}
-use Rattle.spp_jobs.proofs.Shares.{Everywhere, OnPath, with_root, root_fits, path_of, dag_is, path_is}
+use Rattle.spp_jobs.proofs.Shares.{Everywhere, OnPath, root_fits, path_of, dag_is, path_is}
 use Rattle.spp_crew.proofs.Profiled.{table_of, path_of_job, dag_rows, path_rows, burdened_rows, all_choices}
 use Rattle.spp_crew.proofs.profiling.profile.Goals as goal
 

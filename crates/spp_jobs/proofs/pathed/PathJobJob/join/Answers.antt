@@ -1,5 +1,4 @@
-use Rattle.std.proofs.Common.{refl, sym, ap, subst, ◌∙◌}
-use Rattle.spp_dag.specs.Shares.{plus}
+use Rattle.std.proofs.Common.{refl, ap, subst}
 use Rattle.spp_site.specs.Rows.{Fits}
 use Rattle.spp_site.specs.Profiles.{key_row}
 use Rattle.spp_jobs.specs.declared.pathed.Pathed.{Pathed}

@@ -1,4 +1,4 @@
-use Rattle.std.proofs.Common.{◌<◌, get_or, refl, sym, subst, ap, ap₂, ◌∙◌}
+use Rattle.std.proofs.Common.{◌<◌, get_or, sym, subst, ap, ap₂, ◌∙◌}
 use Rattle.spp_jobs.specs.Names.{paths, JobOf, spell, parts_in, range_in}
 use Rattle.spp_jobs.specs.Paths.{PathTask}
 use Rattle.spp_jobs.proofs.Spelling.{range_is}

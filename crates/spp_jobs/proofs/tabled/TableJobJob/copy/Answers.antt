@@ -1,4 +1,4 @@
-use Rattle.std.proofs.Common.{◌≡◌, List, [], ◌++◌, sym, subst, ◌∙◌}
+use Rattle.std.proofs.Common.{List, [], ◌++◌, sym, subst}
 use Rattle.spp_dag.specs.declared.choices.Choices.{Choices}
 use Rattle.spp_jobs.specs.Tables.{AreSame}
 use Rattle.spp_jobs.proofs.Tables.{tabled_again}

@@ -1,6 +1,5 @@
-use Rattle.std.proofs.Common.{List, ◌++◌, None, Some, refl, sym, ap, ap₂, subst, ◌∙◌}
+use Rattle.std.proofs.Common.{List, ◌++◌, None, Some, refl, ap₂, ◌∙◌}
 use Rattle.spp_dag.specs.declared.choices.Choices.{Choices}
-use Rattle.spp_site.specs.Table.{IsSum}
 use Rattle.spp_jobs.proofs.Tables.{neighbours_fit, neighbours_tabled, tabled_moved}
 use Rattle.spp_jobs.proofs.tabled.TableJobJob.join.Goals as goal
 

@@ -1,10 +1,10 @@
-use Rattle.std.proofs.Common.{◌≡◌, ℕ, ◌+◌, ◌<◌, List, [], ◌∷◌, ◌++◌, length, get_or, Some, refl, sym, ap, ap₂, subst, ◌∙◌, arith}
-use Rattle.spp_cut.specs.Parts.{PartOf, CutOf}
+use Rattle.std.proofs.Common.{◌≡◌, ◌+◌, ◌<◌, List, [], ◌∷◌, ◌++◌, length, get_or, Some, refl, sym, ap, subst, ◌∙◌, arith}
+use Rattle.spp_cut.specs.Parts.{PartOf}
 use Rattle.spp_dag.specs.declared.choices.Choices.{Choices}
 use Rattle.spp_jobs.proofs.Begins.{part_read, part_got}
 use Rattle.spp_jobs.proofs.Entries.{entry_stands}
-use Rattle.spp_jobs.specs.Names.{tables, JobOf, spell, parts_in, IsNamed}
-use Rattle.spp_jobs.specs.Tables.{TableTask, IsRun, IsTabledOf, IsTabled}
+use Rattle.spp_jobs.specs.Names.{tables, JobOf, spell}
+use Rattle.spp_jobs.specs.Tables.{TableTask, IsTabled}
 use Rattle.spp_jobs.proofs.Spelling.{parts_told}
 use Rattle.spp_jobs.proofs.Tables.{is_run, part_fits, tabled_one}
 use Rattle.spp_jobs.proofs.tabled.TableJobJob.run.Goals as goal
