@@ -72,12 +72,17 @@ report_of() { # TRACE FILE WORDS..: with these words, the program prints just th
 for trace in cilksort fib nqueens; do
     report_of $trace $trace.report profile
     report_of $trace $trace.csv profile --csv
+    report_of $trace $trace.csv profile --csv --parts 100 --workers=64
     for workers in 1 2 64; do
         report_of $trace $trace.report profile --workers $workers
-        report_of $trace $trace.csv profile --csv --parts 100 --workers=$workers
     done
     for parts in 1 7 65536; do
         report_of $trace $trace.report profile --parts=$parts
+    done
+    for parts in 1 7 100 65536; do
+        for workers in 1 2 3; do
+            report_of $trace $trace.csv profile --csv --parts $parts --workers $workers
+        done
     done
 done
 # The sample of README.md.
@@ -95,30 +100,23 @@ for run in loop tree; do
     : > "$folder/out"
     judge "profile of the $run" 0 '' ''
 done
-# And so are the tables by way of parts, and which events are on the two paths (tests/marks, computed by that program too).
-by_parts() { # NAME TOLD_ON_ERR WORDS..: of the input the printer says with these words just what the file `wanted` has
-    local name=$1 err=$2
-    shift 2
-    "$printer" "$@" < "$input" > "$folder/out" 2> "$folder/err"
+# And so is which events are on the path without burdens (tests/marks, computed by that program too).
+marks_of() { # NAME INPUT FILE PARTS WORKERS: the printer prints just the marks that the file has
+    "$printer" marks $4 $5 < "$2" > "$folder/out" 2> "$folder/err"
     status=$?
-    cmp -s "$folder/out" "$folder/wanted" || status=125
+    cmp -s "$folder/out" "$3" || status=125
     : > "$folder/out"
-    judge "$name" 0 '' "$err"
+    judge "marks of $1 in $4 parts by $5 workers" 0 '' ''
 }
 for trace in cilksort fib nqueens; do
-    input=$top/examples/$trace.sptrace
     for parts in 1 7 100 65536; do
-        cp "$top/examples/$trace.csv" "$folder/wanted"
-        by_parts "tables of $trace in $parts parts" 'survey *' parts $parts
-        cat "$top/tests/marks/$trace.path" "$top/tests/marks/$trace.burdened" > "$folder/wanted"
-        by_parts "marks of $trace in $parts parts" '' marks $parts
+        for workers in 1 2 3; do
+            marks_of $trace "$top/examples/$trace.sptrace" "$top/tests/marks/$trace.path" $parts $workers
+        done
     done
 done
-input=$small
-"$spprof" profile --csv "$small" > "$folder/wanted"
-by_parts 'tables of the small trace in 3 parts' 'survey *' parts 3
-printf '1111011\n1111011\n' > "$folder/wanted"
-by_parts 'marks of the small trace in 3 parts' '' marks 3
+printf '1111011\n' > "$folder/marks"
+marks_of 'the small trace' "$small" "$folder/marks" 3 2
 expect 'a table of a part of a record' 1 '' "bad event 1: truncated$lf" <(head -c 60 "$small") profile
 printf 'func main\n' | "$spprof" encode > "$folder/empty"
 for parts in 1 16 65536; do
@@ -197,14 +195,15 @@ judge 'tables of a million nested calls' 0 "name,*${lf}(root),1,0,1,5,5,1,5,5,1,
 timeout 30 "$spprof" profile --csv "$folder/wide" > "$folder/out" 2> "$folder/err"
 status=$?
 judge 'tables of a million children' 0 "name,*${lf}(root),1,0,1,5000000,5,1,5000000,5,1,0,1,5000000,5,1,5000000,5,1,0,1,5000000,5,1,5000000,5${lf}A,1000000,5000000,1000000,5000000,5000000,1000000,5000000,5000000,1,5,1,5,5,1,5,5,1,5,1,5,5,1,5,5$lf" ''
-# By way of 65,536 parts too, without a list of all open frames for each: both paths, and their marks.
-(ulimit -v 500000 && timeout 30 "$printer" parts 65536 < "$folder/nested" > "$folder/out" 2> "$folder/err")
+# By way of 65,536 parts too, without a list of all open frames for each: the tables, and the marks of the path.
+(ulimit -v 700000 && timeout 60 "$spprof" profile --csv --parts 65536 --workers 3 "$folder/nested" > "$folder/out" 2> "$folder/err")
 status=$?
-judge 'tables of a million nested calls in parts' 0 "name,*${lf}(root),1,0,1,5,5,1,5,5,1,0,1,5,5,1,5,5,1,0,1,5,5,1,5,5${lf}A,1000000,5,1,5,5,1,5,5,1000000,5,1,5,5,1,5,5,1000000,5,1,5,5,1,5,5$lf" 'survey *'
-(ulimit -v 500000 && timeout 30 "$printer" marks 65536 < "$folder/nested" 2> "$folder/err" | sort | uniq -c | tr -d ' ' > "$folder/out")
+judge 'tables of a million nested calls in parts' 0 "name,*${lf}(root),1,0,1,5,5,1,5,5,1,0,1,5,5,1,5,5,1,0,1,5,5,1,5,5${lf}A,1000000,5,1,5,5,1,5,5,1000000,5,1,5,5,1,5,5,1000000,5,1,5,5,1,5,5$lf" ''
+(ulimit -v 700000 && timeout 60 "$printer" marks 65536 3 < "$folder/nested" > "$folder/out" 2> "$folder/err")
 status=$?
-ones=$(head -c 2000001 /dev/zero | tr '\0' 1)
-judge 'marks of a million nested calls in parts' 0 "2$ones$lf" ''
+{ head -c 2000001 /dev/zero | tr '\0' 1 && echo; } | cmp -s - "$folder/out" || status=125
+: > "$folder/out"
+judge 'marks of a million nested calls in parts' 0 '' ''
 # The same frames left open, in a trace that ends within them, end as a bad event.
 head -c 1000000 "$folder/nested" > "$folder/open"
 expect 'figures of frames left open' 1 '' "bad event *: truncated$lf" "$folder/open" figures

@@ -1,40 +1,70 @@
-/* A malloc that refuses one request, of malloc, calloc, realloc or aligned_alloc: that of number REFUSE_AT, from 1.
- * At the end of the process it writes how many requests there were to the file REFUSE_COUNT, where that is set.
+/* Refuses one request for memory and one start of a thread: of the requests, by malloc, calloc, realloc or
+ * aligned_alloc, that of number REFUSE_AT, and of the starts, by pthread_create, that of number REFUSE_START, each from
+ * 1. How many there were stands in the file REFUSE_COUNT, where that is set, as two 64-bit numbers, requests and starts.
+ * The file is mapped, so they stand there whatever way the process ends.
  * Build: cc -O2 -shared -fPIC refuse.c -o refuse.so -ldl. Use: LD_PRELOAD=./refuse.so REFUSE_AT=3 PROGRAM. */
 #define _GNU_SOURCE
 #include <dlfcn.h>
 #include <errno.h>
 #include <fcntl.h>
+#include <pthread.h>
 #include <stddef.h>
-#include <stdio.h>
+#include <stdint.h>
 #include <stdlib.h>
+#include <sys/mman.h>
 #include <unistd.h>
 
-static long refuse_at = -1;
-static long seen;
+enum { REQUESTS, STARTS, KINDS };
 
-static int refuses(void) {
-    if (refuse_at < 0) {
-        const char *number = getenv("REFUSE_AT");
-        refuse_at = number ? atol(number) : 0;
-    }
-    return __atomic_add_fetch(&seen, 1, __ATOMIC_SEQ_CST) == refuse_at;
+/* The number that is refused of each kind, and how many there were. */
+static int64_t refused[KINDS];
+static int64_t untold[KINDS];
+static int64_t *seen = untold;
+
+static int refuses(int kind) {
+    return __atomic_add_fetch(&seen[kind], 1, __ATOMIC_SEQ_CST) == refused[kind];
 }
 
-#define REPLACE(result, name, parameters, arguments)                      \
+static int64_t number(const char *name) {
+    const char *text = getenv(name);
+    return text ? atoll(text) : 0;
+}
+
+/* Maps the file of the counts. What ran before this, while there is one thread, goes on in it. */
+__attribute__((constructor)) static void begin(void) {
+    const char *name = getenv("REFUSE_COUNT");
+    refused[REQUESTS] = number("REFUSE_AT");
+    refused[STARTS] = number("REFUSE_START");
+    if (name) {
+        int file = open(name, O_RDWR | O_CREAT | O_TRUNC, 0600);
+        if (file < 0 || ftruncate(file, sizeof untold) != 0) _exit(99);
+        int64_t *shared = mmap(NULL, sizeof untold, PROT_READ | PROT_WRITE, MAP_SHARED, file, 0);
+        if (shared == MAP_FAILED) _exit(99);
+        close(file);
+        shared[REQUESTS] = untold[REQUESTS];
+        seen = shared;
+    }
+}
+
+#define REPLACE(kind, result, refusal, name, parameters, arguments)      \
     result name parameters {                                             \
         static result(*real) parameters;                                 \
         if (!real) real = (result(*) parameters)dlsym(RTLD_NEXT, #name); \
-        if (refuses()) {                                                 \
-            errno = ENOMEM;                                              \
-            return NULL;                                                 \
-        }                                                                \
+        if (refuses(kind)) return refusal;                               \
         return real arguments;                                           \
     }
 
-REPLACE(void *, malloc, (size_t size), (size))
-REPLACE(void *, realloc, (void *block, size_t size), (block, size))
-REPLACE(void *, aligned_alloc, (size_t align, size_t size), (align, size))
+static void *no_memory(void) {
+    errno = ENOMEM;
+    return NULL;
+}
+
+REPLACE(REQUESTS, void *, no_memory(), malloc, (size_t size), (size))
+REPLACE(REQUESTS, void *, no_memory(), realloc, (void *block, size_t size), (block, size))
+REPLACE(REQUESTS, void *, no_memory(), aligned_alloc, (size_t align, size_t size), (align, size))
+REPLACE(STARTS, int, EAGAIN, pthread_create,
+        (pthread_t * thread, const pthread_attr_t *attributes, void *(*run)(void *), void *argument),
+        (thread, attributes, run, argument))
 
 /* dlsym itself may call calloc, and gets its few bytes from here. */
 static char spare[4096];
@@ -54,21 +84,5 @@ void *calloc(size_t count, size_t size) {
         spare_used += whole;
         return spare + spare_used - whole;
     }
-    if (refuses()) {
-        errno = ENOMEM;
-        return NULL;
-    }
-    return real(count, size);
-}
-
-/* Tells the count with system calls alone, which request nothing. */
-__attribute__((destructor)) static void tell(void) {
-    const char *name = getenv("REFUSE_COUNT");
-    char text[32];
-    int size = snprintf(text, sizeof text, "%ld\n", seen);
-    int file = name ? open(name, O_WRONLY | O_CREAT | O_TRUNC, 0600) : -1;
-    if (file >= 0) {
-        if (write(file, text, (size_t)size) != size) _exit(99);
-        close(file);
-    }
+    return refuses(REQUESTS) ? no_memory() : real(count, size);
 }

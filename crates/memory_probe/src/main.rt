@@ -1,12 +1,13 @@
-//! Calls the functions that allocate and that commands stand on, and those of a book, each twice, and prints what they
-//! answer: for the test that refuses one request for memory after the other.
+//! Calls the functions that allocate and that commands stand on, those of a book and those of a crew, each twice, and prints
+//! what they answer: for the test that refuses one request for memory after the other.
 #![tactic(auto)]
 
 ghost use Rattle.std.specs.Prelude.{◌≡◌};
 
 mod book;
+mod crew;
 
-use spp_cut::Parts;
+use crew::Task;
 use spp_dag::Figures;
 use spp_event::{HeaderFault, Trace, open_trace};
 use spp_frame::{ProfileFault, check};
@@ -16,7 +17,6 @@ use spp_report::{Named, csv_text, figures_text, plain_text};
 use spp_serial::profile_serial;
 use spp_shell::{InSource, ReadFault, read_all, read_within};
 use spp_site::{Profile, Table};
-use spp_summary::figures_in_parts;
 use spp_text::{PrintFault, TextFault, TextWhy, parse_text, print_text};
 use std::alloc::{AllocError, Global};
 use std::io;
@@ -184,19 +184,6 @@ fn reported(alloc: Global) -> Result<Answer, Answer> {
     })
 }
 
-/// The figures of the nested trace, by way of a part for each of its two events.
-fn measured_in_parts(alloc: Global) -> Result<Answer, Answer> {
-    let trace = trace_in(alloc, NESTED)?;
-    let parts = Parts::new(2).unwrap_or_default();
-    Ok(
-        match figures_in_parts(alloc, &trace, Burdens::equal(3), parts) {
-            Ok(figures) if figures.burdened == 0 => Answer::Good,
-            Err(ProfileFault::Memory) => Answer::Memory,
-            _ => Answer::Other,
-        },
-    )
-}
-
 fn told(alloc: Global) -> Answer {
     let figures = Figures {
         work: 17,
@@ -253,7 +240,6 @@ fn main(rt: HostRuntime) -> io::Result<()> {
         println!(rt; "print_text: {:?}", first(printed(alloc)))?;
         println!(rt; "parse_text: {:?}", parsed(alloc))?;
         println!(rt; "parse_text, a fault: {:?}", misparsed(alloc))?;
-        println!(rt; "figures_in_parts: {:?}", first(measured_in_parts(alloc)))?;
         println!(rt; "profile_serial: {:?}", first(profiled(alloc)))?;
         println!(rt; "csv_text: {:?}", first(summed(alloc)))?;
         println!(rt; "plain_text: {:?}", first(reported(alloc)))?;
@@ -270,6 +256,18 @@ fn main(rt: HostRuntime) -> io::Result<()> {
         println!(rt; "a book: {:?}", or_memory(book::filled(alloc)))?;
         println!(rt; "steps on a book: {:?}", or_memory(book::stepped(alloc)))?;
         println!(rt; "a desk: {:?}", or_memory(book::shared(&rt, alloc)))?;
+        println!(rt;
+            "figures by workers: {:?}",
+            crew::asked(&rt, alloc, Task::Figures)
+        )?;
+        println!(rt;
+            "profile by workers: {:?}",
+            crew::asked(&rt, alloc, Task::Profile)
+        )?;
+        println!(rt;
+            "marks by workers: {:?}",
+            crew::asked(&rt, alloc, Task::Marks)
+        )?;
     }
     Ok(())
 }

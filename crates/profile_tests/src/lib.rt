@@ -2,15 +2,9 @@
 #![tactic(auto)]
 
 #[cfg(test)]
-mod figures;
-#[cfg(test)]
 mod frame;
 #[cfg(test)]
-mod marks;
-#[cfg(test)]
 mod maxplus;
-#[cfg(test)]
-mod parts;
 #[cfg(test)]
 mod pass;
 #[cfg(test)]
@@ -19,8 +13,6 @@ mod path;
 mod reference;
 #[cfg(test)]
 mod serial;
-#[cfg(test)]
-mod settled;
 #[cfg(test)]
 mod site;
 #[cfg(test)]

@@ -37,12 +37,7 @@ fn rows_of(alloc: Global, events: &[Event]) -> Result<Option<(Row, Row)>, AllocE
 }
 
 /// A row: its count and local count, and for its top frames by site and by caller their number, work and span.
-pub(crate) fn row(
-    count: u64,
-    local: u128,
-    site: (u64, u128, u128),
-    caller: (u64, u128, u128),
-) -> Row {
+fn row(count: u64, local: u128, site: (u64, u128, u128), caller: (u64, u128, u128)) -> Row {
     Row {
         count,
         local,

@@ -69,9 +69,6 @@ pub(crate) const EQUAL: [Event; 7] = [SPAWN, S5, RET, SPAWN, S5, RET, SYNC];
 /// A spawn within a call, beside a spawned child.
 pub(crate) const IN_CALL: [Event; 11] = [SPAWN, S6, RET, CALL, SPAWN, S5, RET, S1, RET, S2, SYNC];
 
-/// A child that is joined within one that weighs less than its continuation.
-pub(crate) const BESIDE: [Event; 8] = [SPAWN, SPAWN, S5, RET, SYNC, RET, S10, SYNC];
-
 /// Well-formed runs.
 pub(crate) const GOOD: &[Good] = &[
     Good {

@@ -1,14 +1,15 @@
 //! A program for tests: prints what the library says of the trace or traces on standard input, where no command of
-//! `spprof` does. Its words tell what: `text`, the trace as text; `parts N`, its tables by way of N even parts;
-//! `marks N`, by way of as many parts which events are on its paths; `reference`, what the reference profiler answers for
-//! each of many traces, with `reference N` also held against N parts.
+//! `spprof` does. Its words tell what: `text`, the trace as text; `marks PARTS WORKERS`, which events are on its path, as
+//! so many workers mark them in so many even parts; `reference`, what the reference profiler answers for each of many
+//! traces, held against the profiler on one thread and against workers, with `reference PARTS` in so many parts too.
 #![tactic(auto)]
 
 mod marks;
-mod parts;
 mod reference;
 mod text;
 
+use spp_cut::Parts;
+use spp_request::Workers;
 use spp_shell::{InSource, read_all};
 use std::env::args;
 use std::io;
@@ -18,23 +19,24 @@ use std::process::ExitCode;
 #[derive(Clone, Copy)]
 enum Task {
     Text,
-    Parts(u32),
-    Marks(u32),
+    Marks { parts: Parts, workers: Workers },
     Reference(Option<u32>),
 }
 
-/// The number behind the task's name, if there is one.
-fn number(words: &[String]) -> Option<u32> {
-    words.get(2)?.parse::<u32>().ok()
+/// The number that is the word at this place, if it is there and is one.
+fn number(words: &[String], at: usize) -> Option<u32> {
+    words.get(at)?.parse::<u32>().ok()
 }
 
 /// What the words ask for.
 fn asked(words: &[String]) -> Option<Task> {
     match words.get(1)?.as_str() {
         "text" => Some(Task::Text),
-        "parts" => Some(Task::Parts(number(words)?)),
-        "marks" => Some(Task::Marks(number(words)?)),
-        "reference" => Some(Task::Reference(number(words))),
+        "marks" => Some(Task::Marks {
+            parts: Parts::new(number(words, 2)?)?,
+            workers: Workers::new(number(words, 3)?)?,
+        }),
+        "reference" => Some(Task::Reference(number(words, 2))),
         _ => None,
     }
 }
@@ -50,8 +52,13 @@ fn main(rt: HostRuntime) -> io::Result<ExitCode> {
     };
     let is_printed = match task {
         Task::Text => text::print(&rt, alloc, bytes.as_slice())?,
-        Task::Parts(parts) => parts::print(&rt, alloc, bytes.as_slice(), parts)?,
-        Task::Marks(parts) => marks::print(&rt, alloc, bytes.as_slice(), parts)?,
+        Task::Marks { parts, workers } => marks::print(
+            &rt,
+            alloc,
+            bytes.as_slice(),
+            parts,
+            workers,
+        )?,
         Task::Reference(parts) => reference::print(&rt, alloc, bytes.as_slice(), parts)?,
     };
     Ok(if is_printed {

@@ -1,18 +1,22 @@
 //! What the reference profiler answers for each of many traces, which stand as text, each ended by a line `---`. For the
 //! test that it gives the numbers of another program, which was written from the definitions alone in another language.
-//! Where the profiler on one thread says anything else, or the tables or marks by way of parts, that is told.
+//! Where the profiler on one thread says anything else, or workers do by way of parts, that is told.
 
+use crate::marks::marked;
+use spp_crew::{OpenGate, figures};
 use spp_cut::{Cut, Parts, cut_even};
 use spp_dag::{Figures, Row};
 use spp_event::{Trace, open_trace};
 use spp_maxplus::Burdens;
-use spp_parts::{marks_in_parts, path_in_parts, table_in_parts};
-use spp_path::Under;
 use spp_reference::{Reference, SiteRows, profile};
+use spp_request::Workers;
 use spp_serial::profile_serial;
+use spp_site::{Profile, Table};
 use spp_text::parse_text;
 use std::alloc::Global;
 use std::io;
+use std::sync::Wait;
+use std::thread::Threads;
 
 /// The burdens of the first answer.
 const EQUAL: Burdens = Burdens {
@@ -33,8 +37,17 @@ fn profiled(alloc: Global, text: &str, burdens: Burdens) -> Option<Reference> {
     profile(alloc, &trace, burdens).ok()
 }
 
+/// The figures that were told.
+fn figures_in(told: &Reference) -> Figures {
+    Figures {
+        work: told.work,
+        span: told.span,
+        burdened: told.burdened_span,
+    }
+}
+
 /// Whether a table of a profiler has the rows that were told, the root's and one for each of so many sites.
-fn has_rows(table: &spp_site::Table, told: &SiteRows, sites: u32) -> bool {
+fn has_rows(table: &Table, told: &SiteRows, sites: u32) -> bool {
     let mut same = table.root_row() == told.root;
     for site in 0..sites {
         let row = told.sites.get(site as usize).copied();
@@ -43,59 +56,71 @@ fn has_rows(table: &spp_site::Table, told: &SiteRows, sites: u32) -> bool {
     same
 }
 
-/// Whether the profiler on one thread has the same figures and the same rows, on the whole dag and on both paths, for
-/// the trace that the text names, with these burdens.
+/// Whether a profile of a trace of so many sites has the figures and rows that were told, on the whole dag and on both
+/// paths.
+fn is_told(profile: &Profile, told: &Reference, sites: u32) -> bool {
+    let same = profile.figures == figures_in(told)
+        && has_rows(&profile.dag, &told.dag_rows, sites)
+        && has_rows(&profile.path, &told.path_rows, sites);
+    same && has_rows(&profile.burdened_path, &told.burdened_path_rows, sites)
+}
+
+/// Whether the profiler on one thread says the same of the trace that the text names, with these burdens.
 fn is_confirmed(alloc: Global, text: &str, told: &Reference, burdens: Burdens) -> Option<bool> {
     let bytes = parse_text(alloc, text).ok()?;
     let trace = open_trace(alloc, bytes.as_slice()).ok()?;
     let serial = profile_serial(alloc, &trace, burdens).ok()?;
-    let figures = Figures {
-        work: told.work,
-        span: told.span,
-        burdened: told.burdened_span,
-    };
-    let same = serial.figures == figures
-        && has_rows(&serial.dag, &told.dag_rows, trace.sites())
-        && has_rows(&serial.path, &told.path_rows, trace.sites());
-    let same_under = has_rows(
-        &serial.burdened_path,
-        &told.burdened_path_rows,
-        trace.sites(),
-    );
-    Some(same && same_under)
+    Some(is_told(&serial, told, trace.sites()))
 }
 
 /// Into how many parts each trace is cut.
 const PARTS: &[u32] = &[1, 7, 100];
 
-/// Whether the marks by way of parts are those that were told.
-fn has_marks(alloc: Global, cut: &Cut<'_, '_>, told: &Reference, burdens: Burdens) -> Option<bool> {
-    let mut marks = vec![in alloc; 2; cut.trace().count() as usize].ok()?;
-    marks_in_parts(alloc, cut, burdens, Under::Zero, &mut marks).ok()?;
-    let mut both = marks.iter().zip(told.marks.iter());
-    Some(marks.len() == told.marks.len() && both.all(|(mark, on)| *mark == u8::from(*on)))
+/// How many workers share so many parts: one has a single part, and three share more.
+fn workers_for(parts: Parts) -> Option<Workers> {
+    Workers::new(if parts.number() == 1 { 1 } else { 3 })
 }
 
-/// Whether so many parts of the trace come to the same rows, on the whole dag and on both paths, and to the same marks.
-fn is_told_by_parts(
+/// Whether the bytes of the marks are those that were told.
+fn are_marks(bytes: &[u8], told: &Reference) -> bool {
+    let mut both = bytes.iter().zip(told.marks.iter());
+    bytes.len() == told.marks.len() && both.all(|(mark, on)| *mark == u8::from(*on))
+}
+
+/// Whether workers come to the same figures, rows and marks.
+fn is_told_by_workers<R: Threads + Wait + Sync>(
+    rt: &R,
+    alloc: Global,
+    cut: &Cut<'_, '_>,
+    told: &Reference,
+    burdens: Burdens,
+    workers: Workers,
+) -> Option<bool> {
+    let sites = cut.trace().sites();
+    let number = workers.number();
+    let whole = figures(rt, alloc, cut, number, burdens, &OpenGate).ok()?;
+    let shared = spp_crew::profile(rt, alloc, cut, number, burdens, &OpenGate).ok()?;
+    let marks = marked(rt, alloc, cut, workers)?;
+    Some(whole == figures_in(told) && is_told(&shared, told, sites) && are_marks(&marks, told))
+}
+
+/// The same where the trace is cut into so many parts.
+fn is_told_by_parts<R: Threads + Wait + Sync>(
+    rt: &R,
     alloc: Global,
     trace: &Trace<'_>,
     told: &Reference,
     burdens: Burdens,
     parts: u32,
 ) -> Option<bool> {
-    let cut = cut_even(alloc, trace, Parts::new(parts)?).ok()?;
-    let table = table_in_parts(alloc, &cut, burdens).ok()?;
-    let path = path_in_parts(alloc, &cut, burdens, Under::Zero).ok()?;
-    let burdened_path = path_in_parts(alloc, &cut, burdens, Under::Burdens).ok()?;
-    let same = has_rows(&table.dag, &told.dag_rows, trace.sites())
-        && has_rows(&path, &told.path_rows, trace.sites());
-    let same_under = has_rows(&burdened_path, &told.burdened_path_rows, trace.sites());
-    Some(same && same_under && has_marks(alloc, &cut, told, burdens)?)
+    let parts = Parts::new(parts)?;
+    let cut = cut_even(alloc, trace, parts).ok()?;
+    is_told_by_workers(rt, alloc, &cut, told, burdens, workers_for(parts)?)
 }
 
 /// The first of these numbers of parts by which the trace that the text names comes to anything else.
-fn differing_parts(
+fn differing_parts<R: Threads + Wait + Sync>(
+    rt: &R,
     alloc: Global,
     text: &str,
     told: &Reference,
@@ -109,7 +134,7 @@ fn differing_parts(
         return numbers.first().copied();
     };
     for parts in numbers {
-        if is_told_by_parts(alloc, &trace, told, burdens, *parts) != Some(true) {
+        if is_told_by_parts(rt, alloc, &trace, told, burdens, *parts) != Some(true) {
             return Some(*parts);
         }
     }
@@ -165,8 +190,8 @@ fn print_profile(rt: &impl Print, one: &Reference, other: &Reference) -> io::Res
 
 /// Prints the answers for the traces of which that is the text, held against so many parts too if that is asked for.
 /// Whether it is text.
-pub(crate) fn print(
-    rt: &impl Print,
+pub(crate) fn print<R: Print + Threads + Wait + Sync>(
+    rt: &R,
     alloc: Global,
     bytes: &[u8],
     parts: Option<u32>,
@@ -186,8 +211,8 @@ pub(crate) fn print(
 }
 
 /// Tells where parts come to anything else than was told.
-fn print_differing(
-    rt: &impl Print,
+fn print_differing<R: Print + Threads + Wait + Sync>(
+    rt: &R,
     alloc: Global,
     text: &str,
     told: &Reference,
@@ -196,7 +221,7 @@ fn print_differing(
 ) -> io::Result<()> {
     let more = parts.as_slice();
     for numbers in [PARTS, more] {
-        if let Some(parts) = differing_parts(alloc, text, told, burdens, numbers) {
+        if let Some(parts) = differing_parts(rt, alloc, text, told, burdens, numbers) {
             println!(rt;
                 "{parts} parts differ under {} and {}",
                 burdens.continuation, burdens.join
@@ -207,7 +232,12 @@ fn print_differing(
 }
 
 /// Prints the answers for the trace that the text names.
-fn print_answers(rt: &impl Print, alloc: Global, text: &str, parts: Option<u32>) -> io::Result<()> {
+fn print_answers<R: Print + Threads + Wait + Sync>(
+    rt: &R,
+    alloc: Global,
+    text: &str,
+    parts: Option<u32>,
+) -> io::Result<()> {
     let (Some(one), Some(other)) = (profiled(alloc, text, EQUAL), profiled(alloc, text, UNEQUAL))
     else {
         return println!(rt; "no profile");
