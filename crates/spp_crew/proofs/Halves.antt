@@ -8,11 +8,11 @@ use Rattle.spp_maxplus.specs.declared.state.Burdens.{Burdens}
 use Rattle.spp_stack.specs.Chain.{Stacks}
 use Rattle.spp_path.specs.Marks.{AreMarksOf}
 use Rattle.spp_path.specs.Settled.{PathOf}
-use Rattle.spp_crew.specs.Marks.{AreMarksFrom, IsSettledOver}
+use Rattle.spp_jobs.specs.Paths.{IsSettledOver}
 use Rattle.spp_jobs.specs.Names.{parts_from}
 use Rattle.spp_jobs.proofs.Cuts.{range_all}
 use Rattle.spp_crew.proofs.Marked.{events_parted, events_to, range_events, marks_two}
-use Rattle.spp_crew.specs.Marks.{CanMark, AreMarked}
+use Rattle.spp_crew.specs.Marks.{CanMark, AreMarked, AreMarksFrom}
 
 pub ok_also : {X E P Q : Type 0} (x : Result X E) → (P → Q) → OnOk x P → OnOk x Q
 ok_also (Ok r) f p = f p

@@ -1,12 +1,12 @@
 -- The value of the job that fills the tables of both paths.
-use Rattle.std.specs.Prelude.{ℕ, List}
+use Rattle.std.specs.Prelude.{◌≡◌, ℕ, List, length}
 use Rattle.spp_cut.specs.Parts.{CutOf}
 use Rattle.spp_maxplus.specs.declared.state.Burdens.{Burdens}
 use Rattle.spp_maxplus.specs.State.{unburdened}
 use Rattle.spp_stack.specs.Chain.{Stacks}
+use Rattle.spp_stack.specs.Parts.{AreEntriesOf}
 use Rattle.spp_path.specs.Parts.{IsPathShare, IsSettledIn}
 use Rattle.spp_path.specs.Settled.{PathOf}
-use Rattle.spp_crew.specs.Marks.{IsSettledOver}
 use Rattle.spp_jobs.specs.Names.{JobOf, IsNamed, paths}
 use Rattle.spp_jobs.specs.Tables.{IsRun, begin}
 use Rattle.spp_jobs.specs.declared.pathed.Pathed.{Pathed}
@@ -23,6 +23,13 @@ abbrev pub IsPathed : List ℕ → ℕ → ℕ → Pathed → Type 0
 IsPathed name i k c = (j : JobOf) × IsNamed paths name j × IsPathedOf j i k c
 
 -- ---- what the job is made of
+
+-- the stacks are those of the cut, and a path was settled over them
+pub record IsSettledOver (cut : CutOf) (s : Stacks) (path : PathOf) : Type 0 where
+  pub entries : (burdens : Burdens) × AreEntriesOf cut burdens s
+  pub stacks : path.stacks ≡ s
+  pub count : length path.starts ≡ length s.starts
+  pub settled : (burdens : Burdens) × IsSettledIn cut.trace burdens path
 
 -- a cut of a run, the stacks where its parts begin, the burdens, and its two paths
 pub record PathTask : Type 0 where

@@ -7,10 +7,9 @@ ghost use Rattle.spp_site.specs.Table.{IsSum};
 ghost use Rattle.spp_site.specs.Profiles.{key_row};
 ghost use Rattle.spp_book.specs.Jobs.{AreNeighbours, IsJoined, IsHandedBack, IsCopied};
 ghost use Rattle.spp_maxplus.specs.State.{unburdened};
-ghost use Rattle.spp_crew.specs.Marks.{IsSettledOver};
 ghost use Rattle.spp_path.specs.Parts.{IsSettledIn};
 ghost use Rattle.spp_jobs.specs.Names.{spell, paths, parts_in, range_in};
-ghost use Rattle.spp_jobs.specs.Paths.{IsPathed};
+ghost use Rattle.spp_jobs.specs.Paths.{IsPathed, IsSettledOver};
 ghost use Rattle.spp_jobs.specs.Tables.{IsRun};
 
 use crate::adding::{summed, table_of};

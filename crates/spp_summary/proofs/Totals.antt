@@ -1,5 +1,5 @@
 -- What the summary of all records of a trace comes to.
-use Rattle.std.proofs.Common.{◌≡◌, List, length, Result, Ok, Err, IfOk, IfErr, sym, ap, subst, ◌∙◌}
+use Rattle.std.proofs.Common.{◌≡◌, List, length, Ok, Err, IfOk, IfErr, sym, ap, subst, ◌∙◌}
 use Rattle.spp_event.specs.Recordings.{Record}
 use Rattle.spp_frame.specs.declared.Fault.{Fault}
 use Rattle.spp_frame.specs.Nesting.{IsFirstBad}

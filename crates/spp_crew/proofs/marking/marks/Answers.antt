@@ -3,7 +3,7 @@ use Rattle.spp_dag.specs.declared.choices.Choices.{Choices}
 use Rattle.spp_maxplus.specs.State.{unburdened}
 use Rattle.spp_jobs.proofs.Runs.{chosen_count, settled_in}
 use Rattle.spp_path.specs.declared.settled.Under.TheVariants.{Zero}
-use Rattle.spp_crew.specs.Marks.{IsSettledOver}
+use Rattle.spp_jobs.specs.Paths.{IsSettledOver}
 use Rattle.spp_crew.proofs.Halves.{all_can}
 use Rattle.spp_crew.proofs.Profiled.{table_of, all_choices}
 use Rattle.spp_crew.proofs.marking.marks.Goals as goal

@@ -16,8 +16,8 @@ same p q s =
     ∙ ap₂ (λ n r. told p.returns.items p.middle n (reverse p.opens.items) (reverse p.states.items) r q.before q.fault) s.since s.run
     ∙ ap₂ (λ b f. told p.returns.items p.middle p.since (reverse p.opens.items) (reverse p.states.items) p.run b f) s.before s.fault
 
-pub invariant_of-both : goal.invariant_of-both
-invariant_of-both c =
+pub invariant_of-result : goal.invariant_of-result
+invariant_of-result c =
     let l = c.left.inside in
     let r = c.right.inside in
     let x = c.left.view_is in
