@@ -11,6 +11,7 @@ pub(crate) type Line = [u128; 8];
 pub(crate) type Lines = [Line; 2];
 
 /// A well-formed run.
+#[derive(Clone, Copy)]
 pub(crate) struct Good<'a> {
     pub(crate) events: &'a [Event],
     /// The burdens under which it has these figures and this burdened path.
