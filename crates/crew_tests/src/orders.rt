@@ -19,6 +19,7 @@ use spp_dag::{Choice, Choices, End, Figures};
 use spp_event::{open_trace, trace_of};
 use spp_frame::ProfileFault;
 use spp_jobs::{PathJob, Pathed, Survey, SurveyJob, TableJob, Tabled};
+use spp_maxplus::Burdens;
 use spp_path::{Under, settle};
 use spp_stack::Entries;
 use spp_summary::Summary;
@@ -172,16 +173,17 @@ fn paths_close(
     cut: &Cut<'_, '_>,
     stacks: &Entries,
     choices: &[Choices],
+    burdens: Burdens,
 ) -> Result<Option<bool>, AllocError>
     requires run { IsRun cut.now }
-    requires entries { AreEntriesOf cut.now THREE stacks.now }
-    requires choices { (es : List EventValue) → AreEvents cut.now.trace.records es → AreChoicesOf es THREE cut.now.parts choices.now }
+    requires entries { AreEntriesOf cut.now burdens stacks.now }
+    requires choices { (es : List EventValue) → AreEvents cut.now.trace.records es → AreChoicesOf es burdens cut.now.parts choices.now }
 {
     // For what they state.
     let _parts = cut.parts();
     let path = settle(alloc, stacks, choices, Under::Zero)?;
     let burdened = settle(alloc, stacks, choices, Under::Burdens)?;
-    let job = PathJob::new(cut, stacks, THREE, &path, &burdened);
+    let job = PathJob::new(cut, stacks, burdens, &path, &burdened);
     Ok(paths_are_right(alloc, &job))
 }
 
@@ -214,7 +216,7 @@ fn job_closes<R: Threads + Wait + Sync>(
         Kind::Paths => {
             let Tabled { choices, .. } = tabled(rt, alloc, cut, &stacks, 2, THREE, &OpenGate)?;
             let choices = choices.into_vec();
-            Ok(paths_close(alloc, cut, &stacks, &choices)?)
+            Ok(paths_close(alloc, cut, &stacks, &choices, THREE)?)
         }
     }
 }
