@@ -1,0 +1,135 @@
+//! The calls that workers answer, and how many answer them.
+
+ghost use Rattle.std.specs.Prelude.{◌<◌, ◌≤◌, IfOk};
+ghost use Rattle.spp_stack.specs.Parts.{AreEntriesOf};
+
+use spp_crew::{Gate, OpenGate, figures, marks, profile, survey};
+use spp_cut::Cut;
+use spp_frame::ProfileFault;
+use spp_jobs::entries_of;
+use spp_maxplus::Burdens;
+use spp_stack::Entries;
+use std::alloc::{AllocError, Global};
+use std::sync::Wait;
+use std::thread::Threads;
+
+/// How many workers answer.
+#[derive(Clone, Copy, Debug)]
+pub(crate) enum Crew {
+    /// The test's own thread alone.
+    One,
+    Two,
+    /// As many as there may be: 64.
+    Most,
+}
+
+impl Crew {
+    pub(crate) fn workers(self) -> u32
+        ensures some { 0 < result }
+        ensures most { result ≤ 64 }
+    {
+        match self {
+            Crew::One => 1,
+            Crew::Two => 2,
+            Crew::Most => 64,
+        }
+    }
+}
+
+/// All crews.
+pub(crate) const CREWS: [Crew; 3] = [Crew::One, Crew::Two, Crew::Most];
+
+/// The crews in which two threads and more work beside each other.
+pub(crate) const THREADED: [Crew; 2] = [Crew::Two, Crew::Most];
+
+/// A burden of 3 on each edge that bears one.
+pub(crate) const THREE: Burdens = Burdens {
+    continuation: 3,
+    join: 3,
+};
+
+/// A call that workers answer.
+#[derive(Clone, Copy, Debug)]
+pub(crate) enum Call {
+    Figures,
+    Profile,
+    Marks,
+}
+
+/// All calls.
+pub(crate) const EVERY_CALL: [Call; 3] = [Call::Figures, Call::Profile, Call::Marks];
+
+impl Call {
+    /// The rounds in which it is answered.
+    pub(crate) fn rounds(self) -> &'static [u8] {
+        match self {
+            Call::Figures => &[1],
+            Call::Profile => &[1, 2, 3],
+            Call::Marks => &[1, 2, 4],
+        }
+    }
+}
+
+/// Has the call answered, with burdens of 3.
+///
+/// # Errors
+///
+/// What the call answers in place of numbers.
+pub(crate) fn ask<R: Threads + Wait + Sync, G: Gate>(
+    rt: &R,
+    alloc: Global,
+    cut: &Cut<'_, '_>,
+    call: Call,
+    crew: Crew,
+    gate: &G,
+) -> Result<(), ProfileFault> {
+    let workers = crew.workers();
+    match call {
+        Call::Figures => {
+            figures(rt, alloc, cut, workers, THREE, gate)?;
+            Ok(())
+        }
+        Call::Profile => {
+            profile(rt, alloc, cut, workers, THREE, gate)?;
+            Ok(())
+        }
+        Call::Marks => {
+            let (told, _bytes) = marks_of(rt, alloc, cut, crew, gate)?;
+            told
+        }
+    }
+}
+
+/// What `marks` answers, and the bytes that it leaves where each was 7.
+///
+/// # Errors
+///
+/// Where no memory was left for the bytes.
+pub(crate) fn marks_of<R: Threads + Wait + Sync, G: Gate>(
+    rt: &R,
+    alloc: Global,
+    cut: &Cut<'_, '_>,
+    crew: Crew,
+    gate: &G,
+) -> Result<(Result<(), ProfileFault>, Vec<u8>), AllocError> {
+    let mut bytes = vec![in alloc; 7; cut.trace().count() as usize]?;
+    let told = marks(rt, alloc, cut, crew.workers(), gate, &mut bytes);
+    Ok((told, bytes))
+}
+
+/// The open frames where the parts of a cut trace begin, and where it ends, with burdens of 3.
+///
+/// # Errors
+///
+/// The first bad event, or want of memory.
+pub(crate) fn stacks_of<R: Threads + Wait + Sync>(
+    rt: &R,
+    alloc: Global,
+    cut: &Cut<'_, '_>,
+    crew: Crew,
+) -> Result<Entries, ProfileFault>
+    ensures { IfOk result (λ stacks. AreEntriesOf cut.now THREE stacks) }
+{
+    let found = survey(rt, alloc, cut, crew.workers(), THREE, &OpenGate)?;
+    Ok(entries_of(alloc, cut, &found.each)?)
+}
