@@ -1,4 +1,4 @@
-use Rattle.std.proofs.Common.{◌≡◌, ◌+◌, length, refl, sym, ap, ◌∙◌}
+use Rattle.std.proofs.Common.{◌+◌, refl, sym, ap, ◌∙◌}
 use Rattle.spp_maxplus.specs.State.{unburdened}
 use Rattle.spp_path.specs.declared.settled.Under.TheVariants as under
 use Rattle.spp_jobs.proofs.Runs.{chosen_count, settled_in}
