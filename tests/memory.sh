@@ -104,7 +104,7 @@ each_refused 'check, a bad header' 1 '' 'bad header: short' "$folder/short" "$sp
 each_refused 'check, a bad event' 1 '' 'bad event 4: tag' "$folder/tag" "$spprof" check
 each_refused 'figures, a recorded trace' 0 'work 136861*' '' "$examples/cilksort.sptrace" "$spprof" figures
 each_refused 'figures, in one part' 0 'work 136861*' '' "$examples/cilksort.sptrace" "$spprof" figures --parts 1
-each_refused 'figures, more parts than events' 0 'work 17*' '' "$examples/small.sptrace" "$spprof" figures --parts 65536
+each_refused 'figures, more parts than events' 0 'work 17*' '' "$examples/small.sptrace" "$spprof" figures --parts 20
 each_refused 'figures, a bad event' 1 '' 'bad event 4: tag' "$folder/tag" "$spprof" figures --burden 3
 each_refused 'figures, a bad event in the second part' 1 '' 'bad event 4: tag' "$folder/tag" "$spprof" figures --parts 2
 each_refused 'profile, a recorded trace' 0 'work 32744*' '' "$examples/nqueens.sptrace" "$spprof" profile
