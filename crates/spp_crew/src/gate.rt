@@ -2,10 +2,9 @@
 
 use std::sync::Wait;
 
-/// Called by each worker after it has drawn a part and before it works on it. A test can hold it there; what is answered
-/// doesn't depend on it.
+/// Called by each worker before it begins a part. A test can hold it there; what is answered doesn't depend on it.
 pub trait Gate: Sync {
-    /// Called before `part` is worked on; `round` is the number of the round, from 1.
+    /// Called before `part` is worked on; `round` is the number of the round, from 1. With `rt` the gate can wait.
     fn before<R: Wait>(&self, rt: &R, round: u8, part: u32);
 }
 

@@ -2,7 +2,8 @@
 //!
 //! A crew of workers goes through the parts of a cut trace in rounds. In each round the workers draw the numbers of the
 //! parts, each once, do the round's job on them, and put what came of it into one book, which joins the pieces in
-//! whatever order they come.
+//! whatever order they come. Rounds 1 to 3 go so. The marking of events, round 4, has no book: each worker is given
+//! neighbouring parts and the bytes of their events.
 #![tactic(auto)]
 
 mod gate;

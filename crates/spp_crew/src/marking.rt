@@ -143,14 +143,14 @@ fn mark_halves<R: Threads + Wait + Sync, G: Gate>(
 /// marked.
 ///
 /// Each event is read three times: for the summaries, for the choices, and for the marks, where each worker has a run of
-/// neighbouring parts. The memory is linear in the numbers of parts, of the frames
-/// that are open where parts begin or that parts close and don't open, and of spawned children, besides the frames that
-/// are open at a time in each part that is being marked, and the stacks of the threads.
+/// neighbouring parts. The memory is linear in the numbers of parts, of the frames that are open where parts begin or that
+/// parts close and don't open, and of spawned children, in the most frames that are open at a time within a part, and, for
+/// each worker, in the numbers of sites and of functions; a thread has a stack of its own besides.
 ///
 /// # Errors
 ///
 /// The first bad event, and then the bytes are as they were; or `Memory` where a growth was refused, and then they may be
-/// any. A thread that can't be started is no error: its share is left to the others.
+/// any. A thread that can't be started is no error: the thread that was to start it does its share.
 pub fn marks<R: Threads + Wait + Sync, G: Gate>(
     rt: &R,
     alloc: Global,

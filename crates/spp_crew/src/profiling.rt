@@ -69,7 +69,7 @@ pub fn tabled<R: Threads + Wait + Sync, G: Gate>(
     requires entries { AreEntriesOf cut.now burdens stacks.now }
     ensures { IfOk result (λ t. IsTabledOf (record { kind = tables; cut = cut.now; burdens = burdens }) 0 (length cut.now.parts) t) }
 {
-    // For what they state.
+    // Called for its contract alone: the parts hold all events.
     let _parts = cut.parts();
     let job = TableJob::new(cut, stacks, burdens);
     run_round(rt, alloc, &job, workers, TABLES, gate)
@@ -98,7 +98,7 @@ fn pathed<R: Threads + Wait + Sync, G: Gate>(
     requires choices { (es : List EventValue) → AreEvents cut.now.trace.records es → AreChoicesOf es burdens cut.now.parts choices.now }
     ensures { IfOk result (λ t. IsPathedOf (record { kind = paths; cut = cut.now; burdens = burdens }) 0 (length cut.now.parts) t) }
 {
-    // For what they state.
+    // Called for its contract alone: the parts hold all events.
     let _parts = cut.parts();
     let path = settle(alloc, stacks, choices, Under::Zero)?;
     let burdened = settle(alloc, stacks, choices, Under::Burdens)?;
@@ -114,13 +114,14 @@ fn pathed<R: Threads + Wait + Sync, G: Gate>(
 /// Each event is read four times: for the summaries, for the table of the dag, and for that of each path. All workers
 /// together take a time linear in the number of events, besides, for each part, the numbers of sites and of functions. The
 /// joins of what comes of the parts are made one at a time. The memory is linear in the numbers of parts, of the frames that
-/// they leave open or close and don't open, of spawned children, of sites and of functions; a thread has a stack of its own
-/// besides. The work is below 2^92.
+/// they leave open or close and don't open, and of spawned children, in the most frames that are open at a time within a
+/// part, and, for each worker, in the numbers of sites and of functions; a thread has a stack of its own besides. The work
+/// is below 2^92.
 ///
 /// # Errors
 ///
-/// The first bad event, or `Memory` where a growth was refused. A thread that can't be started is no error: its share is
-/// left to the others.
+/// The first bad event, or `Memory` where a growth was refused. A thread that can't be started is no error: the thread
+/// that was to start it does its share.
 pub fn profile<R: Threads + Wait + Sync, G: Gate>(
     rt: &R,
     alloc: Global,
@@ -139,7 +140,7 @@ pub fn profile<R: Threads + Wait + Sync, G: Gate>(
     ensures profile { IfOk result (λ p. IsProfileOf cut.now.trace burdens p) }
     ensures fault { IfErr result (λ f. IsFaultOf cut.now.trace.records f) }
 {
-    // For what it states.
+    // Called for its contract alone: the parts hold all events.
     let _parts = cut.parts();
     let found = survey(rt, alloc, cut, workers, burdens, gate)?;
     let figures = found.whole;

@@ -88,7 +88,7 @@ fn crew<J: Job + Sync, N: Naming + Send + Sync, R: Threads + Wait + Sync, G: Gat
     desk.rejoin(ours, theirs)
 }
 
-/// The round at a desk of its own, which the call names.
+/// Makes a desk that the type `N` names, has the crew work at it, and closes it.
 fn run_named<J: Job + Sync, N: Naming + Send + Sync, R: Threads + Wait + Sync, G: Gate>(
     rt: &R,
     alloc: Global,
@@ -108,6 +108,7 @@ fn run_named<J: Job + Sync, N: Naming + Send + Sync, R: Threads + Wait + Sync, G
 {
     let (desk, pass): (Desk<'_, J, N>, Pass<N>) = Desk::new(alloc, blank, job, workers)?;
     let pass = crew(rt, alloc, &desk, job, pass, round, gate);
+    // A part is missing only where a worker stopped since an allocation failed.
     Desk::close(alloc, desk, pass).map_err(|_| AllocError)
 }
 
@@ -118,7 +119,7 @@ fn run_named<J: Job + Sync, N: Naming + Send + Sync, R: Threads + Wait + Sync, G
 /// # Errors
 ///
 /// Where an allocation failed. A worker that finds no memory stops, and the others go on. A thread that can't be started is
-/// no error: its share is left to the others.
+/// no error: the thread that was to start it does its share.
 pub fn run_round<J: Job + Sync, R: Threads + Wait + Sync, G: Gate>(
     rt: &R,
     alloc: Global,

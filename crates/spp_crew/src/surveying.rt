@@ -58,7 +58,7 @@ pub fn survey<R: Threads + Wait + Sync, G: Gate>(
     ensures parts { IfOk result (λ s. (es : List EventValue) → AreEvents cut.now.trace.records es → AreOfParts es burdens s.each.items) }
     ensures fault { IfErr result (λ f. IsFaultOf cut.now.trace.records f) }
 {
-    // For what they state: the limits, and that the parts hold all events.
+    // Called for their contracts alone: the limits, and that the parts hold all events.
     cut.trace().keeps_limits();
     let _parts = cut.parts();
     let job = SurveyJob::new(cut, burdens);
@@ -76,12 +76,13 @@ pub fn survey<R: Threads + Wait + Sync, G: Gate>(
 ///
 /// Each event is read once. All workers together take a time linear in the number of events, besides the joins of the
 /// summaries, which are made one at a time. The memory is linear in the numbers of parts, of the frames that they leave open
-/// and of those that they close and don't open; a thread has a stack of its own besides.
+/// and of those that they close and don't open, and in the most frames that are open at a time within a part; a thread has
+/// a stack of its own besides.
 ///
 /// # Errors
 ///
-/// The first bad event, or `Memory` where a growth was refused. A thread that can't be started is no error: its share is
-/// left to the others.
+/// The first bad event, or `Memory` where a growth was refused. A thread that can't be started is no error: the thread
+/// that was to start it does its share.
 pub fn figures<R: Threads + Wait + Sync, G: Gate>(
     rt: &R,
     alloc: Global,
