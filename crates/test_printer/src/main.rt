@@ -1,10 +1,11 @@
 //! A program for tests: prints what the library says of the trace or traces on standard input, where no command of
 //! `spprof` does. Its words tell what: `text`, the trace as text; `marks PARTS WORKERS`, which events are on its path, as
-//! so many workers mark them in so many even parts; `reference`, what the reference profiler answers for each of many
+//! so many workers mark them in so many even parts; `orders PARTS`, how long its parts take in three orders; `reference`, what the reference profiler answers for each of many
 //! traces, held against the profiler on one thread and against workers, with `reference PARTS` in so many parts too.
 #![tactic(auto)]
 
 mod marks;
+mod orders;
 mod reference;
 mod text;
 
@@ -20,6 +21,7 @@ use std::process::ExitCode;
 enum Task {
     Text,
     Marks { parts: Parts, workers: Workers },
+    Orders(Parts),
     Reference(Option<u32>),
 }
 
@@ -36,6 +38,7 @@ fn asked(words: &[String]) -> Option<Task> {
             parts: Parts::new(number(words, 2)?)?,
             workers: Workers::new(number(words, 3)?)?,
         }),
+        "orders" => Some(Task::Orders(Parts::new(number(words, 2)?)?)),
         "reference" => Some(Task::Reference(number(words, 2))),
         _ => None,
     }
@@ -59,6 +62,7 @@ fn main(rt: HostRuntime) -> io::Result<ExitCode> {
             parts,
             workers,
         )?,
+        Task::Orders(parts) => orders::print(&rt, alloc, bytes.as_slice(), parts)?,
         Task::Reference(parts) => reference::print(&rt, alloc, bytes.as_slice(), parts)?,
     };
     Ok(if is_printed {
