@@ -196,10 +196,10 @@ timeout 30 "$spprof" profile --csv "$folder/wide" > "$folder/out" 2> "$folder/er
 status=$?
 judge 'tables of a million children' 0 "name,*${lf}(root),1,0,1,5000000,5,1,5000000,5,1,0,1,5000000,5,1,5000000,5,1,0,1,5000000,5,1,5000000,5${lf}A,1000000,5000000,1000000,5000000,5000000,1000000,5000000,5000000,1,5,1,5,5,1,5,5,1,5,1,5,5,1,5,5$lf" ''
 # By way of 65,536 parts too, without a list of all open frames for each: the tables, and the marks of the path.
-(ulimit -v 600000 && timeout 60 "$spprof" profile --csv --parts 65536 --workers 3 "$folder/nested" > "$folder/out" 2> "$folder/err")
+(ulimit -v 700000 && timeout 60 "$spprof" profile --csv --parts 65536 --workers 3 "$folder/nested" > "$folder/out" 2> "$folder/err")
 status=$?
 judge 'tables of a million nested calls in parts' 0 "name,*${lf}(root),1,0,1,5,5,1,5,5,1,0,1,5,5,1,5,5,1,0,1,5,5,1,5,5${lf}A,1000000,5,1,5,5,1,5,5,1000000,5,1,5,5,1,5,5,1000000,5,1,5,5,1,5,5$lf" ''
-(ulimit -v 600000 && timeout 60 "$printer" marks 65536 3 < "$folder/nested" > "$folder/out" 2> "$folder/err")
+(ulimit -v 700000 && timeout 60 "$printer" marks 65536 3 < "$folder/nested" > "$folder/out" 2> "$folder/err")
 status=$?
 { head -c 2000001 /dev/zero | tr '\0' 1 && echo; } | cmp -s - "$folder/out" || status=125
 : > "$folder/out"

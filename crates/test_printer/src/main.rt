@@ -1,7 +1,8 @@
 //! A program for tests: prints what the library says of the trace or traces on standard input, where no command of
 //! `spprof` does. Its words tell what: `text`, the trace as text; `marks PARTS WORKERS`, which events are on its path, as
-//! so many workers mark them in so many even parts; `orders PARTS`, how long its parts take in three orders; `reference`, what the reference profiler answers for each of many
-//! traces, held against the profiler on one thread and against workers, with `reference PARTS` in so many parts too.
+//! so many workers mark them in so many even parts; `orders PARTS`, how long its parts take in three orders; `reference`,
+//! what the reference profiler answers for each of many traces, held against the profiler on one thread and against
+//! workers, with `reference PARTS` in so many parts too.
 #![tactic(auto)]
 
 mod marks;
