@@ -3,7 +3,7 @@
 ghost use Rattle.std.specs.Prelude.{◌<◌, ◌≤◌, IfOk};
 ghost use Rattle.spp_stack.specs.Parts.{AreEntriesOf};
 
-use spp_crew::{Gate, OpenGate, figures, marks, profile, survey};
+use spp_crew::{Gate, OpenGate, Round, figures, marks, profile, survey};
 use spp_cut::Cut;
 use spp_frame::ProfileFault;
 use spp_jobs::entries_of;
@@ -61,11 +61,11 @@ pub(crate) const EVERY_CALL: [Call; 3] = [Call::Figures, Call::Profile, Call::Ma
 
 impl Call {
     /// The rounds in which it is answered.
-    pub(crate) fn rounds(self) -> &'static [u8] {
+    pub(crate) fn rounds(self) -> &'static [Round] {
         match self {
-            Call::Figures => &[1],
-            Call::Profile => &[1, 2, 3],
-            Call::Marks => &[1, 2, 4],
+            Call::Figures => &[Round::Summaries],
+            Call::Profile => &[Round::Summaries, Round::Tables, Round::Paths],
+            Call::Marks => &[Round::Summaries, Round::Tables, Round::Marks],
         }
     }
 }

@@ -1,4 +1,4 @@
-//! How often, and beside which others, the parts of a job are run.
+//! How often, beside which others, and after which calls of the gate the parts of a job are run.
 
 ghost use Rattle.std.specs.Prelude.{◌≡◌, ◌<◌, ◌≤◌, ◌+◌, ℕ, List, IfOk, IfErr, length};
 ghost use Rattle.spp_book.specs.Jobs.{AreNeighbours, IsJoined, IsHandedBack, IsCopied};
@@ -8,19 +8,23 @@ use crate::calls::{CREWS, Crew};
 use crate::gates::LOOKS;
 use book_tests::{ListJob, Listed};
 use spp_book::{Job, JoinRefused};
-use spp_crew::{OpenGate, run_round};
+use spp_crew::{Gate, Round, run_round};
 use std::alloc::{AllocError, Global};
 use std::sync::Wait;
 use std::sync::atomic::{AtomicBool, AtomicU64, Ordering};
 use std::test::Fail;
 use std::thread::{Threads, yield_now};
 
-/// A list of numbers, each a part, that counts how often each is run.
+/// A list of numbers, each a part, that counts how often each is run. It is its own gate.
 #[derive(Drop)]
 struct CountingJob<'a> {
     list: ListJob<'a>,
+    /// How often the gate was called for each part.
+    admitted: Vec<AtomicU64>,
     /// How often each part was begun.
     begun: Vec<AtomicU64>,
+    /// Whether a part was begun before the gate was called for it.
+    early: AtomicBool,
     /// Whether the run of each part goes on only when all parts have begun.
     together: bool,
     /// Whether a run waited in vain.
@@ -44,20 +48,34 @@ impl<'a> CountingJob<'a> {
     {
         Ok(CountingJob {
             list: ListJob::new(numbers),
+            admitted: zeros(alloc, numbers.len())?,
             begun: zeros(alloc, numbers.len())?,
+            early: AtomicBool::new(false),
             together,
             vain: AtomicBool::new(false),
         })
     }
 
-    /// Whether each part was run once, and none waited in vain.
+    /// Whether each part was run once, after the gate was called for it, and none waited in vain.
     fn is_run_once(&self) -> bool {
         let vain = self.vain.load(Ordering::SeqCst);
         !vain
+            && !self.early.load(Ordering::SeqCst)
             && self
                 .begun
                 .iter()
                 .all(|count| count.load(Ordering::SeqCst) == 1)
+    }
+
+    /// Notes that a part begins, and whether the gate was called for it before.
+    fn begin(&self, number: u32) {
+        let at = number as usize;
+        if let (Some(admitted), Some(begun)) = (self.admitted.get(at), self.begun.get(at)) {
+            let before = begun.fetch_add(1, Ordering::SeqCst);
+            if admitted.load(Ordering::SeqCst) <= before {
+                self.early.store(true, Ordering::SeqCst);
+            }
+        }
     }
 
     /// Waits until all parts have begun, or until a run waited in vain.
@@ -73,6 +91,14 @@ impl<'a> CountingJob<'a> {
             yield_now();
         }
         self.vain.store(true, Ordering::SeqCst);
+    }
+}
+
+impl<'a> Gate for CountingJob<'a> {
+    fn before<R: Wait>(&self, _rt: &R, _round: Round, part: u32) {
+        if let Some(admitted) = self.admitted.get(part as usize) {
+            admitted.fetch_add(1, Ordering::SeqCst);
+        }
     }
 }
 
@@ -96,9 +122,7 @@ impl<'a> Job for CountingJob<'a> {
     }
 
     fn run(&self, alloc: Global, number: u32) -> Result<Listed, AllocError> {
-        if let Some(count) = self.begun.get(number as usize) {
-            count.fetch_add(1, Ordering::SeqCst);
-        }
+        self.begin(number);
         if self.together {
             self.wait();
         }
@@ -120,7 +144,7 @@ impl<'a> Job for CountingJob<'a> {
     }
 }
 
-/// Whether a round runs each part once, and gives all numbers in order.
+/// Whether a round runs each part once, after it called the gate, and gives all numbers in order.
 fn round_is_right<R: Threads + Wait + Sync>(
     rt: &R,
     alloc: Global,
@@ -132,7 +156,7 @@ fn round_is_right<R: Threads + Wait + Sync>(
     requires most { length numbers.now ≤ 65536 }
 {
     let job = CountingJob::new(alloc, numbers, together)?;
-    let listed = run_round(rt, alloc, &job, crew.workers(), 1, &OpenGate)?;
+    let listed = run_round(rt, alloc, &job, crew.workers(), Round::Summaries, &job)?;
     Ok(listed.as_slice() == numbers && job.is_run_once())
 }
 

@@ -1,6 +1,6 @@
 //! Gates that note what workers begin, and hold one of them.
 
-use spp_crew::Gate;
+use spp_crew::{Gate, Round};
 use std::alloc::Global;
 use std::sync::atomic::{AtomicBool, Ordering};
 use std::sync::{Mutex, Wait};
@@ -10,7 +10,7 @@ use std::thread::yield_now;
 pub(crate) const LOOKS: u32 = 10_000_000;
 
 /// A part that was begun in a round.
-type Begun = (u8, u32);
+type Begun = (Round, u32);
 
 /// Which worker is held, in each round, and until when.
 #[derive(Clone, Copy)]
@@ -53,7 +53,7 @@ impl TestGate {
     }
 
     /// Whether nobody was held in vain, and in each of these rounds, and in no others, so many parts were begun, each once.
-    pub(crate) fn saw(self, rounds: &[u8], parts: u32) -> bool {
+    pub(crate) fn saw(self, rounds: &[Round], parts: u32) -> bool {
         let TestGate { begun, vain, .. } = self;
         let begun = begun.into_inner();
         let all = rounds.iter().all(|round| are_once(&begun, *round, parts));
@@ -61,12 +61,12 @@ impl TestGate {
     }
 
     /// Notes a part that is begun. One for which no memory is left is missing from what [`TestGate::saw`] tells.
-    fn note<R: Wait>(&self, rt: &R, round: u8, part: u32) {
+    fn note<R: Wait>(&self, rt: &R, round: Round, part: u32) {
         let _ = self.begun.lock(rt).push((round, part));
     }
 
     /// Waits until the parts that are waited for have begun, or until a worker was held in vain.
-    fn wait<R: Wait>(&self, rt: &R, round: u8, hold: Hold) {
+    fn wait<R: Wait>(&self, rt: &R, round: Round, hold: Hold) {
         for _look in 0..LOOKS {
             if have_begun(&self.begun.lock(rt), round, hold) || self.vain.load(Ordering::SeqCst) {
                 return;
@@ -78,7 +78,7 @@ impl TestGate {
 }
 
 impl Gate for TestGate {
-    fn before<R: Wait>(&self, rt: &R, round: u8, part: u32) {
+    fn before<R: Wait>(&self, rt: &R, round: Round, part: u32) {
         self.note(rt, round, part);
         if let Some(hold) = self.hold {
             if hold.part == part {
@@ -89,7 +89,7 @@ impl Gate for TestGate {
 }
 
 /// Whether so many parts were begun once each in this round.
-fn are_once(begun: &[Begun], round: u8, parts: u32) -> bool {
+fn are_once(begun: &[Begun], round: Round, parts: u32) -> bool {
     let mut numbers = 0..parts;
     numbers.all(|part| is_once(begun, (round, part)))
 }
@@ -100,7 +100,7 @@ fn is_once(begun: &[Begun], one: Begun) -> bool {
 }
 
 /// Whether the parts that are waited for have begun in this round.
-fn have_begun(begun: &[Begun], round: u8, hold: Hold) -> bool {
+fn have_begun(begun: &[Begun], round: Round, hold: Hold) -> bool {
     let mut numbers = hold.from..hold.end;
     numbers.all(|part| part == hold.part || begun.contains(&(round, part)))
 }

@@ -14,7 +14,7 @@ pub trait Job {
     /// Its name.
     ghost name: { Self → List ℕ };
 
-    /// How many parts a job of this name has; 0 for a name of no job.
+    /// How many parts a job of this name has. Of a name of no job it may be any number.
     ghost parts_of: { List ℕ → ℕ };
 
     /// The position of the first event of each part, and the number of its events.

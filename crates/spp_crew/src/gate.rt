@@ -2,15 +2,28 @@
 
 use std::sync::Wait;
 
+/// A round of the crew: what its workers do with each part.
+#[derive(Clone, Copy, Debug, PartialEq, Eq)]
+pub enum Round {
+    /// Round 1: the part is summarised.
+    Summaries,
+    /// Round 2: its frames are counted on the whole dag, and its choices noted.
+    Tables,
+    /// Round 3: its frames are counted on both paths.
+    Paths,
+    /// Round 4: its events are marked.
+    Marks,
+}
+
 /// Called by each worker before it begins a part. A test can hold it there; what is answered doesn't depend on it.
 pub trait Gate: Sync {
-    /// Called before `part` is worked on; `round` is the number of the round, from 1. With `rt` the gate can wait.
-    fn before<R: Wait>(&self, rt: &R, round: u8, part: u32);
+    /// Called before `part` is worked on in this round. With `rt` the gate can wait.
+    fn before<R: Wait>(&self, rt: &R, round: Round, part: u32);
 }
 
 /// A gate that holds nobody.
 pub struct OpenGate;
 
 impl Gate for OpenGate {
-    fn before<R: Wait>(&self, _rt: &R, _round: u8, _part: u32) {}
+    fn before<R: Wait>(&self, _rt: &R, _round: Round, _part: u32) {}
 }

@@ -12,7 +12,7 @@ mod profiling;
 mod round;
 mod surveying;
 
-pub use gate::{Gate, OpenGate};
+pub use gate::{Gate, OpenGate, Round};
 pub use marking::marks;
 pub use profiling::{profile, tabled};
 pub use round::run_round;

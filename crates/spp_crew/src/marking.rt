@@ -9,7 +9,7 @@ ghost use Rattle.spp_frame.specs.declared.Fault.{Fault};
 ghost use Rattle.spp_frame.specs.declared.profile_fault.ProfileFault.TheVariants.{Bad};
 ghost use Rattle.spp_maxplus.specs.State.{unburdened};
 
-use crate::gate::Gate;
+use crate::gate::{Gate, Round};
 use crate::profiling::tabled;
 use crate::surveying::survey;
 use spp_cut::{Cut, events_before, lend};
@@ -21,9 +21,6 @@ use spp_stack::Entries;
 use std::alloc::{AllocError, Global};
 use std::sync::Wait;
 use std::thread::{Threads, join_mut};
-
-/// The round in which the events are marked.
-const MARKS: u8 = 4;
 
 /// Marks the events of the parts from number `from` up to, not including, `end`, one part after the other.
 ///
@@ -47,7 +44,7 @@ fn mark_alone<R: Wait, G: Gate>(
 {
     let parts = cut.parts();
     if end - from == 1 {
-        gate.before(rt, MARKS, from as u32);
+        gate.before(rt, Round::Marks, from as u32);
         return mark_part(alloc, &parts[from], stacks.entry(from), settled, marks);
     }
     let half = (end - from) / 2;
@@ -149,8 +146,9 @@ fn mark_halves<R: Threads + Wait + Sync, G: Gate>(
 ///
 /// # Errors
 ///
-/// The first bad event, and then the bytes are as they were; or `Memory` where a growth was refused, and then they may be
-/// any. A thread that can't be started is no error: the thread that was to start it does its share.
+/// The first bad event, or `Memory` where a growth was refused. Where an event is bad the bytes are as they were; else,
+/// where no memory was left, they may be any. A thread that can't be started is no error: the thread that was to start it
+/// does its share.
 pub fn marks<R: Threads + Wait + Sync, G: Gate>(
     rt: &R,
     alloc: Global,
@@ -166,6 +164,7 @@ pub fn marks<R: Threads + Wait + Sync, G: Gate>(
     ensures marks { OnOk result (AreMarks cut.now.trace unburdened marks.new) }
     ensures fault { IfErr result (λ f. IsFaultOf cut.now.trace.records f) }
     ensures kept { (fault : Fault) → result ≡ Err (Bad fault) → marks.new ≡ marks.old }
+    ensures stays { ¬ (IsWellFormed cut.now.trace.records) → marks.new ≡ marks.old }
 {
     let count = cut.parts().len();
     let burdens = Burdens::equal(0);

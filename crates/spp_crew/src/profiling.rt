@@ -14,7 +14,7 @@ ghost use Rattle.spp_site.specs.Rows.{frame_row};
 ghost use Rattle.spp_site.specs.Profiles.{IsDagTable, IsPathTable, IsProfileOf};
 ghost use Rattle.spp_stack.specs.Parts.{AreEntriesOf};
 
-use crate::gate::Gate;
+use crate::gate::{Gate, Round};
 use crate::round::run_round;
 use crate::surveying::survey;
 use spp_cut::Cut;
@@ -28,12 +28,6 @@ use spp_stack::Entries;
 use std::alloc::{AllocError, Global};
 use std::sync::Wait;
 use std::thread::Threads;
-
-/// The round in which frames are counted on the whole dag, and choices noted.
-const TABLES: u8 = 2;
-
-/// The round in which frames are counted on both paths.
-const PATHS: u8 = 3;
 
 /// What the root frame itself adds to its row, where the run comes to these figures.
 fn root_row(whole: &Figures) -> Row
@@ -72,7 +66,7 @@ pub fn tabled<R: Threads + Wait + Sync, G: Gate>(
     // Called for its contract alone: the parts hold all events.
     let _parts = cut.parts();
     let job = TableJob::new(cut, stacks, burdens);
-    run_round(rt, alloc, &job, workers, TABLES, gate)
+    run_round(rt, alloc, &job, workers, Round::Tables, gate)
 }
 
 /// The rows of all parts on both paths, without what the root frame adds itself, made by so many workers in round 3: both
@@ -103,7 +97,7 @@ fn pathed<R: Threads + Wait + Sync, G: Gate>(
     let path = settle(alloc, stacks, choices, Under::Zero)?;
     let burdened = settle(alloc, stacks, choices, Under::Burdens)?;
     let job = PathJob::new(cut, stacks, burdens, &path, &burdened);
-    run_round(rt, alloc, &job, workers, PATHS, gate)
+    run_round(rt, alloc, &job, workers, Round::Paths, gate)
 }
 
 /// The profile of a run: its figures under these burdens, and its tables on the whole dag, on the first greatest path (the

@@ -4,7 +4,7 @@ ghost use Rattle.std.specs.Prelude.{◌≡◌, ◌<◌, ◌≤◌, IfOk};
 ghost use Rattle.std.specs.Thread.{IsSync};
 ghost use Rattle.spp_book.specs.Desks.{IsOf, IsOpen};
 
-use crate::gate::Gate;
+use crate::gate::{Gate, Round};
 use spp_book::{Desk, Job, Naming, Pass, Piece};
 use std::alloc::{AllocError, Global};
 use std::marker::Brand;
@@ -13,14 +13,15 @@ use std::sync::ledger::Blank;
 use std::thread::{Threads, join};
 
 /// One worker: draws numbers until there are none, and puts what came of each part. It stops where it finds no memory. A put
-/// is not refused, since each number is drawn once; if it were, the worker would stop too.
+/// is not refused, since each number is drawn once; if it were, the worker would stop too. It draws once more than there are
+/// parts at most.
 fn work<J: Job, N: Naming, R: Wait, G: Gate>(
     rt: &R,
     alloc: Global,
     desk: &Desk<'_, J, N>,
     job: &J,
     pass: Pass<N>,
-    round: u8,
+    round: Round,
     gate: &G,
 ) -> Pass<N>
     requires job { J.name job.now ≡ N.job }
@@ -30,7 +31,7 @@ fn work<J: Job, N: Naming, R: Wait, G: Gate>(
     ensures of { IsOf result desk.now }
 {
     let mut pass = pass;
-    for _ in rt.forever() {
+    for _draw in 0..=job.parts() {
         let Some(number) = desk.draw(&mut pass) else {
             return pass;
         };
@@ -49,7 +50,7 @@ fn work<J: Job, N: Naming, R: Wait, G: Gate>(
             return pass;
         }
     }
-    unreachable!()
+    pass
 }
 
 /// Works alone where the pass stands for one worker. Else it splits the pass, and has one half of the workers on a new
@@ -60,7 +61,7 @@ fn crew<J: Job + Sync, N: Naming + Send + Sync, R: Threads + Wait + Sync, G: Gat
     desk: &Desk<'_, J, N>,
     job: &J,
     pass: Pass<N>,
-    round: u8,
+    round: Round,
     gate: &G,
 ) -> Pass<N>
     requires job { J.name job.now ≡ N.job }
@@ -95,7 +96,7 @@ fn run_named<J: Job + Sync, N: Naming + Send + Sync, R: Threads + Wait + Sync, G
     blank: Blank,
     job: &J,
     workers: u32,
-    round: u8,
+    round: Round,
     gate: &G,
 ) -> Result<J::Content, AllocError>
     requires name { blank.name ≡ N.name }
@@ -125,7 +126,7 @@ pub fn run_round<J: Job + Sync, R: Threads + Wait + Sync, G: Gate>(
     alloc: Global,
     job: &J,
     workers: u32,
-    round: u8,
+    round: Round,
     gate: &G,
 ) -> Result<J::Content, AllocError>
     requires some { 0 < workers }

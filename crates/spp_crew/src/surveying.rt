@@ -9,7 +9,7 @@ ghost use Rattle.spp_frame.specs.Nesting.{AreEvents};
 ghost use Rattle.spp_jobs.specs.Summaries.{AreSummariesOf};
 ghost use Rattle.spp_stack.specs.Parts.{AreOfParts};
 
-use crate::gate::Gate;
+use crate::gate::{Gate, Round};
 use crate::round::run_round;
 use spp_cut::Cut;
 use spp_dag::Figures;
@@ -20,9 +20,6 @@ use spp_summary::Summary;
 use std::alloc::Global;
 use std::sync::Wait;
 use std::thread::Threads;
-
-/// The round in which the survey is made.
-const SURVEY: u8 = 1;
 
 /// What the summaries of all parts of a trace tell.
 #[derive(Drop)]
@@ -62,7 +59,7 @@ pub fn survey<R: Threads + Wait + Sync, G: Gate>(
     cut.trace().keeps_limits();
     let _parts = cut.parts();
     let job = SurveyJob::new(cut, burdens);
-    let Survey { each, whole } = run_round(rt, alloc, &job, workers, SURVEY, gate)?;
+    let Survey { each, whole } = run_round(rt, alloc, &job, workers, Round::Summaries, gate)?;
     let whole = whole.finish()?;
     Ok(Surveyed {
         each: each.into_vec(),

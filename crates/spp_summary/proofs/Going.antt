@@ -26,14 +26,14 @@ module _ (burdens : Burdens) where
   abbrev o : Ops Sum
   o = summary_ops burdens
 
-  -- what is done to the innermost frame doesn't depend on the work
-  with-along_parts : (rs : List Unmatched) (m : Segs) (fs : List Frame) (w n : ℕ) (q : Option (ℕ × EventFault)) (g : Segs) → q ≡ None → with_work n (along_by fs g (sum rs m fs w q)) ≡ o.along g (with_work n (sum rs m fs w q))
-  with-along_parts rs m [] w n None g e = refl
-  with-along_parts rs m (f ∷ fs) w n None g e = refl
-  with-along_parts rs m fs w n (Some p) g e = absurd (cc)
+  -- what is done to the innermost frame depends neither on the work nor on the returns
+  before-along_parts : (rs qs : List Unmatched) (m : Segs) (fs : List Frame) (w n : ℕ) (q : Option (ℕ × EventFault)) (g : Segs) → q ≡ None → with_work n (record (along_by fs g (sum rs m fs w q)) { returns = qs }) ≡ o.along g (with_work n (sum qs m fs w q))
+  before-along_parts rs qs m [] w n None g e = refl
+  before-along_parts rs qs m (f ∷ fs) w n None g e = refl
+  before-along_parts rs qs m fs w n (Some p) g e = absurd (cc)
 
-  pub with-along : (s : Sum) (n : ℕ) (g : Segs) → s.fault ≡ None → with_work n (along_by s.frames g s) ≡ o.along g (with_work n s)
-  with-along s n g e = with-along_parts s.returns s.middle s.frames s.work n s.fault g e
+  pub before-along : (s : Sum) (qs : List Unmatched) (n : ℕ) (g : Segs) → s.fault ≡ None → with_work n (record (along_by s.frames g s) { returns = qs }) ≡ o.along g (with_work n (record s { returns = qs }))
+  before-along s qs n g e = before-along_parts s.returns qs s.middle s.frames s.work n s.fault g e
 
   pub along-twice : (a b : Segs) (s : Sum) → o.along b (o.along a s) ≡ o.along (then a b) s
   along-twice a b s = sym ((summary_laws burdens).then a b s)

@@ -7,6 +7,7 @@ use Rattle.spp_piece.specs.Bound.{load_frames}
 use Rattle.spp_maxplus.specs.declared.state.Burdens.{Burdens}
 use Rattle.spp_piece.specs.Summary.{Sum, summary_ops, play_returns}
 use Rattle.spp_summary.specs.KeptFrames.{frames_of, AreLaid}
+use Rattle.spp_summary.specs.Returns.{HasReturnRoom}
 use Rattle.spp_summary.specs.declared.storage.Storage.{Storage}
 
 -- the later one's frames, the innermost first, whose outermost is opened where that work has run
@@ -45,10 +46,9 @@ pub record SameStorage (p q : Storage) : Type 0 where
 abbrev pub left_of : Storage → Storage → ℕ
 left_of p q = deque_len p.opens - length q.returns.items
 
--- room for the join in that one of the two which has more frames
+-- room for the join: in that one of the two which has more frames, and in that one which has more returns
 pub record HasRoom (p q : Storage) : Type 0 where
-  pub returns : length p.returns.items + (length q.returns.items - deque_len p.opens) ≤ p.returns.room
-  pub kept : deque_len p.opens < length q.returns.items → p.returns.kept + 1 + q.returns.kept ≤ p.returns.kept_room
+  pub returns : HasReturnRoom (deque_len p.opens) p.returns q.returns
   pub one : deque_len p.states < deque_capacity p.states
   pub left_opens : deque_len q.opens ≤ left_of p q → left_of p q + deque_len q.opens ≤ deque_capacity p.opens
   pub left_states : deque_len q.opens ≤ left_of p q → deque_len p.states + 1 + deque_len q.states ≤ deque_capacity p.states

@@ -1,5 +1,5 @@
 -- Unmatched returns as they are kept.
-use Rattle.std.specs.Prelude.{ℕ, ◌+◌, List, [], ◌∷◌, Option, Some, None}
+use Rattle.std.specs.Prelude.{ℕ, ◌+◌, ◌-◌, ◌<◌, ◌≤◌, List, [], ◌∷◌, length, Option, Some, None}
 use Rattle.spp_piece.specs.declared.states.ClosingWeights.{ClosingWeights}
 use Rattle.spp_summary.specs.declared.returns.Close.{Close}
 use Rattle.spp_summary.specs.declared.returns.Close.TheVariants.{Strand, Kept}
@@ -32,14 +32,18 @@ pub record Returned : Type 0 where
   pub room : ℕ
   pub kept_room : ℕ
 
--- those that are left to read, and how many of them are kept in full
-pub record Left : Type 0 where
-  pub items : List Unmatched
-  pub kept : ℕ
+-- room to chain the one and those of the other that are left once so many frames have closed, of which the first may have
+-- to be kept in full: in that one of the two which then has more
+pub record HasReturnRoom (frames : ℕ) (p q : Returned) : Type 0 where
+  pub first : frames < length q.items → q.kept < q.kept_room
+  pub room : frames < length q.items → length q.items - frames ≤ length p.items → length p.items + (length q.items - frames) ≤ p.room
+  pub kept : frames < length q.items → length q.items - frames ≤ length p.items → p.kept + (q.kept + 1) ≤ p.kept_room
+  pub later_room : length p.items < length q.items - frames → length p.items + (length q.items - frames) ≤ q.room
+  pub later_kept : length p.items < length q.items - frames → p.kept + (q.kept + 1) ≤ q.kept_room
 
 abbrev pub unmatched_of : Return → Unmatched
 unmatched_of (return.Strand run at) = return_of (strand run) at
-unmatched_of (return.Kept segs at) = return_of segs.now at
+unmatched_of (return.Kept segs at) = return_of segs at
 
 -- the events of which more is known, if any, and then those
 abbrev pub pending_of : Option Segs → ClosingWeights → Segs

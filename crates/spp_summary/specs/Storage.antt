@@ -1,13 +1,18 @@
 -- A summary as it is kept.
-use Rattle.std.specs.Prelude.{ℕ, ◌+◌, ◌∷◌, reverse}
+use Rattle.std.specs.Prelude.{ℕ, ◌+◌, List, ◌∷◌, ◌++◌, reverse}
 use Rattle.spp_summary.specs.declared.opens.Open.{Open}
 use Rattle.spp_summary.specs.declared.storage.Storage.{Storage}
+use Rattle.spp_piece.specs.declared.pieces.Unmatched.{Unmatched}
 use Rattle.spp_piece.specs.Summary.{Sum}
 use Rattle.spp_piece.specs.Bound.{cost, load_frames}
 use Rattle.spp_summary.specs.KeptFrames.{told, AreLaid}
 
 abbrev pub seen : Storage → Sum
 seen p = told p.returns.items p.middle p.since (reverse p.opens.items) (reverse p.states.items) p.run p.before p.fault
+
+-- with those returns behind its own
+abbrev pub seen_before : List Unmatched → Storage → Sum
+seen_before rs p = record (seen p) { returns = p.returns.items ++ rs }
 
 -- with one frame more, the innermost
 abbrev pub seen_with : Open → Storage → Sum

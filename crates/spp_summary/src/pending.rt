@@ -74,7 +74,7 @@ impl Pending {
 
     /// The events before a return are done as well.
     #[inline(always)]
-    pub(crate) fn follow(&mut self, next: &Return<'_>)
+    pub(crate) fn follow(&mut self, next: &Return)
         requires { cost self.old + cost (unmatched_of next.now).segs < 2 ^ 127 }
         ensures { self.new ≡ both_then self.old (unmatched_of next.now).segs }
     {
@@ -85,7 +85,7 @@ impl Pending {
                 self.added.burdened += run;
             }
             Return::Kept { segs, .. } => {
-                self.first = Some(self.segs().then(**segs));
+                self.first = Some(self.segs().then(*segs));
                 self.added = nothing();
             }
         }

@@ -1,12 +1,12 @@
 //! Unmatched returns as they are kept.
 ghost use Rattle.std.specs.Prelude.{◌≡◌, ◌+◌, ◌-◌, ◌<◌, ◌≤◌, ◌^◌, [], ◌∷◌, ◌++◌, length, None, IfOk, IfSome, OnOk};
 ghost use Rattle.spp_piece.specs.Pair.{strand as both_strand};
-ghost use Rattle.spp_summary.specs.Returns.{return_of, unmatched_of};
-ghost use Rattle.spp_summary.specs.declared.returns.Close.TheVariants.{Strand as AsStrand};
+ghost use Rattle.spp_summary.specs.Returns.{return_of, unmatched_of, HasReturnRoom};
 
-use smallvec::SmallVec;
+use crate::lists::{chained, copied};
 use spp_piece::{Segs, Unmatched};
 use std::alloc::{AllocError, Global};
+use std::collections::VecDeque;
 use std::marker::Model;
 
 /// An unmatched return, as it is kept.
@@ -27,18 +27,9 @@ pub(crate) enum Close {
     },
 }
 
-impl Default for Close {
-    /// What fills an unused place: a return at position 0, after a strand of no instructions.
-    fn default() -> Close
-        ensures { result ≡ AsStrand 0 0 }
-    {
-        Close::Strand { run: 0, at: 0 }
-    }
-}
-
 /// One of them, with what has happened to its frame.
 #[derive(Clone, Copy)]
-pub(crate) enum Return<'a> {
+pub(crate) enum Return {
     /// A strand alone, or what is like one, whose instructions fit into 64 bits.
     Strand {
         /// The instructions of the strand.
@@ -49,32 +40,32 @@ pub(crate) enum Return<'a> {
     /// More than that, or a longer strand.
     Kept {
         /// What the events do to the frame.
-        segs: &'a Segs,
+        segs: Segs,
         /// The position of the return.
         at: u32,
     },
 }
 
 /// Unmatched returns, in order. Before most of them a strand alone happens to the frame, whose instructions fit into 64
-/// bits; what happens before the others is kept in full. Up to four returns, of which one at most is kept in full, take
-/// no memory.
+/// bits; what happens before the others is kept in full. Both ends of the list are open, so that joins cost by the shorter
+/// side.
 ///
 /// Contracts see the returns, how many of them are kept in full, and for how many of either there is room.
 #[derive(Drop)]
 pub(crate) struct Returns {
-    closes: SmallVec<Close, 4>,
+    closes: VecDeque<Close>,
     /// What happens to the frames of those that are kept in full, in the same order.
-    segs: SmallVec<Segs, 1>,
+    segs: VecDeque<Segs>,
 }
 
 impl Model for Returns {
     ghost use Rattle.std.specs.Prelude.{◌≡◌, length};
-    ghost use Rattle.smallvec.specs.SmallVec.{small_vec_len};
+    ghost use Rattle.std.specs.VecDeque.{deque_len, deque_capacity};
     ghost use Rattle.spp_summary.specs.Returns.{Returned, returns_of, kept_count};
 
     ghost Value = { Returned };
 
-    ghost view = { λ r. record { items = returns_of r.closes.items r.segs.items; kept = small_vec_len r.segs; room = r.closes.capacity; kept_room = r.segs.capacity } };
+    ghost view = { λ r. record { items = returns_of r.closes.items r.segs.items; kept = deque_len r.segs; room = deque_capacity r.closes; kept_room = deque_capacity r.segs } };
 
     ghost invariant = { λ r. kept_count r.closes.items ≡ length r.segs.items };
 }
@@ -82,19 +73,24 @@ impl Model for Returns {
 /// Reads them in order. Contracts see those that are left.
 #[derive(Drop)]
 pub(crate) struct ReturnsLeft<'a> {
-    closes: &'a [Close],
-    segs: &'a [Segs],
+    closes: &'a VecDeque<Close>,
+    segs: &'a VecDeque<Segs>,
+    /// How many were read.
+    read: usize,
+    /// How many of those are kept in full.
+    kept: usize,
 }
 
 impl<'a> Model for ReturnsLeft<'a> {
-    ghost use Rattle.std.specs.Prelude.{◌≡◌, length};
-    ghost use Rattle.spp_summary.specs.Returns.{Left, returns_of, kept_count};
+    ghost use Rattle.std.specs.Prelude.{◌≡◌, List, length, drop};
+    ghost use Rattle.spp_piece.specs.declared.pieces.Unmatched.{Unmatched};
+    ghost use Rattle.spp_summary.specs.Returns.{returns_of, kept_count};
 
-    ghost Value = { Left };
+    ghost Value = { List Unmatched };
 
-    ghost view = { λ r. record { items = returns_of r.closes.now r.segs.now; kept = length r.segs.now } };
+    ghost view = { λ r. returns_of (drop r.read r.closes.now.items) (drop r.kept r.segs.now.items) };
 
-    ghost invariant = { λ r. kept_count r.closes.now ≡ length r.segs.now };
+    ghost invariant = { λ r. kept_count (drop r.read r.closes.now.items) ≡ length (drop r.kept r.segs.now.items) };
 }
 
 /// Reads the unmatched returns of a summary, the first one first. Contracts see the returns that are left. It takes a
@@ -110,17 +106,17 @@ impl<'a> Model for ReturnReader<'a> {
 
     ghost Value = { List Unmatched };
 
-    ghost view = { λ r. r.left.items };
+    ghost view = { λ r. r.left };
 }
 
 impl Returns {
-    /// None.
+    /// None. They take no memory.
     pub(crate) fn new(alloc: Global) -> Self
         ensures { result.items ≡ [] }
     {
         Returns {
-            closes: SmallVec::new(alloc),
-            segs: SmallVec::new(alloc),
+            closes: VecDeque::new(alloc),
+            segs: VecDeque::new(alloc),
         }
     }
 
@@ -132,87 +128,130 @@ impl Returns {
         self.closes.len()
     }
 
-    /// How many of them are kept in full.
-    pub(crate) fn kept(&self) -> usize
-        ensures value { result ≡ self.now.kept }
-        ensures fits { result < 2 ^ 63 }
-    {
-        self.segs.as_slice().len()
-    }
-
     /// One more, before which that happens to the frame.
     #[inline(always)]
     pub(crate) fn push(&mut self, segs: &Segs, at: u32) -> Result<(), AllocError>
         ensures { OnOk result (self.new.items ≡ self.old.items ++ return_of segs.now at ∷ []) }
     {
         if let Some(run) = segs.as_strand() {
-            self.closes.push(Close::Strand { run, at })?;
+            self.closes.push_back(Close::Strand { run, at })?;
             return Ok(());
         }
-        self.reserve(1, 1)?;
-        self.push_reserved(segs, at);
+        self.push_kept(segs, at)
+    }
+
+    /// One more, which is kept in full.
+    #[inline(never)]
+    fn push_kept(&mut self, segs: &Segs, at: u32) -> Result<(), AllocError>
+        ensures { OnOk result (self.new.items ≡ self.old.items ++ return_of segs.now at ∷ []) }
+    {
+        self.closes.reserve(1)?;
+        self.segs.push_back(*segs)?;
+        self.closes.push_back_reserved(Close::Kept { at });
         Ok(())
     }
 
-    /// The same where there is room.
-    pub(crate) fn push_reserved(&mut self, segs: &Segs, at: u32)
+    /// One more in front of all, before which that happens to the frame, and for which there is room.
+    #[tactic(auto, using(crate::proofs::Closes::returns_len))]
+    pub(crate) fn push_front_reserved(&mut self, segs: &Segs, at: u32)
         requires room { length self.old.items < self.old.room }
         requires kept { self.old.kept < self.old.kept_room }
-        ensures items { self.new.items ≡ self.old.items ++ return_of segs.now at ∷ [] }
+        ensures items { self.new.items ≡ return_of segs.now at ∷ self.old.items }
         ensures kept { self.new.kept ≤ self.old.kept + 1 }
         ensures room { self.new.room ≡ self.old.room }
         ensures kept_room { self.new.kept_room ≡ self.old.kept_room }
     {
         match segs.as_strand() {
-            Some(run) => self.closes.push_reserved(Close::Strand { run, at }),
+            Some(run) => self.closes.push_front_reserved(Close::Strand { run, at }),
             None => {
-                self.segs.push_reserved(*segs);
-                self.closes.push_reserved(Close::Kept { at });
+                self.segs.push_front_reserved(*segs);
+                self.closes.push_front_reserved(Close::Kept { at });
+            }
+        }
+    }
+
+    /// Takes the first one out.
+    #[tactic(auto, using(crate::proofs::Closes::returns_len))]
+    #[inline(always)]
+    pub(crate) fn pop_front(&mut self) -> Option<Return>
+        ensures some { IfSome result (λ r. self.old.items ≡ unmatched_of r ∷ self.new.items) }
+        ensures none { result ≡ None → self.old.items ≡ [] }
+        ensures last { result ≡ None → self.new.items ≡ [] }
+        ensures kept { self.new.kept ≤ self.old.kept }
+        ensures fits { IfSome result (λ _. length self.new.items < self.new.room) }
+        ensures room { self.new.room ≡ self.old.room }
+        ensures kept_room { self.new.kept_room ≡ self.old.kept_room }
+    {
+        match self.closes.pop_front()? {
+            Close::Strand { run, at } => Some(Return::Strand { run, at }),
+            Close::Kept { at } => {
+                let segs = self.segs.pop_front()?;
+                Some(Return::Kept { segs, at })
             }
         }
     }
 
     /// Takes room for so many more, and for so many that are kept in full.
     #[tactic(auto, using(crate::proofs::Closes::returns_len))]
-    pub(crate) fn reserve(&mut self, more: usize, kept: usize) -> Result<(), AllocError>
+    fn reserve(&mut self, more: usize, kept: usize) -> Result<(), AllocError>
         ensures items { self.new.items ≡ self.old.items }
         ensures kept { self.new.kept ≡ self.old.kept }
         ensures room { OnOk result (length self.new.items + more ≤ self.new.room) }
         ensures kept_room { OnOk result (self.new.kept + kept ≤ self.new.kept_room) }
+        ensures room_stays { self.old.room ≤ self.new.room }
+        ensures kept_room_stays { self.old.kept_room ≤ self.new.kept_room }
     {
         self.segs.reserve(kept)?;
         self.closes.reserve(more)
     }
 
-    /// Takes room for those returns of a later piece that are left once so many frames have closed.
-    pub(crate) fn make_room(&mut self, frames: usize, right: &Returns) -> Result<(), AllocError>
+    /// Takes room to chain these and those of a later piece that are left once so many frames have closed, the first of
+    /// which may have to be kept in full: in the list of which there are more.
+    pub(crate) fn make_room(&mut self, frames: usize, later: &mut Returns) -> Result<(), AllocError>
         ensures items { self.new.items ≡ self.old.items }
-        ensures room { OnOk result (length self.new.items + (length right.now.items - frames) ≤ self.new.room) }
-        ensures kept { OnOk result (frames < length right.now.items → self.new.kept + 1 + right.now.kept ≤ self.new.kept_room) }
+        ensures later { later.new.items ≡ later.old.items }
+        ensures room { OnOk result (HasReturnRoom frames self.new later.new) }
     {
-        let unmatched = right.len().saturating_sub(frames);
-        let kept = if unmatched > 0 { right.kept() + 1 } else { 0 };
-        self.reserve(unmatched, kept)
+        let unmatched = later.len().saturating_sub(frames);
+        if unmatched == 0 {
+            return Ok(());
+        }
+        later.reserve(0, 1)?;
+        if unmatched <= self.len() {
+            self.reserve(unmatched, later.segs.len() + 1)
+        } else {
+            later.reserve(self.len(), self.segs.len() + 1)
+        }
     }
 
-    /// Puts those that are left to read behind these, where there is room.
-    pub(crate) fn append(&mut self, rest: &ReturnsLeft<'_>)
-        requires room { length self.old.items + length rest.now.items ≤ self.old.room }
-        requires kept { self.old.kept + rest.now.kept ≤ self.old.kept_room }
-        ensures { self.new.items ≡ self.old.items ++ rest.now.items }
+    /// These and then those of a later piece. It moves the fewer of the two, for which there is room in the other list.
+    #[tactic(auto, using(crate::proofs::Closes::returns_len))]
+    pub(crate) fn chained(self, later: Returns) -> Returns
+        requires room { 0 < length later.items → length later.items ≤ length self.items → length self.items + length later.items ≤ self.room }
+        requires kept { 0 < length later.items → length later.items ≤ length self.items → self.kept + later.kept ≤ self.kept_room }
+        requires later_room { length self.items < length later.items → length self.items + length later.items ≤ later.room }
+        requires later_kept { length self.items < length later.items → self.kept + later.kept ≤ later.kept_room }
+        ensures { result.items ≡ self.items ++ later.items }
     {
-        let _closes = self.closes.extend_from_slice(rest.closes);
-        let _segs = self.segs.extend_from_slice(rest.segs);
+        if later.len() == 0 {
+            return self;
+        }
+        let into_first = later.len() <= self.len();
+        Returns {
+            closes: chained(self.closes, later.closes, into_first),
+            segs: chained(self.segs, later.segs, into_first),
+        }
     }
 
     /// Reads them, the first one first.
     pub(crate) fn iter(&self) -> ReturnsLeft<'_>
-        ensures items { result.items ≡ self.now.items }
-        ensures kept { result.kept ≡ self.now.kept }
+        ensures { result ≡ self.now.items }
     {
         ReturnsLeft {
-            closes: self.closes.as_slice(),
-            segs: self.segs.as_slice(),
+            closes: &self.closes,
+            segs: &self.segs,
+            read: 0,
+            kept: 0,
         }
     }
 
@@ -221,8 +260,8 @@ impl Returns {
         ensures { IfOk result (λ r. r.items ≡ self.now.items) }
     {
         Ok(Returns {
-            closes: SmallVec::from_slice(alloc, self.closes.as_slice())?,
-            segs: SmallVec::from_slice(alloc, self.segs.as_slice())?,
+            closes: copied(alloc, &self.closes)?,
+            segs: copied(alloc, &self.segs)?,
         })
     }
 }
@@ -230,29 +269,27 @@ impl Returns {
 impl<'a> ReturnsLeft<'a> {
     /// The next one.
     #[inline(always)]
-    pub(crate) fn next(&mut self) -> Option<Return<'a>>
-        ensures some { IfSome result (λ r. self.old.items ≡ unmatched_of r ∷ self.new.items) }
-        ensures none { result ≡ None → self.old.items ≡ [] }
-        ensures last { result ≡ None → self.new.items ≡ [] }
-        ensures kept { self.new.kept ≤ self.old.kept }
+    pub(crate) fn next(&mut self) -> Option<Return>
+        ensures some { IfSome result (λ r. self.old ≡ unmatched_of r ∷ self.new) }
+        ensures none { result ≡ None → self.old ≡ [] }
+        ensures last { result ≡ None → self.new ≡ [] }
     {
-        let (close, closes) = self.closes.split_first()?;
-        match *close {
+        match *self.closes.get(self.read)? {
             Close::Strand { run, at } => {
-                self.closes = closes;
+                self.read += 1;
                 Some(Return::Strand { run, at })
             }
             Close::Kept { at } => {
-                let (segs, others) = self.segs.split_first()?;
-                self.closes = closes;
-                self.segs = others;
+                let segs = *self.segs.get(self.kept)?;
+                self.read += 1;
+                self.kept += 1;
                 Some(Return::Kept { segs, at })
             }
         }
     }
 }
 
-impl<'a> Return<'a> {
+impl Return {
     /// The position of the return.
     pub(crate) fn at(&self) -> u32
         ensures { result ≡ (unmatched_of self.now).at }
@@ -273,7 +310,7 @@ impl<'a> Return<'a> {
                 at: *at,
             },
             Return::Kept { segs, at } => Unmatched {
-                segs: **segs,
+                segs: *segs,
                 at: *at,
             },
         }

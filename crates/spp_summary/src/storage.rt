@@ -3,11 +3,13 @@ ghost use Rattle.std.specs.Prelude.{◌≡◌, ◌+◌, ◌*◌, ◌<◌, ◌≤
 ghost use Rattle.std.specs.VecDeque.{deque_len, deque_capacity};
 ghost use Rattle.spp_piece.specs.Bound.{worst, cost, height, load, load_returns};
 ghost use Rattle.spp_piece.specs.Pair.{act, idle, then as both_then, fed as fed_to};
-ghost use Rattle.spp_summary.specs.Storage.{seen, seen_with, open_load, with_work, IsLaid};
+ghost use Rattle.spp_summary.specs.Storage.{seen, seen_with, seen_before, open_load, with_work, IsLaid};
+ghost use Rattle.spp_summary.specs.Returns.{return_of};
 ghost use Rattle.spp_summary.specs.Joining.{raised, run_on, before_on, went, left_of, SameStorage, HasRoom};
 ghost use Rattle.spp_summary.specs.KeptFrames.{kept_of, past, ran, with_kept, HasKept, AreLaid, outside as outside_of};
 ghost use Rattle.spp_piece.specs.Summary.{along_by, summary_ops, play_returns, joined};
 
+use crate::lists::{chained, copied};
 use crate::opens::{Kept, Open};
 use crate::pending::Pending;
 use crate::returns::Returns;
@@ -38,39 +40,6 @@ pub(crate) struct Storage {
     pub(crate) before: u128,
     /// The first bad record.
     pub(crate) fault: Option<(u32, EventFault)>,
-}
-
-/// The list of the one and then that of the other, where the one of the two that takes the other's elements has room
-/// for them.
-fn chained<T: Drop>(left: VecDeque<T>, right: VecDeque<T>, into_left: bool) -> VecDeque<T>
-    requires left { into_left ≡ true → deque_len left + deque_len right ≤ deque_capacity left }
-    requires right { into_left ≡ false → deque_len left + deque_len right ≤ deque_capacity right }
-    ensures { result.items ≡ left.items ++ right.items }
-{
-    let mut left = left;
-    let mut right = right;
-    if into_left {
-        while let Some(first) = right.pop_front() {
-            left.push_back_reserved(first);
-        }
-        left
-    } else {
-        while let Some(last) = left.pop_back() {
-            right.push_front_reserved(last);
-        }
-        right
-    }
-}
-
-/// The same list once more.
-fn copied<T: Copy>(alloc: Global, list: &VecDeque<T>) -> Result<VecDeque<T>, AllocError>
-    ensures { IfOk result (λ l. l.items ≡ list.now.items) }
-{
-    let (front, back) = list.as_slices();
-    let mut all = Vec::with_capacity(alloc, list.len())?;
-    all.extend_from_slice(front)?;
-    all.extend_from_slice(back)?;
-    Ok(VecDeque::from_vec(all))
 }
 
 /// The states of a frame, which are kept no longer.
@@ -130,32 +99,35 @@ fn keep(states: &mut VecDeque<Kept>, top: &mut Open)
 }
 
 impl Storage {
-    /// Returns of a later piece, for all of which there is room. Gives what is still to be done to the frame that is
-    /// then the innermost; the work is that where it was opened last.
-    fn return_all(&mut self, burdens: Burdens, returns: &Returns) -> Pending
+    /// Takes returns of a later piece in, as many as there are open frames, or all. Gives what is still to be done to the
+    /// frame that is then the innermost; the work is that where it was opened last. Where returns are left no frame is open;
+    /// then what was still to be done comes before the first of them.
+    fn return_all(&mut self, burdens: Burdens, returns: &mut Returns) -> Pending
         requires sound { self.old.fault ≡ None }
         requires laid { IsLaid self.old }
         requires work { self.old.before + self.old.run < 2 ^ 127 }
-        requires room { length self.old.returns.items + (length returns.now.items - deque_len self.old.opens) ≤ self.old.returns.room }
-        requires kept { deque_len self.old.opens < length returns.now.items → self.old.returns.kept + 1 + returns.now.kept ≤ self.old.returns.kept_room }
-        requires load { load burdens (seen self.old) + load_returns burdens returns.now.items < 2 ^ 127 }
-        ensures value { (summary_ops burdens).along result (with_work (self.old.before + self.old.run) (seen self.new)) ≡ play_returns (summary_ops burdens) returns.now.items (seen self.old) }
-        ensures load { load burdens (seen self.new) + cost result ≤ load burdens (seen self.old) + load_returns burdens returns.now.items }
+        requires kept { deque_len self.old.opens < length returns.old.items → returns.old.kept < returns.old.kept_room }
+        requires load { load burdens (seen self.old) + load_returns burdens returns.old.items < 2 ^ 127 }
+        ensures value { (summary_ops burdens).along result (with_work (self.old.before + self.old.run) (seen_before returns.new.items self.new)) ≡ play_returns (summary_ops burdens) returns.old.items (seen self.old) }
+        ensures load { load burdens (seen_before returns.new.items self.new) + cost result ≤ load burdens (seen self.old) + load_returns burdens returns.old.items }
         ensures laid { IsLaid self.new }
         ensures fault { self.new.fault ≡ None }
         ensures before { self.new.before + self.new.run ≤ self.old.before + self.old.run }
+        ensures returns { self.new.returns ≡ self.old.returns }
+        ensures left { length returns.new.items ≡ length returns.old.items - deque_len self.old.opens }
+        ensures left_kept { returns.new.kept ≤ returns.old.kept + 1 }
+        ensures left_room { returns.new.room ≡ returns.old.room }
+        ensures left_kept_room { returns.new.kept_room ≡ returns.old.kept_room }
         ensures opens_capacity { deque_capacity self.new.opens ≡ deque_capacity self.old.opens }
-        ensures opens_len { deque_len self.new.opens ≡ deque_len self.old.opens - length returns.now.items }
+        ensures opens_len { deque_len self.new.opens ≡ deque_len self.old.opens - length returns.old.items }
         ensures states_capacity { deque_capacity self.new.states ≡ deque_capacity self.old.states }
         ensures states_len { deque_len self.new.states ≤ deque_len self.old.states }
     {
         let mut pending = Pending::idle();
-        let mut left = returns.iter();
-        while let Some(unmatched) = left.next() {
+        while let Some(unmatched) = returns.pop_front() {
             pending.follow(&unmatched);
             let Some(child) = self.opens.pop_back() else {
-                self.unmatched(&pending.segs(), unmatched.at());
-                self.returns.append(&left);
+                self.leave(&pending.segs(), unmatched.at(), returns);
                 return Pending::idle();
             };
             self.close(burdens, &child, &mut pending);
@@ -186,27 +158,28 @@ impl Storage {
         self.before -= child.gap;
     }
 
-    /// A return with no frame open, after these events, for which there is room.
-    fn unmatched(&mut self, segs: &Segs, at: u32)
+    /// A return with no frame open, after these events, goes before later ones that are left.
+    fn leave(&mut self, segs: &Segs, at: u32, left: &mut Returns)
         requires none { self.old.opens.items ≡ [] }
         requires laid { IsLaid self.old }
-        requires room { length self.old.returns.items < self.old.returns.room }
-        requires kept { self.old.returns.kept < self.old.returns.kept_room }
+        requires room { length left.old.items < left.old.room }
+        requires kept { left.old.kept < left.old.kept_room }
         requires load { cost (seen self.old).middle + cost segs.now < 2 ^ 127 }
-        ensures returns { self.new.returns.items ≡ self.old.returns.items ++ record { segs = both_then (seen self.old).middle segs.now; at = at } ∷ [] }
-        ensures value { seen self.new ≡ record (seen self.old) { returns = self.new.returns.items; middle = idle } }
+        ensures left { left.new.items ≡ return_of (both_then (seen self.old).middle segs.now) at ∷ left.old.items }
+        ensures left_kept { left.new.kept ≤ left.old.kept + 1 }
+        ensures left_room { left.new.room ≡ left.old.room }
+        ensures left_kept_room { left.new.kept_room ≡ left.old.kept_room }
+        ensures value { seen self.new ≡ record (seen self.old) { middle = idle } }
         ensures laid { IsLaid self.new }
         ensures fault { self.new.fault ≡ self.old.fault }
         ensures run { self.new.run ≡ self.old.run }
         ensures before { self.new.before ≡ self.old.before }
+        ensures returns { self.new.returns ≡ self.old.returns }
         ensures opens { self.new.opens ≡ self.old.opens }
         ensures states { self.new.states ≡ self.old.states }
-        ensures kept { self.new.returns.kept ≤ self.old.returns.kept + 1 }
-        ensures room { self.new.returns.room ≡ self.old.returns.room }
-        ensures kept_room { self.new.returns.kept_room ≡ self.old.returns.kept_room }
     {
         self.middle.run(self.run - self.since);
-        self.returns.push_reserved(&self.middle.then(*segs), at);
+        left.push_front_reserved(&self.middle.then(*segs), at);
         self.middle = Segs::idle();
         self.since = self.run;
     }
@@ -222,6 +195,7 @@ impl Storage {
         ensures run { self.new.run ≡ next }
         ensures before { self.new.before ≡ self.old.before }
         ensures fault { self.new.fault ≡ self.old.fault }
+        ensures returns { self.new.returns ≡ self.old.returns }
         ensures opens_capacity { deque_capacity self.new.opens ≡ deque_capacity self.old.opens }
         ensures opens_len { deque_len self.new.opens ≡ deque_len self.old.opens }
         ensures states_capacity { deque_capacity self.new.states ≡ deque_capacity self.old.states }
@@ -262,6 +236,7 @@ impl Storage {
         ensures before { self.new.before ≡ before_on work before self.old.before (reverse self.old.opens.items) }
         ensures states { self.new.states ≡ self.old.states }
         ensures fault { self.new.fault ≡ self.old.fault }
+        ensures returns { self.new.returns ≡ self.old.returns }
         ensures capacity { deque_capacity self.new.opens ≡ deque_capacity self.old.opens }
         ensures len { deque_len self.new.opens ≡ deque_len self.old.opens }
     {
@@ -284,7 +259,8 @@ impl Storage {
         ensures room { OnOk result (HasRoom self.new right.new) }
     {
         let rest = self.opens.len().saturating_sub(right.returns.len());
-        self.returns.make_room(self.opens.len(), &right.returns)?;
+        self.returns
+            .make_room(self.opens.len(), &mut right.returns)?;
         self.states.reserve(1)?;
         if right.opens.len() <= rest {
             let all = rest + right.opens.len();
@@ -297,27 +273,34 @@ impl Storage {
     }
 
     /// What a later piece does to the frames that are open, for which there is room: its returns, and its events up to
-    /// where it opens its own frames, or to its end. The innermost frame that is left then runs up to there.
-    fn go_on(&mut self, burdens: Burdens, right: &Storage)
+    /// where it opens its own frames, or to its end. The innermost frame that is left then runs up to there. The returns for
+    /// which no frame is left stay with the later piece.
+    fn go_on(&mut self, burdens: Burdens, right: &mut Storage)
         requires sound { self.old.fault ≡ None }
         requires left { IsLaid self.old }
-        requires right { IsLaid right.now }
-        requires room { HasRoom self.old right.now }
-        requires load { load burdens (seen self.old) + load burdens (seen right.now) < 2 ^ 127 }
-        requires work { self.old.before + self.old.run + (right.now.before + right.now.run) < 2 ^ 127 }
-        ensures value { with_work (self.old.before + self.old.run) (seen self.new) ≡ went burdens (seen self.old) (seen right.now) }
+        requires right { IsLaid right.old }
+        requires room { HasRoom self.old right.old }
+        requires load { load burdens (seen self.old) + load burdens (seen right.old) < 2 ^ 127 }
+        requires work { self.old.before + self.old.run + (right.old.before + right.old.run) < 2 ^ 127 }
+        ensures value { with_work (self.old.before + self.old.run) (seen_before right.new.returns.items self.new) ≡ went burdens (seen self.old) (seen right.old) }
+        ensures right { right.new ≡ record right.old { returns = right.new.returns } }
         ensures laid { IsLaid self.new }
-        ensures run { self.new.before + self.new.run ≡ self.old.before + self.old.run + outside_of right.now.run (reverse right.now.opens.items) }
+        ensures run { self.new.before + self.new.run ≡ self.old.before + self.old.run + outside_of right.old.run (reverse right.old.opens.items) }
         ensures before { self.new.before ≤ self.old.before + self.old.run }
         ensures few { deque_len self.new.states ≤ deque_len self.new.opens }
         ensures fault { self.new.fault ≡ None }
+        ensures returns { self.new.returns ≡ self.old.returns }
+        ensures left { length right.new.returns.items ≡ length right.old.returns.items - deque_len self.old.opens }
+        ensures left_kept { right.new.returns.kept ≤ right.old.returns.kept + 1 }
+        ensures left_room { right.new.returns.room ≡ right.old.returns.room }
+        ensures left_kept_room { right.new.returns.kept_room ≡ right.old.returns.kept_room }
         ensures opens_capacity { deque_capacity self.new.opens ≡ deque_capacity self.old.opens }
-        ensures opens_len { deque_len self.new.opens ≡ left_of self.old right.now }
+        ensures opens_len { deque_len self.new.opens ≡ left_of self.old right.old }
         ensures states_capacity { deque_capacity self.new.states ≡ deque_capacity self.old.states }
         ensures states_len { deque_len self.new.states ≤ deque_len self.old.states + 1 }
     {
         let end = self.before + self.run + right.outside();
-        let pending = self.return_all(burdens, &right.returns);
+        let pending = self.return_all(burdens, &mut right.returns);
         let next = end - self.before;
         self.change_innermost(&pending.segs().then(right.middle()), next);
     }
@@ -338,11 +321,11 @@ impl Storage {
             return left;
         }
         let work = left.before + left.run;
-        left.go_on(burdens, &right);
+        left.go_on(burdens, &mut right);
         let into_left = right.opens.len() <= left.opens.len();
         right.place(work, left.before, left.run);
         Storage {
-            returns: left.returns,
+            returns: left.returns.chained(right.returns),
             opens: chained(left.opens, right.opens, into_left),
             states: chained(left.states, right.states, into_left),
             middle: left.middle,

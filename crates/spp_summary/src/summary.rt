@@ -32,8 +32,7 @@ use std::marker::Model;
 /// opened before it; what it does to the frame that is then the innermost; and the frames that it opens and leaves
 /// open. Reading stops at a bad record.
 ///
-/// Contracts see the burdens, the range, and these. It takes memory for its frames, and for unmatched returns beyond
-/// the first four, or beyond one where more than a strand of 64 bits came before.
+/// Contracts see the burdens, the range, and these. It takes memory for its frames and for its unmatched returns.
 #[derive(Drop)]
 pub struct Summary {
     burdens: Burdens,
@@ -66,8 +65,8 @@ pub struct JoinRefused<T> {
 impl Summary {
     /// The summary of a part. On every stack it acts as the part's events do one by one.
     ///
-    /// It takes time linear in the number of events, and memory linear in the numbers of frames that the part opens and
-    /// doesn't close, and of those that it closes and doesn't open. A strand changes one number.
+    /// It takes time linear in the number of events, and memory linear in the most frames that the part has open at a time
+    /// of those that it opens, and in the number of those that it closes and doesn't open. A strand changes one number.
     ///
     /// # Errors
     ///
@@ -93,9 +92,9 @@ impl Summary {
     /// The summary of two neighbouring ranges together, with the same burdens: it acts as the one and then the other,
     /// and is the summary of both lists of events.
     ///
-    /// It takes time linear in the unmatched returns of the right one, and, amortized, in the frames of that one of the
-    /// two which has fewer, where those of the left that the right closes don't count: they're moved into the list of
-    /// the other.
+    /// Amortized, it takes time linear in the number of frames of the left one that the right one closes, and then in the
+    /// lesser of the numbers of frames and of unmatched returns that the two have left: the fewer ones are moved into the
+    /// list of the other.
     ///
     /// # Errors
     ///

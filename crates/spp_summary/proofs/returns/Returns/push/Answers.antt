@@ -7,11 +7,11 @@ use Rattle.spp_summary.proofs.returns.Returns.push.Goals as goal
 pub invariant_of-self-in-Some : goal.invariant_of-self-in-Some
 invariant_of-self-in-Some c =
     let r = c.self.inside in
-    omega (arith, ap kept_count c.in_ok-push.ensures.ok, count-append r.closes.items (Strand c.in-Some.run' c.args.at ∷ []), c.self.invariant)
+    omega (arith, ap kept_count c.in_ok-push_back.ensures.items, count-append r.closes.items (Strand c.in-Some.run' c.args.at ∷ []), c.self.invariant)
 
 pub returns-in-Some : goal.returns-in-Some
 returns-in-Some c =
     let r = c.self.inside in
-    ap (λ cs. returns_of cs r.segs.items) c.in_ok-push.ensures.ok
+    ap (λ cs. returns_of cs r.segs.items) c.in_ok-push_back.ensures.items
     ∙ pushed_strand r.closes.items r.segs.items c.in-Some.run' c.args.at c.args.segs.now c.self.invariant c.in-Some.ensures
     ∙ ap (λ (x : Returned). x.items ++ return_of c.args.segs.now c.args.at ∷ []) c.self.view_is

@@ -59,6 +59,7 @@ returns c =
       run = refl;
       before = refl;
       fault = refl;
+      returns = refl;
       opens_capacity = refl;
       opens_len = refl;
       states_capacity = c.keep.ensures.capacity;

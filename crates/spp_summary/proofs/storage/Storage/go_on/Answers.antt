@@ -1,13 +1,14 @@
-use Rattle.std.proofs.Common.{◌+◌, reverse, sym, ap, ap₂, ◌∙◌, arith}
+use Rattle.std.proofs.Common.{◌+◌, ◌++◌, reverse, sym, ap, ap₂, ◌∙◌, arith}
 use Rattle.std.proofs.lemmas.List.{length-reverse}
 use Rattle.spp_piece.specs.Bound.{cost}
 use Rattle.spp_piece.specs.Pair.{then}
-use Rattle.spp_summary.specs.Storage.{seen, with_work}
-use Rattle.spp_piece.specs.Summary.{summary_ops}
+use Rattle.spp_summary.specs.Storage.{seen, seen_before, with_work}
+use Rattle.spp_summary.specs.Returns.{Returned}
+use Rattle.spp_piece.specs.Summary.{Sum, summary_ops}
 use Rattle.spp_piece.proofs.Bounds.{cost-then}
 use Rattle.spp_summary.proofs.Chains.{few_kept}
 use Rattle.spp_summary.proofs.ReadEvents.{outside_within}
-use Rattle.spp_summary.proofs.Going.{with-along, along-twice}
+use Rattle.spp_summary.proofs.Going.{before-along, along-twice}
 use Rattle.spp_summary.proofs.storage.Storage.go_on.Goals as goal
 
 pub overflow_add-end-2 : goal.overflow_add-end-2
@@ -25,12 +26,14 @@ returns-clause-value c =
     let r = c.args.right.now in
     let o = summary_ops c.args.burdens in
     let w = p.before + p.run in
-    let s = seen c.return_all-pending.new.self in
+    let taken = c.return_all-pending.new.self in
+    let rest = c.return_all-pending.new.returns.items in
     let a = c.return_all-pending.result in
-    ap (with_work w) c.change_innermost.ensures.value
-    ∙ with-along c.args.burdens s w c.then.result c.return_all-pending.ensures.fault
-    ∙ ap (λ g. o.along g (with_work w s)) (c.then.ensures ∙ ap₂ then c.segs.ensures c.middle.ensures)
-    ∙ sym (along-twice c.args.burdens a (seen r).middle (with_work w s))
+    ap (λ (z : Returned). with_work w (record (seen c.change_innermost.new.self) { returns = z.items ++ rest })) c.change_innermost.ensures.returns
+    ∙ ap (λ (z : Sum). with_work w (record z { returns = taken.returns.items ++ rest })) c.change_innermost.ensures.value
+    ∙ before-along c.args.burdens (seen taken) (taken.returns.items ++ rest) w c.then.result c.return_all-pending.ensures.fault
+    ∙ ap (λ g. o.along g (with_work w (seen_before rest taken))) (c.then.ensures ∙ ap₂ then c.segs.ensures c.middle.ensures)
+    ∙ sym (along-twice c.args.burdens a (seen r).middle (with_work w (seen_before rest taken)))
     ∙ ap (o.along (seen r).middle) c.return_all-pending.ensures.value
 
 pub returns-clause-few : goal.returns-clause-few

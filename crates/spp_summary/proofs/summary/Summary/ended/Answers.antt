@@ -21,7 +21,7 @@ returns-in-Some-clause-value c =
     let s = c.self.inside in
     let p = s.storage in
     let r = unmatched_of c.in-Some.unmatched in
-    let e : p.returns.items ≡ r ∷ c.next.new.self.items = sym c.iter.ensures.items ∙ c.in-Some.ensures.some in
+    let e : p.returns.items ≡ r ∷ c.next.new.self = sym c.iter.ensures ∙ c.in-Some.ensures.some in
     ap (λ n. Err (record { at = n; why = RootReturn })) (c.at.ensures ∙ ap (λ us. (get_or us 0 no_return).at) (sym e))
     ∙ sym (root_return s.burdens s.events p.returns.items (seen p).middle (seen p).frames (p.before + p.run) p.fault no_return (omega (arith, ap length e)))
     ∙ ap finished c.self.view_is
@@ -30,7 +30,7 @@ pub returns-in-Some-fault-clause-value : goal.returns-in-Some-fault-clause-value
 returns-in-Some-fault-clause-value c =
     let s = c.self.inside in
     let p = s.storage in
-    let none = sym c.iter.ensures.items ∙ c.next.ensures.none c.in_default.is in
+    let none = sym c.iter.ensures ∙ c.next.ensures.none c.in_default.is in
     sym (bad_record s.burdens s.events p.returns.items (seen p).middle (seen p).frames (p.before + p.run) p.fault (c.in-Some-fault.at, c.in-Some-fault.why) (omega (arith, ap length none)) c.in-Some-fault.is)
     ∙ ap finished c.self.view_is
 
@@ -41,7 +41,7 @@ returns-then-depth-gt0-clause-value c =
     let n = length-reverse p.opens.items in
     let f = frames_count p.run p.before (reverse p.opens.items) (reverse p.states.items) in
     let k = p.opens.ok.0 in
-    let none = sym c.iter.ensures.items ∙ c.next.ensures.none c.in_default.is in
+    let none = sym c.iter.ensures ∙ c.next.ensures.none c.in_default.is in
     ap (λ d. Err (record { at = s.events; why = Unclosed d })) (omega (arith, n, f, k, c.len-depth.ensures))
     ∙ sym (unclosed s.burdens s.events p.returns.items (seen p).middle (seen p).frames (p.before + p.run) p.fault (omega (arith, ap length none)) c.in_default-fault.is (omega (arith, n, f, k, c.len-depth.ensures, c.if-depth-gt0.true)))
     ∙ ap finished c.self.view_is

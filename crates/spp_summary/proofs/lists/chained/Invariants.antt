@@ -1,6 +1,6 @@
 use Rattle.std.proofs.Common.{◌≡◌, ◌+◌, ◌≤◌, ◌++◌}
 use Rattle.std.specs.VecDeque.{deque_len, deque_capacity}
-use Rattle.spp_summary.proofs.storage.chained.Given as goal
+use Rattle.spp_summary.proofs.lists.chained.Given as goal
 
 abbrev pub invariant-loop-first : goal.invariant-loop-first
 invariant-loop-first g l =
