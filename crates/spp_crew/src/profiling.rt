@@ -1,6 +1,6 @@
 //! The whole profile of a run, made by workers.
 
-ghost use Rattle.std.specs.Prelude.{◌≡◌, ◌<◌, ◌≤◌, ◌^◌, List, length, true, IfOk, IfErr};
+ghost use Rattle.std.specs.Prelude.{◌≡◌, ◌+◌, ◌<◌, ◌≤◌, ◌^◌, List, length, true, IfOk, IfErr};
 ghost use Rattle.spp_dag.specs.Figures.{AreFigures};
 ghost use Rattle.spp_event.specs.declared.records.Event.{Event as EventValue};
 ghost use Rattle.spp_frame.specs.Answers.{IsFaultOf};
@@ -12,7 +12,9 @@ ghost use Rattle.spp_maxplus.specs.State.{unburdened};
 ghost use Rattle.spp_jobs.specs.Choices.{AreChoicesOf};
 ghost use Rattle.spp_site.specs.Rows.{frame_row};
 ghost use Rattle.spp_site.specs.Profiles.{IsDagTable, IsPathTable, IsProfileOf};
+ghost use Rattle.spp_path.specs.declared.settled.Under.TheVariants.{Zero, Burdens as UnderBurdens};
 ghost use Rattle.spp_stack.specs.Parts.{AreEntriesOf};
+ghost use Rattle.spp_crew.specs.Settling.{IsSettledBy};
 
 use crate::gate::{Gate, Round};
 use crate::round::run_round;
@@ -22,12 +24,12 @@ use spp_dag::{Choices, Figures, Row};
 use spp_frame::ProfileFault;
 use spp_jobs::{PathJob, Pathed, TableJob, Tabled, entries_of};
 use spp_maxplus::Burdens;
-use spp_path::{Under, settle};
+use spp_path::{Settled, Under, settle};
 use spp_site::{ClosedFrame, Profile};
 use spp_stack::Entries;
 use std::alloc::{AllocError, Global};
 use std::sync::Wait;
-use std::thread::Threads;
+use std::thread::{Threads, join};
 
 /// What the root frame itself adds to its row, where the run comes to these figures.
 fn root_row(whole: &Figures) -> Row
@@ -69,8 +71,44 @@ pub fn tabled<R: Threads + Wait + Sync, G: Gate>(
     run_round(rt, alloc, &job, workers, Round::Tables, gate)
 }
 
+/// Both paths, the one without burdens and the one under them, settled by the choices of the parts: with more than one worker
+/// beside each other.
+///
+/// # Errors
+///
+/// Where a growth was refused.
+fn settle_both<'e, R: Threads>(
+    rt: &R,
+    alloc: Global,
+    stacks: &'e Entries,
+    choices: &[Choices],
+    workers: u32,
+) -> Result<(Settled<'e>, Settled<'e>), AllocError>
+    requires { length stacks.now.starts ≡ length choices.now + 1 }
+    ensures path { IfOk result (λ p. IsSettledBy stacks.now choices.now Zero p.0) }
+    ensures burdened { IfOk result (λ p. IsSettledBy stacks.now choices.now UnderBurdens p.1) }
+{
+    if workers < 2 {
+        let path = settle(alloc, stacks, choices, Under::Zero)?;
+        let burdened = settle(alloc, stacks, choices, Under::Burdens)?;
+        return Ok((path, burdened));
+    }
+    let (burdened, path) = join(
+        rt,
+        move || -> Result<Settled<'_>, AllocError>
+            requires { length stacks.now.starts ≡ length choices.now + 1 }
+            ensures { IfOk result (λ s. IsSettledBy stacks.entry.now choices.entry.now UnderBurdens s) }
+        { settle(alloc, stacks, choices, Under::Burdens) },
+        move || -> Result<Settled<'_>, AllocError>
+            requires { length stacks.now.starts ≡ length choices.now + 1 }
+            ensures { IfOk result (λ s. IsSettledBy stacks.entry.now choices.entry.now Zero s) }
+        { settle(alloc, stacks, choices, Under::Zero) },
+    );
+    Ok((path?, burdened?))
+}
+
 /// The rows of all parts on both paths, without what the root frame adds itself, made by so many workers in round 3: both
-/// paths are settled first, on one thread, by the choices of the parts.
+/// paths are settled first, by the choices of the parts.
 ///
 /// # Errors
 ///
@@ -94,8 +132,7 @@ fn pathed<R: Threads + Wait + Sync, G: Gate>(
 {
     // Called for its contract alone: the parts hold all events.
     let _parts = cut.parts();
-    let path = settle(alloc, stacks, choices, Under::Zero)?;
-    let burdened = settle(alloc, stacks, choices, Under::Burdens)?;
+    let (path, burdened) = settle_both(rt, alloc, stacks, choices, workers)?;
     let job = PathJob::new(cut, stacks, burdens, &path, &burdened);
     run_round(rt, alloc, &job, workers, Round::Paths, gate)
 }
