@@ -2,6 +2,7 @@ pub mod Rows
 pub mod Stored
 pub mod Pigeons
 pub mod Places
+pub mod Hinted
 pub mod Adding
 pub mod Merging
 pub mod Small

@@ -26,7 +26,7 @@ zeros zero i = refl
 zeros (suc n) zero = refl
 zeros (suc n) (suc i) = zeros n i
 
-longer_says : (index : List ℕ) (n site : ℕ) → get_or (index ++ replicate n 0) site 0 ≡ get_or index site 0
+pub longer_says : (index : List ℕ) (n site : ℕ) → get_or (index ++ replicate n 0) site 0 ≡ get_or index site 0
 longer_says index n site = elim (cases_lt site (length index)) [
   | inl l ↦ get_or_append_left index (replicate n 0) 0 site l
   | inr l ↦ get_or-append_right index (replicate n 0) site 0 l ∙ zeros n (site - length index) ∙ sym (get_or_past index site 0 l)
@@ -46,66 +46,69 @@ grown_indexed index grown rows n h e small = record {
   small = small;
 }
 
--- a row of which more is made, at its place
+-- a row of which more is made stays at its place, and all others at theirs
+pub site_stays : (rows : List SiteRow) (site k : ℕ) (row : Row) → IsPlaceOf rows site k → (j : ℕ)
+    → (get_or (set rows k (record { site = site; row = row })) j blank).site ≡ (get_or rows j blank).site
+site_stays rows site k row at j = elim (cases_eq j k) [
+  | inl e ↦
+      ap (λ j. (get_or (set rows k (record { site = site; row = row })) j blank).site) e
+      ∙ (ap (λ r. r.site) (get_or-set_same rows k (record { site = site; row = row }) blank at.0)
+      ∙ (sym at.1 ∙ ap (λ j. (get_or rows j blank).site) (sym e)))
+  | inr d ↦ ap (λ r. r.site) (get_or-set_other rows k j (record { site = site; row = row }) blank d)
+]
+
 pub set_indexed : (index : List ℕ) (rows : List SiteRow) → IsIndexed index rows → (site k : ℕ) (row : Row) → IsPlaceOf rows site k
     → IsIndexed index (set rows k (record { site = site; row = row }))
 set_indexed index rows h site k row at =
     let n : length (set rows k (record { site = site; row = row })) ≡ length rows = length-set rows k (record { site = site; row = row }) in
     record {
-      placed = λ j l. ap (λ s. get_or index s 0) (same_site j) ∙ h.placed j (omega (arith, n));
-      exact = λ s more. let p = h.exact s more in (omega (arith, n), same_site (get_or index s 0 - 1) ∙ p.1);
-      inside = λ j l. subst (λ s. s < length index) (sym (same_site j)) (h.inside j (omega (arith, n)));
+      placed = λ j l. ap (λ s. get_or index s 0) (site_stays rows site k row at j) ∙ h.placed j (omega (arith, n));
+      exact = λ s more. let p = h.exact s more in (omega (arith, n), site_stays rows site k row at (get_or index s 0 - 1) ∙ p.1);
+      inside = λ j l. subst (λ s. s < length index) (sym (site_stays rows site k row at j)) (h.inside j (omega (arith, n)));
       small = h.small;
     }
-  where
-    same_site : (j : ℕ) → (get_or (set rows k (record { site = site; row = row })) j blank).site ≡ (get_or rows j blank).site
-    same_site j = elim (cases_eq j k) [
-      | inl e ↦
-          ap (λ j. (get_or (set rows k (record { site = site; row = row })) j blank).site) e
-          ∙ (ap (λ r. r.site) (get_or-set_same rows k (record { site = site; row = row }) blank at.0)
-          ∙ (sym at.1 ∙ ap (λ j. (get_or rows j blank).site) (sym e)))
-      | inr d ↦ ap (λ r. r.site) (get_or-set_other rows k j (record { site = site; row = row }) blank d)
-    ]
+
+-- a row behind the others
+module _ (rows : List SiteRow) (site : ℕ) (row : Row) where
+  abbrev pub longer : List SiteRow
+  longer = rows ++ record { site = site; row = row } ∷ []
+
+  pub new_length : length longer ≡ suc (length rows)
+  new_length = length-append rows (record { site = site; row = row } ∷ []) ∙ (let z : length rows + 1 ≡ suc (length rows) = omega arith in z)
+
+  pub old_site : (k : ℕ) → k < length rows → (get_or longer k blank).site ≡ (get_or rows k blank).site
+  old_site k l = ap (λ r. r.site) (get_or_append_left rows (record { site = site; row = row } ∷ []) blank k l)
+
+  pub new_site : (k : ℕ) → k ≡ length rows → (get_or longer k blank).site ≡ site
+  new_site k e = ap (λ k. (get_or longer k blank).site) e ∙ ap (λ r. r.site) (get_or-append_seam rows (record { site = site; row = row }) [] blank)
 
 -- a row for a site that has none, at the end
 module _ (index : List ℕ) (rows : List SiteRow) (h : IsIndexed index rows) (site : ℕ) (row : Row) (within : site < length index) (free : HasNoRow rows site) where
-  abbrev longer : List SiteRow
-  longer = rows ++ record { site = site; row = row } ∷ []
-
-  new_length : length longer ≡ suc (length rows)
-  new_length = length-append rows (record { site = site; row = row } ∷ []) ∙ (let z : length rows + 1 ≡ suc (length rows) = omega arith in z)
-
-  old_site : (k : ℕ) → k < length rows → (get_or longer k blank).site ≡ (get_or rows k blank).site
-  old_site k l = ap (λ r. r.site) (get_or_append_left rows (record { site = site; row = row } ∷ []) blank k l)
-
-  new_site : (k : ℕ) → k ≡ length rows → (get_or longer k blank).site ≡ site
-  new_site k e = ap (λ k. (get_or longer k blank).site) e ∙ ap (λ r. r.site) (get_or-append_seam rows (record { site = site; row = row }) [] blank)
-
-  pub pushed_indexed : IsIndexed (set index site (length rows + 1)) longer
+  pub pushed_indexed : IsIndexed (set index site (length rows + 1)) (longer rows site row)
   pushed_indexed =
       let n : length (set index site (length rows + 1)) ≡ length index = length-set index site (length rows + 1) in
       record {
         placed = λ k l. elim (cases_lt k (length rows)) [
           | inl a ↦
-              ap (λ s. get_or (set index site (length rows + 1)) s 0) (old_site k a)
+              ap (λ s. get_or (set index site (length rows + 1)) s 0) (old_site rows site row k a)
               ∙ (get_or-set_other index site (get_or rows k blank).site (length rows + 1) 0 (free k a) ∙ h.placed k a)
           | inr a ↦
-              let e : k ≡ length rows = omega (arith, new_length) in
-              ap (λ s. get_or (set index site (length rows + 1)) s 0) (new_site k e) ∙ (get_or-set_same index site (length rows + 1) 0 within ∙ ap (λ n. n + 1) (sym e))
+              let e : k ≡ length rows = omega (arith, new_length rows site row) in
+              ap (λ s. get_or (set index site (length rows + 1)) s 0) (new_site rows site row k e) ∙ (get_or-set_same index site (length rows + 1) 0 within ∙ ap (λ n. n + 1) (sym e))
         ];
         exact = λ s more. elim (cases_eq s site) [
           | inl e ↦
               let now : get_or (set index site (length rows + 1)) s 0 ≡ length rows + 1 = ap (λ j. get_or (set index site (length rows + 1)) j 0) e ∙ get_or-set_same index site (length rows + 1) 0 within in
               let last : get_or (set index site (length rows + 1)) s 0 - 1 ≡ length rows = omega arith in
-              subst (IsPlaceOf longer s) (sym last) (omega (arith, new_length), new_site (length rows) refl ∙ sym e)
+              subst (IsPlaceOf (longer rows site row) s) (sym last) (omega (arith, new_length rows site row), new_site rows site row (length rows) refl ∙ sym e)
           | inr d ↦
               let now : get_or (set index site (length rows + 1)) s 0 ≡ get_or index s 0 = get_or-set_other index site s (length rows + 1) 0 d in
               let p = h.exact s (omega arith) in
-              subst (λ n. IsPlaceOf longer s (n - 1)) (sym now) (omega (arith, new_length), old_site (get_or index s 0 - 1) p.0 ∙ p.1)
+              subst (λ n. IsPlaceOf (longer rows site row) s (n - 1)) (sym now) (omega (arith, new_length rows site row), old_site rows site row (get_or index s 0 - 1) p.0 ∙ p.1)
         ];
         inside = λ k l. elim (cases_lt k (length rows)) [
-          | inl a ↦ subst (λ s. s < length (set index site (length rows + 1))) (sym (old_site k a)) (let i = h.inside k a in omega arith)
-          | inr a ↦ subst (λ s. s < length (set index site (length rows + 1))) (sym (new_site k (omega (arith, new_length)))) (omega arith)
+          | inl a ↦ subst (λ s. s < length (set index site (length rows + 1))) (sym (old_site rows site row k a)) (let i = h.inside k a in omega arith)
+          | inr a ↦ subst (λ s. s < length (set index site (length rows + 1))) (sym (new_site rows site row k (omega (arith, new_length rows site row)))) (omega arith)
         ];
         small = let i = h.small in omega arith;
       }
@@ -113,6 +116,6 @@ module _ (index : List ℕ) (rows : List SiteRow) (h : IsIndexed index rows) (si
   -- so there is room for its number
   pub few_more : length rows < 65536
   few_more =
-      let l : length longer ≤ length (set index site (length rows + 1)) = few_rows (set index site (length rows + 1)) longer pushed_indexed in
+      let l : length (longer rows site row) ≤ length (set index site (length rows + 1)) = few_rows (set index site (length rows + 1)) (longer rows site row) pushed_indexed in
       let n : length (set index site (length rows + 1)) ≡ length index = length-set index site (length rows + 1) in
-      omega (arith, new_length, h.small)
+      omega (arith, new_length rows site row, h.small)

@@ -21,6 +21,11 @@ pub plus-swap : (a b c : Row) → plus (plus a b) c ≡ plus (plus a c) b
 plus-swap a b c =
     same_rows (plus (plus a b) c) (plus (plus a c) b) (omega arith) (omega arith) (omega arith) (omega arith) (omega arith) (omega arith) (omega arith) (omega arith)
 
+-- the second of three goes before the first
+pub plus-over : (a b c : Row) → plus a (plus b c) ≡ plus b (plus a c)
+plus-over a b c =
+    same_rows (plus a (plus b c)) (plus b (plus a c)) (omega arith) (omega arith) (omega arith) (omega arith) (omega arith) (omega arith) (omega arith) (omega arith)
+
 -- a sum that is zero has no part that isn't
 pub zero_part : (a b : Row) → plus a b ≡ zero_row → b ≡ zero_row
 zero_part a b h =
@@ -42,6 +47,19 @@ plus-cond false a r = plus-zero a
 -- a part of a sum that fits
 pub part_fits : (a b c d : Row) → Fits (plus a (plus (plus b c) d)) → Fits (plus (plus a b) c)
 part_fits a b c d h = record {
+  count = omega (arith, h.count);
+  local = omega (arith, h.local);
+  site_count = omega (arith, h.site_count);
+  site_work = omega (arith, h.site_work);
+  site_span = omega (arith, h.site_span);
+  caller_count = omega (arith, h.caller_count);
+  caller_work = omega (arith, h.caller_work);
+  caller_span = omega (arith, h.caller_span);
+}
+
+-- without a part that nothing is added to
+pub first_fits : (a b c : Row) → Fits (plus (plus a b) c) → Fits (plus a c)
+first_fits a b c h = record {
   count = omega (arith, h.count);
   local = omega (arith, h.local);
   site_count = omega (arith, h.site_count);

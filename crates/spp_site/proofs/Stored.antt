@@ -12,7 +12,7 @@ use Rattle.spp_site.specs.Rows.{is_zero}
 use Rattle.spp_site.specs.Table.{row_at, HasNoZeroRow, IsAdded}
 use Rattle.spp_site.specs.Slots.{blank, row_in, sites_of, stored, HasNoRow, IsPlaceOf}
 use Rattle.spp_site.specs.Laws.{RowsMakeTable}
-use Rattle.spp_site.proofs.Rows.{is_zero-true, plus-zero, zero-plus, plus-assoc, plus-swap, plus-cond, zero_part}
+use Rattle.spp_site.proofs.Rows.{is_zero-true, plus-zero, zero-plus, plus-assoc, plus-swap, plus-over, plus-cond, zero_part}
 
 -- ---- the map
 
@@ -130,6 +130,15 @@ row_in-place (x ∷ xs) (suc k) s at one =
     row_in-elsewhere x xs s (λ e. let z : 0 ≡ suc k = one 0 (omega arith, sym e) in absurd (omega arith))
     ∙ row_in-place xs k s (let l = at.0 in omega arith, at.1)
     (λ j p. let l = p.0 in let z : suc j ≡ suc k = one (suc j) (omega arith, p.1) in omega arith)
+
+-- one of the rows of a site, and the others
+pub row_in-part : (xs : List SiteRow) (k s : ℕ) → IsPlaceOf xs s k → (rest : Row) × (row_in xs s ≡ plus (get_or xs k blank).row rest)
+row_in-part [] k s at = absurd (let l = at.0 in omega arith)
+row_in-part (x ∷ xs) zero s at = (row_in xs s, ap (λ r. plus r (row_in xs s)) (part_here x s (sym at.1)))
+row_in-part (x ∷ xs) (suc k) s at =
+    let part = row_in-part xs k s (let l = at.0 in omega arith, at.1) in
+    let first : Row = cond (nat_eq s x.site) x.row zero_row in
+    (plus first part.0, ap (plus first) part.1 ∙ plus-over first (get_or xs k blank).row part.0)
 
 -- ---- tables
 

@@ -53,3 +53,10 @@ pub record IsIndexed (index : List ℕ) (rows : List SiteRow) : Type 0 where
   pub exact : (site : ℕ) → 0 < get_or index site 0 → IsPlaceOf rows site (get_or index site 0 - 1)
   pub inside : (k : ℕ) → k < length rows → (get_or rows k blank).site < length index
   pub small : length index ≤ 65536
+
+-- The hints have at a site the place of one of its rows, counted from 1, or 0; and they are no more than a trace can have
+-- sites. A site can have several rows, and rows that no hint tells of.
+pub record IsHinted (hints : List ℕ) (rows : List SiteRow) : Type 0 where
+  pub exact : (site : ℕ) → 0 < get_or hints site 0 → IsPlaceOf rows site (get_or hints site 0 - 1)
+  pub sites : AreOfSites rows
+  pub small : length hints ≤ 65536

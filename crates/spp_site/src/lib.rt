@@ -3,6 +3,7 @@
 #![tactic(auto)]
 
 mod closed_frame;
+mod hints;
 mod laws;
 mod marks;
 mod profile;

@@ -1,10 +1,10 @@
 //! The rows of a table in the order in which their sites came, and the index that finds them.
 
-ghost use Rattle.std.specs.Prelude.{◌≡◌, ℕ, ◌+◌, ◌≤◌, ◌<◌, ◌++◌, List, length, get_or, replicate, vec_capacity, MatchOption, OnOk, OnErr};
+ghost use Rattle.std.specs.Prelude.{◌≡◌, ℕ, ◌+◌, ◌≤◌, ◌<◌, ◌++◌, List, length, get_or, replicate, vec_capacity, IfSome, MatchOption, OnOk, OnErr};
 ghost use Rattle.spp_site.specs.declared.slots.SiteRow.{SiteRow as RowOfSite};
 ghost use Rattle.spp_dag.specs.Shares.{plus};
 ghost use Rattle.spp_site.specs.Rows.{Fits};
-ghost use Rattle.spp_site.specs.Slots.{blank, row_in, rows_alone, HasNoRow, IsPlaceOf, IsIndexed, AreReached, AreOfSites};
+ghost use Rattle.spp_site.specs.Slots.{blank, row_in, rows_alone, HasNoRow, IsPlaceOf, IsIndexed, IsHinted, AreReached, AreOfSites};
 ghost use Rattle.spp_site.specs.Table.{IsAdded, IsSum};
 
 use crate::row_sums::add_to;
@@ -18,10 +18,12 @@ pub(crate) struct SiteRow {
     pub(crate) site: u32,
 }
 
-/// The place of a site's row, or none where the site has no row.
+/// The place of a site's row, or none where the site has no row. Of hints it is the place of a row of the site, or none
+/// where no hint tells of one.
 #[inline(always)]
 pub(crate) fn place_of(index: &[u32], site: u32) -> Option<usize>
-    ensures { (rows : List RowOfSite) → IsIndexed index.now rows → MatchOption result (HasNoRow rows site) (IsPlaceOf rows site) }
+    ensures indexed { (rows : List RowOfSite) → IsIndexed index.now rows → MatchOption result (HasNoRow rows site) (IsPlaceOf rows site) }
+    ensures hinted { (rows : List RowOfSite) → IsHinted index.now rows → IfSome result (IsPlaceOf rows site) }
 {
     match index.get(site as usize) {
         None | Some(0) => None,
@@ -46,7 +48,7 @@ pub(crate) fn reach(index: &mut Vec<u32>, site: u32) -> Result<(), AllocError>
 }
 
 /// One past the greatest of the sites of these rows; 0 where there are none.
-fn reach_of(rows: &[SiteRow]) -> usize
+pub(crate) fn reach_of(rows: &[SiteRow]) -> usize
     requires { AreOfSites rows.now }
     ensures reached { (k : ℕ) → k < length rows.now → (get_or rows.now k blank).site < result }
     ensures small { result ≤ 65536 }

@@ -154,54 +154,22 @@ impl Table {
         self.add_all(share.root(), share.rows())
     }
 
-    /// Adds the rows of another table, whose sums with these must fit their types. It takes time linear in the other's
-    /// rows, besides a step, amortized, for each site number up to its greatest.
+    /// The table with the rows of a share, where the sums of a site's rows fit their types. It takes time and memory as
+    /// [`Table::absorb`].
     ///
     /// # Errors
     ///
-    /// Where room for its rows was refused; the table then has the rows that it had.
-    pub fn merge(&mut self, other: &Table) -> Result<(), AllocError>
-        requires root_fits { Fits (plus self.old.root other.now.root) }
-        requires sites_fit { (s : ℕ) → Fits (plus (row_at self.old s) (row_at other.now s)) }
-        ensures sums { OnOk result (IsSum self.old other.now self.new) }
-        ensures stays { OnErr result (self.new ≡ self.old) }
-        ensures no_zero_row { HasNoZeroRow self.new }
+    /// Where room for its rows was refused.
+    pub fn from_share(alloc: Global, share: &Share) -> Result<Table, AllocError>
+        requires root_fits { Fits share.now.root }
+        requires sites_fit { (s : ℕ) → Fits (row_at share.now s) }
+        ensures { IfOk result (λ t. t ≡ share.now) }
     {
-        self.add_all(&other.root, &other.rows)
-    }
-
-    /// Adds the rows of two other tables, the one to this table and the other to a second one, whose sums must fit their
-    /// types: both or neither. It takes the time of two merges.
-    ///
-    /// # Errors
-    ///
-    /// Where room for their rows was refused; both tables then have the rows that they had.
-    pub fn merge_both(
-        &mut self,
-        other: &Table,
-        second: &mut Table,
-        second_other: &Table,
-    ) -> Result<(), AllocError>
-        requires root_fits { Fits (plus self.old.root other.now.root) }
-        requires sites_fit { (s : ℕ) → Fits (plus (row_at self.old s) (row_at other.now s)) }
-        requires second_root_fits { Fits (plus second.old.root second_other.now.root) }
-        requires second_sites_fit { (s : ℕ) → Fits (plus (row_at second.old s) (row_at second_other.now s)) }
-        ensures sums { OnOk result (IsSum self.old other.now self.new) }
-        ensures second_sums { OnOk result (IsSum second.old second_other.now second.new) }
-        ensures stays { OnErr result (self.new ≡ self.old) }
-        ensures second_stays { OnErr result (second.new ≡ second.old) }
-    {
-        make_room(&mut self.index, &mut self.rows, &other.rows)?;
-        second.merge(second_other)?;
-        put_all(&mut self.index, &mut self.rows, &other.rows);
-        add_to(&mut self.root, &other.root);
-        Ok(())
-    }
-
-    /// How many sites have been added to: what it costs to add this table to another. Contracts say nothing of it, since
-    /// they don't see a row that is zero.
-    pub fn row_count(&self) -> usize {
-        self.rows.len()
+        let mut table = Table::new(alloc);
+        table.absorb(share)?;
+        // For what it states.
+        share.no_row_is_zero();
+        Ok(table)
     }
 
     /// Adds to the root's row, and these rows to those of their sites.
