@@ -1,4 +1,4 @@
--- The values of the tables of paths, joined.
+-- The values of the job of both paths, joined.
 use Rattle.std.proofs.Common.{◌≡◌, ℕ, ◌+◌, ◌<◌, ◌≤◌, Bool, List, ◌∷◌, length, get_or, Option, refl, sym, ap, subst, ◌∙◌}
 use Rattle.spp_event.specs.declared.records.Event.{Event}
 use Rattle.spp_event.specs.Recordings.{Recording}
@@ -11,7 +11,7 @@ use Rattle.spp_dag.specs.Rows.{contains}
 use Rattle.spp_dag.specs.Shares.{share, plus}
 use Rattle.spp_dag.proofs.Ties.{path_exists, path_unique}
 use Rattle.spp_site.specs.Rows.{Fits}
-use Rattle.spp_site.specs.Table.{Sums, empty, IsSum}
+use Rattle.spp_site.specs.Table.{Sums, IsSum}
 use Rattle.spp_site.specs.Profiles.{key_row}
 use Rattle.spp_path.specs.Parts.{IsPathShare}
 use Rattle.spp_book.specs.Jobs.{AreNeighbours, IsJoined, IsCopied}
@@ -21,7 +21,7 @@ use Rattle.spp_jobs.specs.Tables.{IsRun, begin}
 use Rattle.spp_jobs.specs.Paths.{IsPathedOf, IsPathed}
 use Rattle.spp_jobs.proofs.Spelling.{same_job}
 use Rattle.spp_jobs.proofs.Tables.{begin_rises, begins_at, ends_at, same_run}
-use Rattle.spp_jobs.proofs.Rows.{AreRows, rows_of, one_fits, one_rows, two_fit, two_rows}
+use Rattle.spp_jobs.proofs.Rows.{AreRows, rows_of, range_fits, two_fit, two_rows}
 use Rattle.spp_dag.proofs.Profiles.{spans_of, are_spans}
 
 -- ---- the share of a range on the path of a run under some burdens
@@ -47,11 +47,9 @@ module _ (cut : CutOf) (run : IsRun cut) (bd : Burdens) (root : ℕ) where
   unfolding on
   told_by from to t is = (spans_of run.events, are_spans run.events run.well_formed, (path.0, path.1, is))
 
-  pub one_share_fits : (from to : ℕ) (x : Sums) → IsPathShare run.events bd root from to x → (key : Option ℕ) → Fits (plus (key_row empty key) (key_row x key))
-  one_share_fits from to x told key = one_fits run.events run.well_formed root on run.small from to x (rows from to x told) key
-
-  pub one_share : (from to : ℕ) (x z : Sums) → IsPathShare run.events bd root from to x → IsSum empty x z → IsPathShare run.events bd root from to z
-  one_share from to x z told sum = told_by from to z (one_rows run.events run.well_formed root on run.small from to x z (rows from to x told) sum)
+  pub share_fits : (from to : ℕ) (t : Sums) → IsPathShare run.events bd root from to t → (key : Option ℕ) → Fits (key_row t key)
+  unfolding on
+  share_fits from to t told key = subst Fits (sym (rows from to t told key)) (range_fits run.events run.well_formed root on run.small from to key)
 
   pub shares_fit : (from mid to : ℕ) → from ≤ mid → mid ≤ to → (x y : Sums) → IsPathShare run.events bd root from mid x → IsPathShare run.events bd root mid to y
       → (key : Option ℕ) → Fits (plus (key_row x key) (key_row y key))
@@ -74,11 +72,13 @@ module _ (cut : CutOf) (h : IsCut cut) (run : IsRun cut) (bd : Burdens) (k : ℕ
       (subst (λ (t : Recording). IsPathShare run.events bd t.root p.first (p.first + p.count) x) trace
       (told run.events (subst (λ (t : Recording). AreEvents t.records run.events) (sym trace) run.are_events))))
 
-  pub path_fits : (key : Option ℕ) → Fits (plus (key_row empty key) (key_row x key))
-  path_fits key = one_share_fits cut run bd cut.trace.root (begin cut k) (begin cut (k + 1)) x of_part key
+-- ---- what can be put into a table
 
-  pub path_one : (z : Sums) → IsSum empty x z → IsPathShare run.events bd cut.trace.root (begin cut k) (begin cut (k + 1)) z
-  path_one z sum = one_share cut run bd cut.trace.root (begin cut k) (begin cut (k + 1)) x z of_part sum
+pub path_fits : (a : JobOf) (i k : ℕ) (c : Pathed) → IsPathedOf a i k c → (key : Option ℕ) → Fits (key_row c.path key)
+path_fits a i k c of key = share_fits a.cut of.run unburdened a.cut.trace.root (begin a.cut i) (begin a.cut k) c.path of.path key
+
+pub burdened_path_fits : (a : JobOf) (i k : ℕ) (c : Pathed) → IsPathedOf a i k c → (key : Option ℕ) → Fits (key_row c.burdened_path key)
+burdened_path_fits a i k c of key = share_fits a.cut of.run a.burdens a.cut.trace.root (begin a.cut i) (begin a.cut k) c.burdened_path of.burdened key
 
 -- ---- two values
 

@@ -1,5 +1,5 @@
 -- Rows of neighbouring ranges, added up.
-use Rattle.std.proofs.Common.{◌≡◌, ℕ, ◌≤◌, Bool, List, Option, Some, None, sym, ap, ap₂, subst, ◌∙◌, add_comm}
+use Rattle.std.proofs.Common.{◌≡◌, ℕ, ◌≤◌, Bool, List, Option, Some, None, sym, ap₂, subst, ◌∙◌, add_comm}
 use Rattle.spp_event.specs.declared.records.Event.{Event}
 use Rattle.spp_dag.specs.declared.row.Row.{Row}
 use Rattle.spp_dag.specs.Trace.{IsWellFormed}
@@ -10,10 +10,8 @@ use Rattle.spp_dag.proofs.Bounds.{rows_fit}
 use Rattle.spp_dag.proofs.Profiles.{shares_one, spans_of, are_spans}
 use Rattle.spp_dag.proofs.Shares.{same_rows, shares_law}
 use Rattle.spp_site.specs.Rows.{Fits}
-use Rattle.spp_site.specs.Table.{Sums, empty, row_at, IsSum}
+use Rattle.spp_site.specs.Table.{Sums, row_at, IsSum}
 use Rattle.spp_site.specs.Profiles.{key_row}
-use Rattle.spp_site.proofs.Rows.{zero-plus}
-use Rattle.spp_pass.proofs.Bounded.{empty_rows}
 use Rattle.spp_jobs.proofs.Shares.{small_fits}
 
 -- ---- sums of two
@@ -29,13 +27,9 @@ sum_turned a b t h = record {
   sites = λ s. h.sites s ∙ plus-comm (row_at b s) (row_at a s);
 }
 
--- with the empty table
 pub sum_key : (a b t : Sums) → IsSum a b t → (key : Option ℕ) → key_row t key ≡ plus (key_row a key) (key_row b key)
 sum_key a b t h None = h.root
 sum_key a b t h (Some s) = h.sites s
-
-pub empty_key : (b : Sums) (key : Option ℕ) → plus (key_row empty key) (key_row b key) ≡ key_row b key
-empty_key b key = ap (λ (r : Row). plus r (key_row b key)) (empty_rows key) ∙ zero-plus (key_row b key)
 
 -- ---- the share of a range
 
@@ -57,13 +51,6 @@ module _ (es : List Event) (wf : IsWellFormed es) (root : ℕ) (on : ℕ → Boo
   module _ (small : IsSmall es) where
     pub range_fits : (from to : ℕ) (key : Option ℕ) → Fits (share es root (spans_of es) on key from to)
     range_fits from to key = small_fits _ ((rows_fit es small root (spans_of es) (are_spans es wf) on key).1 from to)
-
-    -- one share, added to the empty table
-    pub one_fits : (from to : ℕ) (x : Sums) → AreRows es root on from to x → (key : Option ℕ) → Fits (plus (key_row empty key) (key_row x key))
-    one_fits from to x rows key = subst Fits (sym (empty_key x key ∙ rows key)) (range_fits from to key)
-
-    pub one_rows : (from to : ℕ) (x z : Sums) → AreRows es root on from to x → IsSum empty x z → AreRows es root on from to z
-    one_rows from to x z rows sum key = sum_key empty x z sum key ∙ empty_key x key ∙ rows key
 
     module _ (from mid to : ℕ) (low : from ≤ mid) (high : mid ≤ to) (x y : Sums) (left : AreRows es root on from mid x) (right : AreRows es root on mid to y) where
       both_rows : (key : Option ℕ) → plus (key_row x key) (key_row y key) ≡ share es root (spans_of es) on key from to

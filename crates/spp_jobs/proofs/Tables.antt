@@ -1,4 +1,4 @@
--- The values of tables, joined.
+-- The values of the job of the whole dag, joined.
 use Rattle.std.proofs.Common.{◌≡◌, ℕ, ◌+◌, ◌<◌, ◌≤◌, List, [], ◌∷◌, ◌++◌, length, get_or, Option, refl, sym, ap, subst, ◌∙◌, arith}
 use Rattle.spp_event.specs.declared.records.Event.{Event}
 use Rattle.spp_event.specs.Recordings.{Recording, InLimits, AreEventsOf}
@@ -13,7 +13,7 @@ use Rattle.spp_dag.specs.Shares.{plus}
 use Rattle.spp_dag.specs.Trace.{IsWellFormed}
 use Rattle.spp_dag.proofs.EventsOfRecords.{same_events, known_small}
 use Rattle.spp_site.specs.Rows.{Fits}
-use Rattle.spp_site.specs.Table.{Sums, empty, IsSum}
+use Rattle.spp_site.specs.Table.{Sums, IsSum}
 use Rattle.spp_site.specs.Profiles.{key_row}
 use Rattle.spp_pass.specs.Shares.{IsShare, IsPartOf}
 use Rattle.spp_jobs.specs.Choices.{AreChoicesOf}
@@ -23,7 +23,7 @@ use Rattle.spp_jobs.specs.Names.{tables, JobOf, spell, parts_in, parts_from, IsN
 use Rattle.spp_jobs.specs.Tables.{AreSame, IsRun, begin, IsTabledOf, IsTabled}
 use Rattle.spp_jobs.proofs.Spelling.{same_job}
 use Rattle.spp_jobs.proofs.Cuts.{ranges_join, range_one, events_to, begins}
-use Rattle.spp_jobs.proofs.Rows.{AreRows, rows_of, range_of, one_fits, one_rows, two_fit, two_rows}
+use Rattle.spp_jobs.proofs.Rows.{AreRows, rows_of, range_of, range_fits, two_fit, two_rows}
 
 -- ---- where parts begin
 
@@ -102,20 +102,20 @@ module _ (a : JobOf) (h : IsCut a.cut) (run : IsRun a.cut) (k : ℕ) (p : PartOf
   in_part : AreChoicesIn run.events a.burdens p.first (p.first + p.count) chosen
   in_part = (told run.events (subst (λ (t : Recording). AreEvents t.records run.events) (sym trace) run.are_events)).choices
 
-  rows : AreRows run.events a.cut.trace.root everywhere (begin a.cut k) (begin a.cut (k + 1)) share
-  rows = rows_of run.events run.well_formed a.cut.trace.root everywhere (begin a.cut k) (begin a.cut (k + 1)) share of_part.table
-
-  pub part_fits : (key : Option ℕ) → Fits (plus (key_row empty key) (key_row share key))
-  part_fits key = one_fits run.events run.well_formed a.cut.trace.root everywhere run.small (begin a.cut k) (begin a.cut (k + 1)) share rows key
-
-  pub tabled_one : (c : Tabled) → IsSum empty share c.table → c.choices.items ≡ chosen ∷ [] → IsTabledOf a k (k + 1) c
-  tabled_one c sum choices = record {
+  pub tabled_one : (c : Tabled) → c.share ≡ share → c.choices.items ≡ chosen ∷ [] → IsTabledOf a k (k + 1) c
+  tabled_one c same choices = record {
     run = run;
-    rows = range_of run.events run.well_formed a.cut.trace.root everywhere (begin a.cut k) (begin a.cut (k + 1)) c.table
-        (one_rows run.events run.well_formed a.cut.trace.root everywhere run.small (begin a.cut k) (begin a.cut (k + 1)) share c.table rows sum);
+    rows = subst (λ (t : Sums). IsShare run.events a.cut.trace.root (begin a.cut k) (begin a.cut (k + 1)) t) (sym same) of_part.table;
     choices = subst (λ ps. AreChoicesOf run.events a.burdens ps c.choices.items) (sym (range_one a.cut.parts k p lt is))
         (subst (λ cs. AreChoicesOf run.events a.burdens (p ∷ []) cs) (sym choices) (in_part, tt));
   }
+
+-- ---- what can be put into a table
+
+pub tabled_fits : (a : JobOf) (i k : ℕ) (c : Tabled) → IsTabledOf a i k c → (key : Option ℕ) → Fits (key_row c.share key)
+tabled_fits a i k c of key =
+    subst Fits (sym (rows_of of.run.events of.run.well_formed a.cut.trace.root everywhere (begin a.cut i) (begin a.cut k) c.share of.rows key))
+    (range_fits of.run.events of.run.well_formed a.cut.trace.root everywhere of.run.small (begin a.cut i) (begin a.cut k) key)
 
 -- ---- two values
 
@@ -123,29 +123,29 @@ module _ (a : JobOf) (i j k : ℕ) (low : i < j) (high : j < k) (left right : Ta
   es : List Event
   es = of_left.run.events
 
-  of_left_rows : AreRows of_left.run.events a.cut.trace.root everywhere (begin a.cut i) (begin a.cut j) left.table
-  of_left_rows = rows_of of_left.run.events of_left.run.well_formed a.cut.trace.root everywhere (begin a.cut i) (begin a.cut j) left.table of_left.rows
+  of_left_rows : AreRows of_left.run.events a.cut.trace.root everywhere (begin a.cut i) (begin a.cut j) left.share
+  of_left_rows = rows_of of_left.run.events of_left.run.well_formed a.cut.trace.root everywhere (begin a.cut i) (begin a.cut j) left.share of_left.rows
 
-  of_right_share : IsShare of_left.run.events a.cut.trace.root (begin a.cut j) (begin a.cut k) right.table
-  of_right_share = subst (λ es. IsShare es a.cut.trace.root (begin a.cut j) (begin a.cut k) right.table) (same_run a.cut of_left.run of_right.run) of_right.rows
+  of_right_share : IsShare of_left.run.events a.cut.trace.root (begin a.cut j) (begin a.cut k) right.share
+  of_right_share = subst (λ es. IsShare es a.cut.trace.root (begin a.cut j) (begin a.cut k) right.share) (same_run a.cut of_left.run of_right.run) of_right.rows
 
-  of_right_rows : AreRows of_left.run.events a.cut.trace.root everywhere (begin a.cut j) (begin a.cut k) right.table
-  of_right_rows = rows_of of_left.run.events of_left.run.well_formed a.cut.trace.root everywhere (begin a.cut j) (begin a.cut k) right.table of_right_share
+  of_right_rows : AreRows of_left.run.events a.cut.trace.root everywhere (begin a.cut j) (begin a.cut k) right.share
+  of_right_rows = rows_of of_left.run.events of_left.run.well_formed a.cut.trace.root everywhere (begin a.cut j) (begin a.cut k) right.share of_right_share
 
   of_right_choices : AreChoicesOf of_left.run.events a.burdens (parts_from a.cut j k) right.choices.items
   of_right_choices = subst (λ es. AreChoicesOf es a.burdens (parts_from a.cut j k) right.choices.items) (same_run a.cut of_left.run of_right.run) of_right.choices
 
-  pub tables_fit : (key : Option ℕ) → Fits (plus (key_row left.table key) (key_row right.table key))
-  tables_fit key =
+  pub shares_fit : (key : Option ℕ) → Fits (plus (key_row left.share key) (key_row right.share key))
+  shares_fit key =
       two_fit of_left.run.events of_left.run.well_formed a.cut.trace.root everywhere of_left.run.small (begin a.cut i) (begin a.cut j) (begin a.cut k)
-      (begin_rises a.cut i j low) (begin_rises a.cut j k high) left.table right.table of_left_rows of_right_rows key
+      (begin_rises a.cut i j low) (begin_rises a.cut j k high) left.share right.share of_left_rows of_right_rows key
 
-  pub tabled_joined : (both : Tabled) → IsSum left.table right.table both.table → both.choices.items ≡ left.choices.items ++ right.choices.items → IsTabledOf a i k both
+  pub tabled_joined : (both : Tabled) → IsSum left.share right.share both.share → both.choices.items ≡ left.choices.items ++ right.choices.items → IsTabledOf a i k both
   tabled_joined both sum choices = record {
     run = of_left.run;
-    rows = range_of of_left.run.events of_left.run.well_formed a.cut.trace.root everywhere (begin a.cut i) (begin a.cut k) both.table
+    rows = range_of of_left.run.events of_left.run.well_formed a.cut.trace.root everywhere (begin a.cut i) (begin a.cut k) both.share
         (two_rows of_left.run.events of_left.run.well_formed a.cut.trace.root everywhere of_left.run.small (begin a.cut i) (begin a.cut j) (begin a.cut k)
-        (begin_rises a.cut i j low) (begin_rises a.cut j k high) left.table right.table of_left_rows of_right_rows both.table sum);
+        (begin_rises a.cut i j low) (begin_rises a.cut j k high) left.share right.share of_left_rows of_right_rows both.share sum);
     choices =
         subst (λ ps. AreChoicesOf of_left.run.events a.burdens ps both.choices.items) (ranges_join a.cut.parts i j k low high)
         (subst (λ cs. AreChoicesOf of_left.run.events a.burdens (parts_from a.cut i j ++ parts_from a.cut j k) cs) (sym choices)
@@ -156,12 +156,12 @@ module _ (a : JobOf) (i j k : ℕ) (low : i < j) (high : j < k) (left right : Ta
 same_tabled : (name : List ℕ) (a : JobOf) → IsNamed tables name a → (j k : ℕ) (c : Tabled) → IsTabled name j k c → IsTabledOf a j k c
 same_tabled name a named j k c v = subst (λ x. IsTabledOf x j k c) (same_job tables name v.0 a v.1 named) v.2
 
-pub neighbours_fit : (left right : Tabled) → AreNeighbours parts_in IsTabled left right → (key : Option ℕ) → Fits (plus (key_row left.table key) (key_row right.table key))
+pub neighbours_fit : (left right : Tabled) → AreNeighbours parts_in IsTabled left right → (key : Option ℕ) → Fits (plus (key_row left.share key) (key_row right.share key))
 neighbours_fit left right n key =
     let a = n.7.0 in
-    tables_fit a n.1 n.2 n.3 n.4 n.5 left right n.7.2 (same_tabled n.0 a n.7.1 n.2 n.3 right n.8) key
+    shares_fit a n.1 n.2 n.3 n.4 n.5 left right n.7.2 (same_tabled n.0 a n.7.1 n.2 n.3 right n.8) key
 
-pub neighbours_tabled : (left right both : Tabled) → IsSum left.table right.table both.table → both.choices.items ≡ left.choices.items ++ right.choices.items
+pub neighbours_tabled : (left right both : Tabled) → IsSum left.share right.share both.share → both.choices.items ≡ left.choices.items ++ right.choices.items
     → IsJoined parts_in IsTabled left right both
 neighbours_tabled left right both sum choices name i j k low high most of_left of_right =
     let a = of_left.0 in (
@@ -171,7 +171,7 @@ neighbours_tabled left right both sum choices name i j k low high most of_left o
     )
 
 -- the same table and the same choices are the same value
-pub tabled_again : (c d : Tabled) → d.table ≡ c.table → AreSame c.choices.items d.choices.items → IsCopied IsTabled c d
+pub tabled_again : (c d : Tabled) → d.share ≡ c.share → AreSame c.choices.items d.choices.items → IsCopied IsTabled c d
 tabled_again c d table choices name i k v = (
   v.0,
   v.1,
@@ -183,7 +183,7 @@ tabled_again c d table choices name i k v = (
 )
 
 -- the same where the list has moved
-pub tabled_moved : (c d : Tabled) → d.table ≡ c.table → d.choices.items ≡ c.choices.items → IsCopied IsTabled c d
+pub tabled_moved : (c d : Tabled) → d.share ≡ c.share → d.choices.items ≡ c.choices.items → IsCopied IsTabled c d
 tabled_moved c d table choices name i k v = (
   v.0,
   v.1,

@@ -1,4 +1,4 @@
--- The value of the job that fills the tables of both paths.
+-- The value of the job that counts frames on both paths.
 use Rattle.std.specs.Prelude.{◌≡◌, ℕ, List, length}
 use Rattle.spp_cut.specs.Parts.{CutOf}
 use Rattle.spp_maxplus.specs.declared.state.Burdens.{Burdens}

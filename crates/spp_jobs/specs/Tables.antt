@@ -1,4 +1,4 @@
--- The value of the job that fills the table of the whole dag.
+-- The value of the job that counts frames on the whole dag.
 use Rattle.std.specs.Prelude.{◌≡◌, ℕ, List, [], ◌∷◌, take}
 use Rattle.spp_event.specs.declared.records.Event.{Event}
 use Rattle.spp_frame.specs.Nesting.{AreEvents}
@@ -28,7 +28,7 @@ begin cut k = events_in (take k cut.parts)
 -- of the parts from number i up to, not including, k the share in the rows on the whole dag, and the choices
 pub record IsTabledOf (j : JobOf) (i k : ℕ) (c : Tabled) : Type 0 where
   pub run : IsRun j.cut
-  pub rows : IsShare run.events j.cut.trace.root (begin j.cut i) (begin j.cut k) c.table
+  pub rows : IsShare run.events j.cut.trace.root (begin j.cut i) (begin j.cut k) c.share
   pub choices : AreChoicesOf run.events j.burdens (parts_from j.cut i k) c.choices.items
 
 -- the same for the job of that name

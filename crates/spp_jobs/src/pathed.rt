@@ -12,12 +12,11 @@ ghost use Rattle.spp_jobs.specs.Names.{spell, paths, parts_in, range_in};
 ghost use Rattle.spp_jobs.specs.Paths.{IsPathed, IsSettledOver};
 ghost use Rattle.spp_jobs.specs.Tables.{IsRun};
 
-use crate::adding::{summed, table_of};
 use spp_book::{Job, JoinRefused};
 use spp_cut::Cut;
 use spp_maxplus::Burdens;
 use spp_path::{Settled, part_rows};
-use spp_site::Table;
+use spp_site::Share;
 use spp_stack::Entries;
 use std::alloc::{AllocError, Global};
 use std::marker::Model;
@@ -26,20 +25,20 @@ use std::marker::Model;
 #[derive(Drop)]
 pub struct Pathed {
     /// On the path without burdens.
-    pub path: Table,
+    pub path: Share,
     /// On the path under the burdens.
-    pub burdened_path: Table,
+    pub burdened_path: Share,
 }
 
 impl Pathed {
-    /// How many rows both tables have.
+    /// How many rows both shares have.
     fn row_count(&self) -> usize {
         self.path
             .row_count()
             .saturating_add(self.burdened_path.row_count())
     }
 
-    /// Adds the tables of others to these, both or neither.
+    /// Adds the shares of others to these, both or neither.
     fn add(&mut self, others: &Pathed) -> Result<(), AllocError>
         requires path { (key : Option ℕ) → Fits (plus (key_row self.old.path key) (key_row others.now.path key)) }
         requires burdened { (key : Option ℕ) → Fits (plus (key_row self.old.burdened_path key) (key_row others.now.burdened_path key)) }
@@ -133,12 +132,12 @@ impl<'c, 't, 'a> Job for PathJob<'c, 't, 'a> {
         let path = part_rows(alloc, part, self.stacks.entry(at), self.path)?;
         let burdened_path = part_rows(alloc, part, self.stacks.entry(at), self.burdened)?;
         Ok(Pathed {
-            path: table_of(alloc, &path)?,
-            burdened_path: table_of(alloc, &burdened_path)?,
+            path,
+            burdened_path,
         })
     }
 
-    /// The time is that of adding the tables of one side to those of the other, which have at least as many rows.
+    /// The time is that of adding the shares of one side to those of the other, which have at least as many rows.
     fn join(_alloc: Global, left: Pathed, right: Pathed) -> Result<Pathed, JoinRefused<Pathed>>
         requires { AreNeighbours parts_in IsPathed left right }
         ensures joined { IfOk result (λ c. IsJoined parts_in IsPathed left right c) }
@@ -162,8 +161,8 @@ impl<'c, 't, 'a> Job for PathJob<'c, 't, 'a> {
         ensures { IfOk result (λ c. IsCopied IsPathed content.now c) }
     {
         Ok(Pathed {
-            path: Table::copy(alloc, &content.path)?,
-            burdened_path: Table::copy(alloc, &content.burdened_path)?,
+            path: Share::copy(alloc, &content.path)?,
+            burdened_path: Share::copy(alloc, &content.burdened_path)?,
         })
     }
 }

@@ -7,14 +7,14 @@ ghost use Rattle.spp_jobs.specs.Names.{spell, tables, parts_in, range_in};
 ghost use Rattle.spp_dag.specs.declared.choices.Choices.{Choices as ChoicesValue};
 ghost use Rattle.spp_jobs.specs.Tables.{AreSame, IsTabled};
 
-use crate::adding::{summed, table_of};
+use crate::adding::summed;
 use crate::lists::{chained, make_room};
 use spp_book::{Job, JoinRefused};
 use spp_cut::Cut;
 use spp_dag::Choices;
 use spp_maxplus::Burdens;
 use spp_pass::run_part;
-use spp_site::Table;
+use spp_site::Share;
 use spp_stack::Entries;
 use std::alloc::{AllocError, Global};
 use std::collections::VecDeque;
@@ -24,7 +24,7 @@ use std::marker::Model;
 #[derive(Drop)]
 pub struct Tabled {
     /// Their share in the rows on the whole dag.
-    pub table: Table,
+    pub share: Share,
     /// The choices in each part, in order.
     pub choices: VecDeque<Choices>,
 }
@@ -115,13 +115,15 @@ impl<'c, 't, 'a> Job for TableJob<'c, 't, 'a> {
         let at = number as usize;
         let part = &self.cut.parts()[at];
         let told = run_part(alloc, part, self.stacks.entry(at), self.burdens)?;
-        let table = table_of(alloc, &told.share)?;
         let mut choices = VecDeque::with_capacity(alloc, 1)?;
         choices.push_back(told.choices)?;
-        Ok(Tabled { table, choices })
+        Ok(Tabled {
+            share: told.share,
+            choices,
+        })
     }
 
-    /// The time is that of adding the smaller of the two tables to the other, and of moving the shorter of the two lists.
+    /// The time is that of adding the share with fewer rows to the other, and of moving the shorter of the two lists.
     fn join(_alloc: Global, left: Tabled, right: Tabled) -> Result<Tabled, JoinRefused<Tabled>>
         requires { AreNeighbours parts_in IsTabled left right }
         ensures joined { IfOk result (λ c. IsJoined parts_in IsTabled left right c) }
@@ -132,18 +134,18 @@ impl<'c, 't, 'a> Job for TableJob<'c, 't, 'a> {
         if make_room(&mut left.choices, &mut right.choices).is_err() {
             return Err(JoinRefused { left, right });
         }
-        match summed(left.table, right.table) {
-            Ok(table) => Ok(Tabled {
-                table,
+        match summed(left.share, right.share) {
+            Ok(share) => Ok(Tabled {
+                share,
                 choices: chained(left.choices, right.choices),
             }),
             Err(refused) => Err(JoinRefused {
                 left: Tabled {
-                    table: refused.left,
+                    share: refused.left,
                     choices: left.choices,
                 },
                 right: Tabled {
-                    table: refused.right,
+                    share: refused.right,
                     choices: right.choices,
                 },
             }),
@@ -158,7 +160,7 @@ impl<'c, 't, 'a> Job for TableJob<'c, 't, 'a> {
         push_copies(alloc, &mut choices, front)?;
         push_copies(alloc, &mut choices, back)?;
         Ok(Tabled {
-            table: Table::copy(alloc, &content.table)?,
+            share: Share::copy(alloc, &content.share)?,
             choices,
         })
     }
