@@ -1,7 +1,8 @@
 -- What the rounds of tables and of paths tell of a cut trace.
-use Rattle.std.proofs.Common.{◌≡◌, List, ◌∷◌, length, Result, Ok, Err, IfOk, refl, sym, ap, subst, ◌∙◌}
+use Rattle.std.proofs.Common.{◌≡◌, ℕ, Bool, List, ◌∷◌, length, Result, Ok, Err, IfOk, refl, sym, ap, subst, ◌∙◌}
 use Rattle.std.proofs.Math.Seq.{take-length}
 use Rattle.spp_event.specs.declared.records.Event.{Event}
+use Rattle.spp_event.specs.Recordings.{Recording}
 use Rattle.spp_frame.specs.Nesting.{AreEvents}
 use Rattle.spp_cut.specs.Parts.{PartOf, CutOf, IsCut, HasFewParts, events_in}
 use Rattle.spp_cut.proofs.Halves.{all_events}
@@ -37,16 +38,20 @@ if_ok (Err e) f p = tt
 begin_all : (cut : CutOf) → IsCut cut → begin cut (length cut.parts) ≡ length cut.trace.records
 begin_all cut h = ap (λ (ps : List PartOf). events_in ps) (take-length cut.parts) ∙ all_events cut h
 
+-- the rows of a table that was made of a share
+pub rows_again : (P : List Event → (ℕ → Bool) → Type 0) (t : Recording) (n : ℕ) (share table : Sums) → table ≡ share → AreRowsTo P t n share → AreRowsTo P t n table
+rows_again P t n share table same rows = subst (λ x. AreRowsTo P t n x) (sym same) rows
+
 module _ (a : JobOf) (h : IsCut a.cut) where
   -- the rows on the whole dag
-  pub dag_rows : (c : Tabled) → IsTabledOf a 0 (length a.cut.parts) c → AreRowsTo Everywhere a.cut.trace (length a.cut.trace.records) c.table
+  pub dag_rows : (c : Tabled) → IsTabledOf a 0 (length a.cut.parts) c → AreRowsTo Everywhere a.cut.trace (length a.cut.trace.records) c.share
   dag_rows c of es are wf on counts key =
       let n = length a.cut.trace.records in
       let run : IsRun a.cut = of.run in
       let same : run.events ≡ es = same_events run.events es (sym run.are_events ∙ are) in
-      let told : IsShare es a.cut.trace.root 0 n c.table =
-      subst (λ e. IsShare es a.cut.trace.root 0 e c.table) (begin_all a.cut h) (subst (λ es. IsShare es a.cut.trace.root 0 (begin a.cut (length a.cut.parts)) c.table) same of.rows) in
-      rows_of es wf a.cut.trace.root everywhere 0 n c.table told key ∙ ap (λ o. share es a.cut.trace.root (spans_of es) o key 0 n) (sym counts)
+      let told : IsShare es a.cut.trace.root 0 n c.share =
+      subst (λ e. IsShare es a.cut.trace.root 0 e c.share) (begin_all a.cut h) (subst (λ es. IsShare es a.cut.trace.root 0 (begin a.cut (length a.cut.parts)) c.share) same of.rows) in
+      rows_of es wf a.cut.trace.root everywhere 0 n c.share told key ∙ ap (λ o. share es a.cut.trace.root (spans_of es) o key 0 n) (sym counts)
 
   -- the rows on a path
   path_rows_to : (run : IsRun a.cut) (bd : Burdens) (t : Sums) → IsPathShare run.events bd a.cut.trace.root 0 (begin a.cut (length a.cut.parts)) t

@@ -140,9 +140,10 @@ fn mark_halves<R: Threads + Wait + Sync, G: Gate>(
 /// marked.
 ///
 /// Each event is read three times: for the summaries, for the choices, and for the marks, where each worker has a run of
-/// neighbouring parts. The memory is linear in the numbers of parts, of the frames that are open where parts begin or that
-/// parts close and don't open, and of spawned children, in the most frames that are open at a time within a part, and, for
-/// each worker, in the numbers of sites and of functions; a thread has a stack of its own besides.
+/// neighbouring parts. The memory is linear in the numbers of parts, of the sites that each of them has rows of, of the
+/// frames that are open where parts begin or that parts close and don't open, and of spawned children, in the most frames
+/// that are open at a time within a part, and, for each worker, in the numbers of sites and of functions; a thread has a
+/// stack of its own besides.
 ///
 /// # Errors
 ///

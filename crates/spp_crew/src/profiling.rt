@@ -25,7 +25,7 @@ use spp_frame::ProfileFault;
 use spp_jobs::{PathJob, Pathed, TableJob, Tabled, entries_of};
 use spp_maxplus::Burdens;
 use spp_path::{Settled, Under, settle};
-use spp_site::{ClosedFrame, Profile};
+use spp_site::{ClosedFrame, Profile, Table};
 use spp_stack::Entries;
 use std::alloc::{AllocError, Global};
 use std::sync::Wait;
@@ -144,10 +144,10 @@ fn pathed<R: Threads + Wait + Sync, G: Gate>(
 ///
 /// Each event is read four times: for the summaries, for the table of the dag, and for that of each path. All workers
 /// together take a time linear in the number of events, besides, for each part, the numbers of sites and of functions. The
-/// joins of what comes of the parts are made one at a time. The memory is linear in the numbers of parts, of the frames that
-/// they leave open or close and don't open, and of spawned children, in the most frames that are open at a time within a
-/// part, and, for each worker, in the numbers of sites and of functions; a thread has a stack of its own besides. The work
-/// is below 2^92.
+/// joins of what comes of the parts are made one at a time. The memory is linear in the numbers of parts, of the sites that
+/// each of them has rows of, of the frames that they leave open or close and don't open, and of spawned children, in the
+/// most frames that are open at a time within a part, and, for each worker, in the numbers of sites and of functions; a
+/// thread has a stack of its own besides. The work is below 2^92.
 ///
 /// # Errors
 ///
@@ -177,18 +177,15 @@ pub fn profile<R: Threads + Wait + Sync, G: Gate>(
     let figures = found.whole;
     let stacks = entries_of(alloc, cut, &found.each)?;
     drop(found.each);
-    let Tabled { table, choices } = tabled(rt, alloc, cut, &stacks, workers, burdens, gate)?;
+    let Tabled { share, choices } = tabled(rt, alloc, cut, &stacks, workers, burdens, gate)?;
     let choices = choices.into_vec();
-    let Pathed {
-        path,
-        burdened_path,
-    } = pathed(rt, alloc, cut, &stacks, &choices, workers, burdens, gate)?;
+    let on_paths = pathed(rt, alloc, cut, &stacks, &choices, workers, burdens, gate)?;
     let root = root_row(&figures);
-    let mut dag = table;
+    let mut dag = Table::from_share(alloc, &share)?;
     dag.add_root(&root);
-    let mut path = path;
+    let mut path = Table::from_share(alloc, &on_paths.path)?;
     path.add_root(&root);
-    let mut burdened_path = burdened_path;
+    let mut burdened_path = Table::from_share(alloc, &on_paths.burdened_path)?;
     burdened_path.add_root(&root);
     Ok(Profile {
         figures,
