@@ -32,6 +32,8 @@ pub mod Beginning
 pub mod Lifted
 pub mod PartPass
 pub mod Ending
+pub mod Staying
+pub mod Counting
 pub mod Placed
 pub mod MarkSteps
 pub mod MarkPass

@@ -81,7 +81,7 @@ module _ (trace : Recording) (known : Known trace) (eb : Burdens) (first : ℕ) 
   same_es : (es : List Event) → AreEvents trace.records es → stands.0 ≡ es
   same_es es are = same_events stands.0 es (sym stands.1 ∙ are)
 
-  entry_of : (es : List Event) → AreEvents trace.records es → IsEntry es eb trace.root first stands.3.0 all.work
+  pub entry_of : (es : List Event) → AreEvents trace.records es → IsEntry es eb trace.root first stands.3.0 all.work
   entry_of es are = subst (λ (x : List Event). IsEntry x eb trace.root first stands.3.0 all.work) (same_es es are) stands.3.1
 
   pub begun_spans : (outside : Option StackOf) (s : List OpenSpan) → ((f : EntryFrame) (fs : List EntryFrame) → HasFrames all (f ∷ fs) → s ≡ entered_span f ∷ [])
@@ -101,7 +101,7 @@ module _ (trace : Recording) (known : Known trace) (eb : Burdens) (first : ℕ) 
     abbrev Going : List Event → Burdens → Type 0
     Going = Goes first end all live trail spawns
 
-    begun_with : (f : EntryFrame) (fs : List EntryFrame) → HasFrames live (f ∷ fs) → (t : Told) → IsBegun f fs live.work trail t → Kept trace eb first Going first (with_outside (path_frames fs) t)
+    pub begun_with : (f : EntryFrame) (fs : List EntryFrame) → HasFrames live (f ∷ fs) → (t : Told) → IsBegun f fs live.work trail t → Kept trace eb first Going first (with_outside (path_frames fs) t)
     begun_with f fs h t b es are wf span sp bd p rest path =
         begun_summed es wf small trace.root eb span sp bd rest path first upto p.outs f fs trail.running live.work t entry
         (subst (λ (l : List EntryFrame). AreFlags es bd first (p.outs ++ l) (flags_of p.outs trail.running l)) one p.flags)

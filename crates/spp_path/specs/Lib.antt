@@ -9,4 +9,5 @@ pub mod Spans
 pub mod Rows
 pub mod Outside
 pub mod Parts
+pub mod Beside
 pub mod Marks

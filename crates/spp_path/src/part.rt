@@ -1,10 +1,13 @@
-//! The rows of a part of a run on a path: one reading of the events of the part.
+//! The rows of a part of a run on a path: one reading of the events of the part, behind a lighter one that finds out
+//! whether the path comes to the part at all.
 
-ghost use Rattle.std.specs.Prelude.{◌≡◌, ◌+◌, List, IfOk};
+ghost use Rattle.std.specs.Prelude.{◌≡◌, ◌+◌, ◌<◌, ◌↔◌, ℕ, List, IfOk, IsOk, IsTrue};
 ghost use Rattle.spp_event.specs.declared.records.Event.{Event as AnEvent};
+ghost use Rattle.spp_event.specs.Recordings.{record_at};
 ghost use Rattle.spp_frame.specs.Nesting.{AreEvents};
 ghost use Rattle.spp_maxplus.specs.declared.state.Burdens.{Burdens};
 ghost use Rattle.spp_path.specs.Outside.{HasEntry};
+ghost use Rattle.spp_path.specs.Beside.{StaysBeside};
 ghost use Rattle.spp_path.specs.Parts.{GoesOn, IsPlaced, IsSettledIn, IsPathShare};
 
 use crate::entered::Entered;
@@ -15,18 +18,20 @@ use crate::trail::Trail;
 use spp_cut::Part;
 use spp_dag::FrameKind;
 use spp_event::Event;
-use spp_site::Share;
+use spp_site::{Share, Table};
 use spp_stack::Entry;
 use std::alloc::{AllocError, Global};
 
 /// The share of a part in the table of a path that was settled, where `entry` has the frames that are open before the part:
 /// the path's strands in the part, and its frames that close there.
 ///
-/// The events of the part are read once, each in constant time, amortized, besides one step in all for each site and
-/// function that is open before the part, and for each number of a site or of a function up to the greatest. A frame that
-/// was open before is taken in once all frames above it have returned. The memory is linear in the numbers of frames that
-/// are opened in the part or returned to, of sites and of functions; what it gives takes memory for the rows of its own
-/// sites.
+/// Where the innermost open frame is one that the path doesn't enter, the events are first read for the number of such
+/// frames alone, up to the return that leaves none open. Where there is no such return the share has no rows, and took no
+/// memory. Else the events of the part are read once, each in constant time, amortized, besides one step in all for each
+/// site and function that is open before the part, and for each number of a site or of a function up to the greatest. A
+/// frame that was open before is taken in once all frames above it have returned. The memory is linear in the numbers of
+/// frames that are opened in the part or returned to, of sites and of functions; what it gives takes memory for the rows of
+/// its own sites.
 ///
 /// # Errors
 ///
@@ -48,8 +53,38 @@ pub fn part_rows(
         skipped,
         running,
     } = settled.live(number);
+    part.keeps_limits();
+    if stays_beside(part, skipped) {
+        return Ok(Table::new(alloc).into_share());
+    }
     let trail = Trail::new(skipped, running);
     rows_within(alloc, part, entry, live, trail, settled.entered(number))
+}
+
+/// Whether the path stays away from the part: `skipped` frames are open within the innermost one that it enters where the
+/// part begins, and the part doesn't return out of all of them. The events are read up to the return that does, each in
+/// constant time and without memory.
+fn stays_beside(part: &Part<'_, '_>, skipped: u32) -> bool
+    requires { (k : ℕ) → k < part.now.count → IsOk (record_at part.now.trace.records (part.now.first + k)) }
+    ensures { IsTrue result ↔ StaysBeside part.now skipped }
+{
+    let mut open = u64::from(skipped);
+    if open == 0 {
+        return false;
+    }
+    for k in 0..part.count() {
+        match part.known_event(k) {
+            Event::Call { .. } | Event::Spawn { .. } => open += 1,
+            Event::Ret => {
+                open -= 1;
+                if open == 0 {
+                    return false;
+                }
+            }
+            Event::Strand { .. } | Event::Sync => {}
+        }
+    }
+    true
 }
 
 /// The same, where `live` has those of the open frames that the path enters, `trail` tells how the path goes on, and
