@@ -59,12 +59,14 @@ is_wanting() { # PROGRAM
     esac
 }
 
-each_refused() { # NAME STATUS OUT ERR INPUT PROGRAM WORDS..: what the program ends with when nothing is refused
-    local name=$1 wanted=$2 out=$3 err=$4 input=$5 at most all told=0 least=1 status requests starts
-    shift 5
+each_refused() { # NAME STATUS STARTS OUT ERR INPUT PROGRAM WORDS..: what the program ends with when nothing is refused,
+    # and how many threads it starts
+    local name=$1 wanted=$2 threads=$3 out=$4 err=$5 input=$6 at most all told=0 least=1 status requests starts
+    shift 6
     run 0 0 "$input" "$@"
     [ $status -eq "$wanted" ] && [[ $(tr -d '\0' < "$folder/out") == $out ]] && [[ $(cat "$folder/err") == $err ]] ||
         { fails "$name, nothing refused: status $status"; return; }
+    [ "$starts" -eq "$threads" ] || { fails "$name: $starts threads started, and not $threads"; return; }
     cp "$folder/out" "$folder/wanted.out"
     cp "$folder/err" "$folder/wanted.err"
     most=$requests
@@ -91,38 +93,39 @@ each_refused() { # NAME STATUS OUT ERR INPUT PROGRAM WORDS..: what the program e
     passed=$((passed + 1))
 }
 
-each_refused 'the calls' 0 "$(cat "$tests/../crates/memory_probe/stdout")" '' /dev/null "$probe"
+each_refused 'the calls' 0 99 "$(cat "$tests/../crates/memory_probe/stdout")" '' /dev/null "$probe"
 
+# A round has a thread for each worker but one; `profile` has three rounds, and settles its paths on two threads.
 examples=$tests/../examples
 head -c 23 "$examples/small.sptrace" > "$folder/short"
 { head -c 100 "$examples/small.sptrace"; head -c 16 /dev/zero | tr '\0' '\5'; } > "$folder/tag"
-each_refused 'check, a good trace' 0 'work 17' '' "$examples/small.sptrace" "$spprof" check
+each_refused 'check, a good trace' 0 0 'work 17' '' "$examples/small.sptrace" "$spprof" check
 # more than one read, so that what was read grows
-each_refused 'check, a recorded trace' 0 'work 136861' '' "$examples/cilksort.sptrace" "$spprof" check
-each_refused 'check, a file by name' 0 'work 17' '' /dev/null "$spprof" check "$examples/small.sptrace"
-each_refused 'check, a bad header' 1 '' 'bad header: short' "$folder/short" "$spprof" check
-each_refused 'check, a bad event' 1 '' 'bad event 4: tag' "$folder/tag" "$spprof" check
-each_refused 'figures, a recorded trace' 0 'work 136861*' '' "$examples/cilksort.sptrace" "$spprof" figures
-each_refused 'figures, in one part' 0 'work 136861*' '' "$examples/cilksort.sptrace" "$spprof" figures --parts 1
-each_refused 'figures, more parts than events' 0 'work 17*' '' "$examples/small.sptrace" "$spprof" figures --parts 20
-each_refused 'figures, a bad event' 1 '' 'bad event 4: tag' "$folder/tag" "$spprof" figures --burden 3
-each_refused 'figures, a bad event in the second part' 1 '' 'bad event 4: tag' "$folder/tag" "$spprof" figures --parts 2
-each_refused 'profile, a recorded trace' 0 'work 32744*' '' "$examples/nqueens.sptrace" "$spprof" profile
-each_refused 'profile as tables alone' 0 'name,count*' '' "$examples/nqueens.sptrace" "$spprof" profile --csv
+each_refused 'check, a recorded trace' 0 0 'work 136861' '' "$examples/cilksort.sptrace" "$spprof" check
+each_refused 'check, a file by name' 0 0 'work 17' '' /dev/null "$spprof" check "$examples/small.sptrace"
+each_refused 'check, a bad header' 1 0 '' 'bad header: short' "$folder/short" "$spprof" check
+each_refused 'check, a bad event' 1 0 '' 'bad event 4: tag' "$folder/tag" "$spprof" check
+each_refused 'figures, a recorded trace' 0 3 'work 136861*' '' "$examples/cilksort.sptrace" "$spprof" figures
+each_refused 'figures, in one part' 0 3 'work 136861*' '' "$examples/cilksort.sptrace" "$spprof" figures --parts 1
+each_refused 'figures, more parts than events' 0 3 'work 17*' '' "$examples/small.sptrace" "$spprof" figures --parts 20
+each_refused 'figures, a bad event' 1 3 '' 'bad event 4: tag' "$folder/tag" "$spprof" figures --burden 3
+each_refused 'figures, a bad event in the second part' 1 3 '' 'bad event 4: tag' "$folder/tag" "$spprof" figures --parts 2
+each_refused 'profile, a recorded trace' 0 10 'work 32744*' '' "$examples/nqueens.sptrace" "$spprof" profile
+each_refused 'profile as tables alone' 0 10 'name,count*' '' "$examples/nqueens.sptrace" "$spprof" profile --csv
 # Two children that are waited for, in parts of one event that two workers share.
 printf '%s\n' 'func main' 'func f' 'site A' 'strand 1' 'spawn 0 1' 'strand 4' 'return' 'spawn 0 1' 'strand 2' 'return' \
     'sync' 'strand 3' | "$spprof" encode > "$folder/two"
-each_refused 'figures by workers' 0 'work 10*' '' "$folder/two" "$spprof" figures --parts 9 --workers 2
-each_refused 'profile by workers' 0 'name,count*' '' "$folder/two" "$spprof" profile --csv --parts 9 --workers 2
-each_refused 'marks by workers' 0 '111100011' '' "$folder/two" "$printer" marks 9 2
-each_refused 'marks, a recorded trace' 0 '1*' '' "$examples/nqueens.sptrace" "$printer" marks 20 3
-each_refused 'encode, a good text' 0 'SPTRACE1*' '' "$examples/small.txt" "$spprof" encode
+each_refused 'figures by workers' 0 1 'work 10*' '' "$folder/two" "$spprof" figures --parts 9 --workers 2
+each_refused 'profile by workers' 0 4 'name,count*' '' "$folder/two" "$spprof" profile --csv --parts 9 --workers 2
+each_refused 'marks by workers' 0 3 '111100011' '' "$folder/two" "$printer" marks 9 2
+each_refused 'marks, a recorded trace' 0 6 '1*' '' "$examples/nqueens.sptrace" "$printer" marks 20 3
+each_refused 'encode, a good text' 0 0 'SPTRACE1*' '' "$examples/small.txt" "$spprof" encode
 printf 'func f\nsync\nsync 1 2 3 4 5\n' > "$folder/text"
-each_refused 'encode, a bad text' 1 '' 'bad text line 3: count' "$folder/text" "$spprof" encode
+each_refused 'encode, a bad text' 1 0 '' 'bad text line 3: count' "$folder/text" "$spprof" encode
 printf 'func f\n\377' > "$folder/bytes"
-each_refused 'encode, bytes that are no text' 1 '' 'bad text line 2: word' "$folder/bytes" "$spprof" encode
-each_refused 'help' 0 'A call-site profiler*' '' /dev/null "$spprof" --help
-each_refused 'a usage fault' 2 '' 'error: *' /dev/null "$spprof" check --nothing
+each_refused 'encode, bytes that are no text' 1 0 '' 'bad text line 2: word' "$folder/bytes" "$spprof" encode
+each_refused 'help' 0 0 'A call-site profiler*' '' /dev/null "$spprof" --help
+each_refused 'a usage fault' 2 0 '' 'error: *' /dev/null "$spprof" check --nothing
 
 echo "$passed passed, $failed failed"
 [ $failed -eq 0 ]

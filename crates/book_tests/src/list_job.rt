@@ -66,7 +66,7 @@ impl<'a> ListJob<'a> {
     ///
     /// # Errors
     ///
-    /// Where an allocation was refused.
+    /// Where an allocation failed.
     pub fn piece(&self, alloc: Global, number: u32, first: u32) -> Result<Piece<Listed>, AllocError>
         ensures { IfOk result (λ p. IsPieceOf (list_parts self.now.numbers.now) (list_range self.now.numbers.now) (IsRange self.now.numbers.now) p.number p.first p.events p.content) }
     {

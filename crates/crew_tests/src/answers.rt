@@ -105,7 +105,7 @@ fn all_answer<R: Threads + Wait + Sync>(
 }
 
 /// Whether all crews answer the call rightly where the run is in parts of one event, and in 1, 2, 3 and 7 even parts; none
-/// where no memory was left.
+/// where an allocation failed.
 fn is_answered<R: Threads + Wait + Sync>(
     rt: &R,
     alloc: Global,
@@ -150,7 +150,7 @@ fn the_events_on_the_path_are_marked(rt: HostRuntime) -> Result<(), Fail> {
 }
 
 /// Whether all crews answer the call rightly for a thousand frames within one another, opened by that event, in parts of
-/// one event; none where no memory was left.
+/// one event; none where an allocation failed.
 fn deep_run_is_answered<R: Threads + Wait + Sync>(
     rt: &R,
     alloc: Global,

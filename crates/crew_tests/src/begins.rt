@@ -13,7 +13,7 @@ use std::sync::Wait;
 use std::test::Fail;
 use std::thread::Threads;
 
-/// The open frames where parts begin, told by two workers; none where the trace isn't well-formed or no memory was left.
+/// The open frames where parts begin, told by two workers; none where the trace isn't well-formed or an allocation failed.
 fn stacks_of_cut<R: Threads + Wait + Sync>(
     rt: &R,
     alloc: Global,
@@ -250,7 +250,7 @@ fn all_share<R: Threads + Wait + Sync>(rt: &R, alloc: Global, cut: &Cut<'_, '_>)
     true
 }
 
-/// The same of a thousand nested calls; none where no memory was left.
+/// The same of a thousand nested calls; none where an allocation failed.
 fn deep_stacks_share<R: Threads + Wait + Sync>(rt: &R, alloc: Global) -> Option<bool> {
     let events = thousand(alloc, CALL).ok()?;
     let bytes = trace_of(alloc, &events).ok()?;

@@ -104,7 +104,7 @@ pub(crate) fn ask<R: Threads + Wait + Sync, G: Gate>(
 ///
 /// # Errors
 ///
-/// Where no memory was left for the bytes.
+/// Where an allocation failed.
 pub(crate) fn marks_of<R: Threads + Wait + Sync, G: Gate>(
     rt: &R,
     alloc: Global,

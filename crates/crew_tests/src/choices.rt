@@ -77,7 +77,7 @@ fn all_tell<R: Threads + Wait + Sync>(
     true
 }
 
-/// The same of a run of these events; none where no memory was left.
+/// The same of a run of these events; none where an allocation failed.
 fn has_choices<R: Threads + Wait + Sync>(
     rt: &R,
     alloc: Global,

@@ -27,6 +27,8 @@ struct CountingJob<'a> {
     early: AtomicBool,
     /// Whether the run of each part goes on only when all parts have begun.
     together: bool,
+    /// The part, if any, whose run ends as if an allocation failed.
+    refused: Option<u32>,
     /// Whether a run waited in vain.
     vain: AtomicBool,
 }
@@ -42,7 +44,12 @@ fn zeros(alloc: Global, count: usize) -> Result<Vec<AtomicU64>, AllocError> {
 
 impl<'a> CountingJob<'a> {
     /// The job of 1 to 65,536 numbers. If they are run together, no run goes on before all have begun.
-    fn new(alloc: Global, numbers: &'a [u32], together: bool) -> Result<Self, AllocError>
+    fn new(
+        alloc: Global,
+        numbers: &'a [u32],
+        together: bool,
+        refused: Option<u32>,
+    ) -> Result<Self, AllocError>
         requires some { 0 < length numbers.now }
         requires most { length numbers.now ≤ 65536 }
     {
@@ -52,6 +59,7 @@ impl<'a> CountingJob<'a> {
             begun: zeros(alloc, numbers.len())?,
             early: AtomicBool::new(false),
             together,
+            refused,
             vain: AtomicBool::new(false),
         })
     }
@@ -126,6 +134,9 @@ impl<'a> Job for CountingJob<'a> {
         if self.together {
             self.wait();
         }
+        if self.refused == Some(number) {
+            return Err(AllocError);
+        }
         self.list.run(alloc, number)
     }
 
@@ -155,7 +166,7 @@ fn round_is_right<R: Threads + Wait + Sync>(
     requires some { 0 < length numbers.now }
     requires most { length numbers.now ≤ 65536 }
 {
-    let job = CountingJob::new(alloc, numbers, together)?;
+    let job = CountingJob::new(alloc, numbers, together, None)?;
     let listed = run_round(rt, alloc, &job, crew.workers(), Round::Summaries, &job)?;
     Ok(listed.as_slice() == numbers && job.is_run_once())
 }
@@ -178,5 +189,39 @@ fn parts_are_run_beside_each_other(rt: HostRuntime) -> Result<(), Fail> {
     assert!(rt; round_is_right(&rt, rt.alloc(), &two, true, Crew::Two)?);
     let seven = [0, 1, 2, 3, 4, 5, 6];
     assert!(rt; round_is_right(&rt, rt.alloc(), &seven, true, Crew::Most)?);
+    // As many parts as workers: each worker has a thread of its own.
+    assert!(rt; round_is_right(&rt, rt.alloc(), &[7; 64], true, Crew::Most)?);
+    Ok(())
+}
+
+/// How many of seven parts are begun, each once at most, in a round that fails since the run of part 3 is refused.
+fn begun_beside_a_refusal<R: Threads + Wait + Sync>(
+    rt: &R,
+    alloc: Global,
+    crew: Crew,
+) -> Result<Option<usize>, AllocError> {
+    let numbers = [0, 1, 2, 3, 4, 5, 6];
+    let job = CountingJob::new(alloc, &numbers, false, Some(3))?;
+    let failed = run_round(rt, alloc, &job, crew.workers(), Round::Summaries, &job).is_err();
+    let counts = &job.begun;
+    let once = counts.iter().all(|count| count.load(Ordering::SeqCst) <= 1);
+    let begun = counts
+        .iter()
+        .filter(|count| count.load(Ordering::SeqCst) == 1);
+    let begun = begun.count();
+    Ok((failed && once).then_some(begun))
+}
+
+#[test]
+fn a_worker_that_is_refused_stops_alone(rt: HostRuntime) -> Result<(), Fail> {
+    // Alone it leaves the parts behind the refused one; another worker does them.
+    assert_eq!(rt;
+        begun_beside_a_refusal(&rt, rt.alloc(), Crew::One)?,
+        Some(4)
+    );
+    assert_eq!(rt;
+        begun_beside_a_refusal(&rt, rt.alloc(), Crew::Two)?,
+        Some(7)
+    );
     Ok(())
 }

@@ -179,7 +179,7 @@ fn all_tell<R: Threads + Wait + Sync>(
 }
 
 /// Whether all calls, by all crews, tell the first bad event where the run is in parts of one event, and in 1, 2 and 3
-/// even parts; none where no memory was left.
+/// even parts; none where an allocation failed.
 fn is_told(rt: &(impl Threads + Wait + Sync), alloc: Global, run: &Bad) -> Option<bool> {
     let bytes = bytes_of(alloc, run).ok()?;
     let trace = open_trace(alloc, &bytes).ok()?;
@@ -236,7 +236,7 @@ fn each_held_tells<R: Threads + Wait + Sync>(
 }
 
 /// Whether all calls by so many workers tell the first bad event of a run in parts of one event, whichever part's worker
-/// is held; none where no memory was left.
+/// is held; none where an allocation failed.
 fn is_told_in_any_order<R: Threads + Wait + Sync>(
     rt: &R,
     alloc: Global,
@@ -266,7 +266,7 @@ fn the_first_bad_event_is_told_whichever_part_is_done_first(rt: HostRuntime) -> 
 }
 
 /// Whether `marks` tells the first bad event of a run in parts of one event, and leaves all bytes as they were; none where
-/// no memory was left.
+/// an allocation failed.
 fn leaves_the_bytes<R: Threads + Wait + Sync>(
     rt: &R,
     alloc: Global,

@@ -60,7 +60,7 @@ impl TestGate {
         !vain.into_inner() && all && begun.len() == rounds.len().saturating_mul(parts as usize)
     }
 
-    /// Notes a part that is begun. One for which no memory is left is missing from what [`TestGate::saw`] tells.
+    /// Notes a part that is begun. One for which an allocation fails is missing from what [`TestGate::saw`] tells.
     fn note<R: Wait>(&self, rt: &R, round: Round, part: u32) {
         let _ = self.begun.lock(rt).push((round, part));
     }

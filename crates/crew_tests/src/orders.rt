@@ -1,10 +1,11 @@
 //! The parts of each job, put into a book in several orders.
 
-ghost use Rattle.std.specs.Prelude.{◌≡◌, List};
+ghost use Rattle.std.specs.Prelude.{◌≡◌, ℕ, List, IfSome};
 ghost use Rattle.spp_event.specs.declared.records.Event.{Event as EventValue};
 ghost use Rattle.spp_frame.specs.Nesting.{AreEvents};
 ghost use Rattle.spp_jobs.specs.Choices.{AreChoicesOf};
-ghost use Rattle.spp_jobs.specs.Tables.{IsRun};
+ghost use Rattle.spp_jobs.specs.Paths.{IsPathed};
+ghost use Rattle.spp_jobs.specs.Tables.{IsRun, IsTabled};
 ghost use Rattle.spp_stack.specs.Parts.{AreEntriesOf};
 
 use crate::answers::lines_of;
@@ -12,7 +13,7 @@ use crate::calls::{Crew, THREE, stacks_of};
 use crate::choices::{Wanted, are_choices};
 use crate::traces::singly;
 use crate::worked::WAITED;
-use spp_book::{Book, Job, Piece};
+use spp_book::{Book, Front, Job, Piece};
 use spp_crew::{OpenGate, tabled};
 use spp_cut::Cut;
 use spp_dag::{Choice, Choices, End, Figures};
@@ -21,6 +22,7 @@ use spp_frame::ProfileFault;
 use spp_jobs::{PathJob, Pathed, Survey, SurveyJob, TableJob, Tabled};
 use spp_maxplus::Burdens;
 use spp_path::{Under, settle};
+use spp_site::Table;
 use spp_stack::Entries;
 use spp_summary::Summary;
 use std::alloc::{AllocError, Global};
@@ -61,24 +63,21 @@ fn put<J: Job>(
     Ok(book.accept(alloc, piece).is_ok())
 }
 
-/// The value of a job whose parts are put in this order; none where one is refused or missing, or no memory was left.
-fn closed<J: Job>(alloc: Global, job: &J, order: &[u32]) -> Option<J::Content> {
+/// The value of a job whose parts are put in this order, and a copy of it, made before the book is closed; none where a part
+/// is refused or missing, or an allocation failed.
+fn closed<J: Job>(alloc: Global, job: &J, order: &[u32]) -> Option<(J::Content, J::Content)>
+    ensures value { IfSome result (λ c. J.is_value (J.name job.now) 0 (J.parts_of (J.name job.now)) c.0) }
+    ensures copy { IfSome result (λ c. (end : ℕ) × J.is_value (J.name job.now) 0 end c.1) }
+{
     let mut book = Book::new(alloc, job).ok()?;
     for number in order {
         if !put(alloc, &mut book, job, *number).ok()? {
             return None;
         }
     }
-    book.close(alloc).ok()
-}
-
-/// The value of a job for each order.
-fn closed_in_each_order<J: Job>(alloc: Global, job: &J) -> Option<Vec<J::Content>> {
-    let mut values = Vec::new(alloc);
-    for order in &ORDERS {
-        values.push(closed(alloc, job, order)?).ok()?;
-    }
-    Some(values)
+    let Front { content, .. } = book.front(alloc).ok()?;
+    let copy = content?;
+    Some((book.close(alloc).ok()?, copy))
 }
 
 /// What a summary tells: where its range begins, its work, and how many returns and frames it leaves unmatched.
@@ -126,13 +125,20 @@ fn is_surveyed(told: &Survey) -> bool {
 /// Whether all orders give the survey of a cut trace.
 fn surveys_close(alloc: Global, cut: &Cut<'_, '_>) -> Option<bool> {
     let job = SurveyJob::new(cut, THREE);
-    let values = closed_in_each_order(alloc, &job)?;
-    Some(values.iter().all(|told| is_surveyed(told)))
+    for order in &ORDERS {
+        let (told, copy) = closed(alloc, &job, order)?;
+        if !is_surveyed(&told) || !is_surveyed(&copy) {
+            return Some(false);
+        }
+    }
+    Some(true)
 }
 
-/// Whether the rows of a table are those of the run on the whole dag, without what the root frame adds itself, and the
-/// choices are those of its parts.
-fn is_tabled(told: &Tabled) -> bool {
+/// Whether the rows of a share are those of the run on the whole dag, without what the root frame adds itself, and the
+/// choices are those of its parts; none where an allocation failed.
+fn is_tabled(alloc: Global, told: &Tabled) -> Option<bool>
+    requires { (name : List ℕ) × ((end : ℕ) × IsTabled name 0 end told.now) }
+{
     let rows = [[0, 3, 0, 0, 0, 0, 0, 0], [2, 4, 1, 4, 3, 2, 7, 6]];
     let joins = [
         Choice {
@@ -149,7 +155,8 @@ fn is_tabled(told: &Tabled) -> bool {
         joins: &joins,
         burdened: &joins,
     };
-    lines_of(&told.table) == rows && are_choices(&told.choices, 9, &wanted)
+    let table = Table::from_share(alloc, &told.share).ok()?;
+    Some(lines_of(&table) == rows && are_choices(&told.choices, 9, &wanted))
 }
 
 /// Whether all orders give the table and the choices of a cut trace with these stacks.
@@ -157,14 +164,24 @@ fn tables_close(alloc: Global, cut: &Cut<'_, '_>, stacks: &Entries) -> Option<bo
     requires { AreEntriesOf cut.now THREE stacks.now }
 {
     let job = TableJob::new(cut, stacks, THREE);
-    let values = closed_in_each_order(alloc, &job)?;
-    Some(values.iter().all(|told| is_tabled(told)))
+    for order in &ORDERS {
+        let (told, copy) = closed(alloc, &job, order)?;
+        if !is_tabled(alloc, &told)? || !is_tabled(alloc, &copy)? {
+            return Some(false);
+        }
+    }
+    Some(true)
 }
 
-/// Whether the rows of both tables are those of the run on its paths, without what the root frame adds itself.
-fn is_pathed(told: &Pathed) -> bool {
+/// Whether the rows of both shares are those of the run on its paths, without what the root frame adds itself; none where
+/// an allocation failed.
+fn is_pathed(alloc: Global, told: &Pathed) -> Option<bool>
+    requires { (name : List ℕ) × ((end : ℕ) × IsPathed name 0 end told.now) }
+{
     let rows = [[0, 1, 0, 0, 0, 0, 0, 0], [2, 3, 1, 4, 3, 2, 7, 6]];
-    lines_of(&told.path) == rows && lines_of(&told.burdened_path) == rows
+    let path = Table::from_share(alloc, &told.path).ok()?;
+    let burdened_path = Table::from_share(alloc, &told.burdened_path).ok()?;
+    Some(lines_of(&path) == rows && lines_of(&burdened_path) == rows)
 }
 
 /// Whether all orders give the tables on both paths of a cut trace with these stacks and choices.
@@ -189,8 +206,13 @@ fn paths_close(
 
 /// Whether all orders give the tables on both paths.
 fn paths_are_right(alloc: Global, job: &PathJob<'_, '_, '_>) -> Option<bool> {
-    let values = closed_in_each_order(alloc, job)?;
-    Some(values.iter().all(|told| is_pathed(told)))
+    for order in &ORDERS {
+        let (told, copy) = closed(alloc, job, order)?;
+        if !is_pathed(alloc, &told)? || !is_pathed(alloc, &copy)? {
+            return Some(false);
+        }
+    }
+    Some(true)
 }
 
 /// Which job.
@@ -221,7 +243,7 @@ fn job_closes<R: Threads + Wait + Sync>(
     }
 }
 
-/// Whether they do for the run in parts of one event; none where no memory was left.
+/// Whether they do for the run in parts of one event; none where an allocation failed.
 fn run_closes<R: Threads + Wait + Sync>(rt: &R, alloc: Global, kind: Kind) -> Option<bool> {
     let bytes = trace_of(alloc, &WAITED).ok()?;
     let trace = open_trace(alloc, &bytes).ok()?;

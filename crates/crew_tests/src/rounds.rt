@@ -29,7 +29,7 @@ fn is_seen<R: Threads + Wait + Sync>(
     answer.is_ok() && gate.saw(call.rounds(), parts)
 }
 
-/// The same for the run in parts of one event, where the gate may hold a worker: none where no memory was left.
+/// The same for the run in parts of one event, where the gate may hold a worker: none where an allocation failed.
 fn run_is_seen<R: Threads + Wait + Sync>(
     rt: &R,
     alloc: Global,
@@ -56,7 +56,7 @@ fn each_part_is_begun_once_in_each_round(rt: HostRuntime) -> Result<(), Fail> {
 }
 
 /// Whether the call is answered though one worker is held in each round until all other parts have begun, whichever part
-/// it holds; none where no memory was left.
+/// it holds; none where an allocation failed.
 fn others_go_on<R: Threads + Wait + Sync>(
     rt: &R,
     alloc: Global,
@@ -99,7 +99,7 @@ fn two_workers_mark_both_halves_beside_each_other(rt: HostRuntime) -> Result<(),
 }
 
 /// Whether two workers answer the call with two parts, of which one is held in each round until the other has begun; none
-/// where no memory was left.
+/// where an allocation failed.
 fn two_parts_are_seen<R: Threads + Wait + Sync>(
     rt: &R,
     alloc: Global,

@@ -220,7 +220,7 @@ fn crew_settles<R: Threads + Wait + Sync>(
     Ok(is_settled(alloc, &stacks, &choices, case)?)
 }
 
-/// Whether it is, whichever crew tells; none where no memory was left.
+/// Whether it is, whichever crew tells; none where an allocation failed.
 fn all_settle<R: Threads + Wait + Sync>(rt: &R, alloc: Global, case: &Case) -> Option<bool> {
     let bytes = trace_of(alloc, case.events).ok()?;
     let trace = open_trace(alloc, &bytes).ok()?;

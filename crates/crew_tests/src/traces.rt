@@ -4,7 +4,7 @@ use spp_cut::{Cut, Parts, cut_even};
 use spp_event::{Event, Trace};
 use std::alloc::{AllocError, Global};
 
-/// A trace in so many even parts; none where there can't be so many, or no memory was left.
+/// A trace in so many even parts; none where there can't be so many, or an allocation failed.
 pub(crate) fn evenly<'t, 'a>(
     alloc: Global,
     trace: &'t Trace<'a>,
@@ -13,7 +13,7 @@ pub(crate) fn evenly<'t, 'a>(
     cut_even(alloc, trace, Parts::new(parts)?).ok()
 }
 
-/// A trace in parts of one event; none where no memory was left.
+/// A trace in parts of one event; none where an allocation failed.
 pub(crate) fn singly<'t, 'a>(alloc: Global, trace: &'t Trace<'a>) -> Option<Cut<'t, 'a>> {
     evenly(alloc, trace, trace.count().clamp(1, Parts::MOST))
 }
@@ -23,7 +23,7 @@ pub(crate) fn singly<'t, 'a>(alloc: Global, trace: &'t Trace<'a>) -> Option<Cut<
 ///
 /// # Errors
 ///
-/// Where no memory was left.
+/// Where an allocation failed.
 pub(crate) fn thousand(alloc: Global, open: Event) -> Result<Vec<Event>, AllocError> {
     let mut events = Vec::new(alloc);
     for event in [open, Event::Strand { count: 1 }, Event::Ret] {

@@ -59,7 +59,7 @@ pub fn filled(alloc: Global) -> Result<Answer, AllocError> {
     Ok(of_closing(book.close(alloc)))
 }
 
-/// A world of one worker that does two steps; where no memory is left for the answers, they are handed back.
+/// A world of one worker that does two steps; where an allocation fails for the answers, they are handed back.
 pub fn stepped(alloc: Global) -> Result<Answer, AllocError> {
     let job = ListJob::new(&NUMBERS);
     let mut world = World::new(alloc, &job, 1)?;

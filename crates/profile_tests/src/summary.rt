@@ -12,7 +12,7 @@ use std::test::Fail;
 /// Where a run of up to twelve events is cut into parts of one.
 const CUTS: [u32; 11] = [1, 2, 3, 4, 5, 6, 7, 8, 9, 10, 11];
 
-/// The join of two summaries; none where they are no neighbours or no memory was left.
+/// The join of two summaries; none where they are no neighbours or an allocation failed.
 fn joined(left: Summary, right: Summary) -> Option<Summary> {
     let (first, events) = (left.first(), left.events());
     if left.burdens() != right.burdens() || right.first() != first + events {

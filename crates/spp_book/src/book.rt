@@ -30,7 +30,7 @@ pub struct Front<C> {
 
 /// The accepted pieces of a job. Neighbours are joined as they come, in whatever order.
 ///
-/// A book takes room for all parts when it is made: for each the size of a content and at most 24 bytes. Contracts see the
+/// A book takes room for all parts when it is made: for each the size of a content and at most 40 bytes. Contracts see the
 /// name of the job, which parts were accepted, and the runs of neighbouring parts: where each begins and ends.
 #[derive(Drop)]
 pub struct Book<'a, J: Job> {
@@ -85,7 +85,7 @@ fn fill<T: Drop>(places: &mut Vec<Option<T>>, at: usize, item: T)
     places[at] = Some(item);
 }
 
-/// Two runs as one, where the one begins behind the other; or both again, where no memory was left.
+/// Two runs as one, where the one begins behind the other; or both again, where an allocation failed.
 fn joined<J: Job>(
     alloc: Global,
     left: Run<J::Content>,
@@ -124,7 +124,7 @@ impl<'a, J: Job> Book<'a, J> {
     ///
     /// # Errors
     ///
-    /// Where an allocation was refused.
+    /// Where an allocation failed.
     pub fn new(alloc: Global, job: &'a J) -> Result<Self, AllocError>
         ensures name { IfOk result (λ b. b.name ≡ J.name job.now) }
         ensures accepted { IfOk result (λ b. b.accepted ≡ replicate (J.parts_of (J.name job.now)) false) }
@@ -147,7 +147,7 @@ impl<'a, J: Job> Book<'a, J> {
     }
 
     /// Takes a piece in, and joins it with the run that ends where it begins and with the one that begins where it ends.
-    /// A join for which no memory is left leaves both runs beside each other; the close tries it again. Contracts let any
+    /// A join that is refused, since an allocation failed, leaves both runs beside each other; the close tries it again. Contracts let any
     /// join be left to the close. It takes constant time, besides the job's `range` and at most two joins, and no memory but
     /// theirs.
     ///
@@ -219,7 +219,7 @@ impl<'a, J: Job> Book<'a, J> {
         end
     }
 
-    /// Joins the run that ends at a part with the one that begins there, if both are there and memory is left.
+    /// Joins the run that ends at a part with the one that begins there, if both are there and no allocation fails.
     fn join_at(&mut self, alloc: Global, at: u32)
         ensures name { self.new.name ≡ self.old.name }
         ensures accepted { self.new.accepted ≡ self.old.accepted }
@@ -243,7 +243,7 @@ impl<'a, J: Job> Book<'a, J> {
         self.notes[place - 1]
     }
 
-    /// Joins two runs, of which the one ends where the other begins, if memory is left.
+    /// Joins two runs, of which the one ends where the other begins, if no allocation fails.
     fn join(&mut self, alloc: Global, first: u32, at: u32)
         requires { MeetAt self.old.runs first at }
         ensures name { self.new.name ≡ self.old.name }
@@ -307,7 +307,7 @@ impl<'a, J: Job> Book<'a, J> {
     ///
     /// # Errors
     ///
-    /// `Missing` with the least part that wasn't accepted, or else `Memory` where a growth was refused. A book that is
+    /// `Missing` with the least part that wasn't accepted, or else `Memory` where an allocation failed. A book that is
     /// joined whole needs none.
     pub fn close(self, alloc: Global) -> Result<J::Content, CloseFault>
         ensures all { OnOk result (count_of self.entry.accepted ≡ J.parts_of self.entry.name) }

@@ -125,7 +125,7 @@ impl Counter {
     ///
     /// # Errors
     ///
-    /// Where an allocation was refused.
+    /// Where an allocation failed.
     pub(crate) fn new(
         alloc: Global,
         parts: u32,

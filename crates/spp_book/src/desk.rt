@@ -171,7 +171,7 @@ impl<'a, J: Job, N: Naming> Desk<'a, J, N> {
     ///
     /// # Errors
     ///
-    /// Where an allocation was refused.
+    /// Where an allocation failed.
     pub fn new(
         alloc: Global,
         blank: Blank,
@@ -313,7 +313,7 @@ impl<'a, J: Job, N: Naming> Desk<'a, J, N> {
     ///
     /// # Errors
     ///
-    /// `Missing`, only where fewer pieces were accepted than there are parts, or `Memory` where a growth was refused.
+    /// `Missing`, only where fewer pieces were accepted than there are parts, or `Memory` where an allocation failed.
     pub fn close(
         alloc: Global,
         desk: Desk<'a, J, N>,

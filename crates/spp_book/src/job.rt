@@ -38,7 +38,7 @@ pub trait Job {
     ///
     /// # Errors
     ///
-    /// Where a growth was refused.
+    /// Where an allocation failed.
     fn run(&self, alloc: Global, number: u32) -> Result<Self::Content, AllocError>
         requires { number < parts_of (name self.now) }
         ensures { IfOk result (λ c. is_value (name self.now) number (number + 1) c) };
@@ -47,7 +47,7 @@ pub trait Job {
     ///
     /// # Errors
     ///
-    /// Where a growth was refused; both are handed back.
+    /// Where an allocation failed; both are handed back, as values of the same parts.
     fn join(
         alloc: Global,
         left: Self::Content,
@@ -57,16 +57,16 @@ pub trait Job {
         ensures joined { IfOk result (λ c. IsJoined parts_of is_value left right c) }
         ensures refused { IfErr result (λ r. IsHandedBack is_value left right r.left r.right) };
 
-    /// The same content once more.
+    /// The same content once more: a value of whatever the given one is a value of.
     ///
     /// # Errors
     ///
-    /// Where an allocation was refused.
+    /// Where an allocation failed.
     fn copy(alloc: Global, content: &Self::Content) -> Result<Self::Content, AllocError>
         ensures { IfOk result (λ c. IsCopied is_value content.now c) };
 }
 
-/// Both sides of a join for which no memory was left.
+/// Both sides of a join that was refused, since an allocation failed.
 #[derive(Drop)]
 pub struct JoinRefused<C> {
     /// The left one.

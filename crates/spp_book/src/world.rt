@@ -91,7 +91,7 @@ impl<'a, J: Job> World<'a, J> {
     ///
     /// # Errors
     ///
-    /// Where an allocation was refused.
+    /// Where an allocation failed.
     pub fn new(alloc: Global, job: &'a J, workers: u32) -> Result<Self, AllocError>
         ensures name { IfOk result (λ w. w.book.name ≡ J.name job.now) }
         ensures accepted { IfOk result (λ w. w.book.accepted ≡ replicate (J.parts_of (J.name job.now)) false) }
@@ -178,7 +178,7 @@ impl<'a, J: Job> World<'a, J> {
     ///
     /// # Errors
     ///
-    /// Where the room for the answers was refused. Then no step is done, and the steps are handed back.
+    /// Where the allocation of the answers failed. Then no step is done, and the steps are handed back.
     pub fn run_steps(
         &mut self,
         alloc: Global,

@@ -61,7 +61,7 @@ fn no_command(alloc: Global) -> UsageFault
 ///
 /// # Errors
 ///
-/// Where an allocation was refused.
+/// Where an allocation failed.
 fn request_of(
     alloc: Global,
     command: Command,
@@ -102,7 +102,7 @@ fn request_of(
 ///
 /// # Errors
 ///
-/// The text that the user is to be shown, or want of memory.
+/// The text that the user is to be shown, or that an allocation failed.
 pub fn read_request<S: AsStr>(alloc: Global, words: &[S]) -> Result<Request, UsageFault>
     ensures found { IfOk result (IsRequestOf (subcommand_of spprof (map S.text words.now))) }
     ensures good { IfOk result (λ _. fault_of spprof (map S.text words.now) ≡ []) }

@@ -15,7 +15,9 @@ pub enum Round {
     Marks,
 }
 
-/// Called by each worker before it begins a part. A test can hold it there; what is answered doesn't depend on it.
+/// Called by each worker before it begins a part. A test can hold it there. What is answered doesn't depend on it, but a gate
+/// that waits for another part waits for ever where that part falls to the same thread: with one worker, or where a thread
+/// can't be started.
 pub trait Gate: Sync {
     /// Called before `part` is worked on in this round. With `rt` the gate can wait.
     fn before<R: Wait>(&self, rt: &R, round: Round, part: u32);

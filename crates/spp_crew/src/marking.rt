@@ -26,7 +26,7 @@ use std::thread::{Threads, join_mut};
 ///
 /// # Errors
 ///
-/// Where a growth was refused; the bytes may then be any.
+/// Where an allocation failed; the bytes may then be any.
 fn mark_alone<R: Wait, G: Gate>(
     rt: &R,
     alloc: Global,
@@ -135,7 +135,7 @@ fn mark_halves<R: Threads + Wait + Sync, G: Gate>(
 }
 
 /// Marks which events of a cut trace are on its path, the one that is greatest without burdens, by so many workers, 1 to
-/// 64, each on a thread of its own but one: byte `i` is 1 where event `i` is on the path, else 0. The gate is called in
+/// 64, each on a thread of its own but one (in round 4 at most one for each part): byte `i` is 1 where event `i` is on the path, else 0. The gate is called in
 /// round 1 before a part is summarised, in round 2 before its choices are noted, and in round 4 before its events are
 /// marked.
 ///
@@ -147,8 +147,8 @@ fn mark_halves<R: Threads + Wait + Sync, G: Gate>(
 ///
 /// # Errors
 ///
-/// The first bad event, or `Memory` where a growth was refused. Where an event is bad the bytes are as they were; else,
-/// where no memory was left, they may be any. A thread that can't be started is no error: the thread that was to start it
+/// The first bad event, or `Memory` where an allocation failed. Where an event is bad the bytes are as they were; else,
+/// where an allocation failed, they may be any. A thread that can't be started is no error: the thread that was to start it
 /// does its share.
 pub fn marks<R: Threads + Wait + Sync, G: Gate>(
     rt: &R,
@@ -162,6 +162,7 @@ pub fn marks<R: Threads + Wait + Sync, G: Gate>(
     requires most { workers ≤ 64 }
     requires bytes { length marks.old ≡ length cut.now.trace.records }
     ensures formed { OnOk result (IsWellFormed cut.now.trace.records) }
+    ensures length { length marks.new ≡ length marks.old }
     ensures marks { OnOk result (AreMarks cut.now.trace unburdened marks.new) }
     ensures fault { IfErr result (λ f. IsFaultOf cut.now.trace.records f) }
     ensures kept { (fault : Fault) → result ≡ Err (Bad fault) → marks.new ≡ marks.old }

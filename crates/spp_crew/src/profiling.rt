@@ -50,7 +50,7 @@ fn root_row(whole: &Figures) -> Row
 ///
 /// # Errors
 ///
-/// Where a growth was refused.
+/// Where an allocation failed.
 pub fn tabled<R: Threads + Wait + Sync, G: Gate>(
     rt: &R,
     alloc: Global,
@@ -71,12 +71,12 @@ pub fn tabled<R: Threads + Wait + Sync, G: Gate>(
     run_round(rt, alloc, &job, workers, Round::Tables, gate)
 }
 
-/// Both paths, the one without burdens and the one under them, settled by the choices of the parts: with more than one worker
-/// beside each other.
+/// Both paths, the one without burdens and the one under them, settled by the choices of the parts: in parallel where there
+/// is more than one worker.
 ///
 /// # Errors
 ///
-/// Where a growth was refused.
+/// Where an allocation failed.
 fn settle_both<'e, R: Threads>(
     rt: &R,
     alloc: Global,
@@ -112,7 +112,7 @@ fn settle_both<'e, R: Threads>(
 ///
 /// # Errors
 ///
-/// Where a growth was refused.
+/// Where an allocation failed.
 fn pathed<R: Threads + Wait + Sync, G: Gate>(
     rt: &R,
     alloc: Global,
@@ -152,7 +152,7 @@ fn pathed<R: Threads + Wait + Sync, G: Gate>(
 ///
 /// # Errors
 ///
-/// The first bad event, or `Memory` where a growth was refused. A thread that can't be started is no error: the thread
+/// The first bad event, or `Memory` where an allocation failed. A thread that can't be started is no error: the thread
 /// that was to start it does its share.
 pub fn profile<R: Threads + Wait + Sync, G: Gate>(
     rt: &R,

@@ -12,9 +12,9 @@ use std::sync::Wait;
 use std::sync::ledger::Blank;
 use std::thread::{Threads, join};
 
-/// One worker: draws numbers until there are none, and puts what came of each part. It stops where it finds no memory. A put
-/// is not refused, since each number is drawn once; if it were, the worker would stop too. It draws once more than there are
-/// parts at most.
+/// One worker: draws numbers until there are none, and puts what came of each part. It stops where an allocation fails. A
+/// put is not refused, since each number is drawn once; if it were, the worker would stop too. It makes at most one draw more
+/// than there are parts.
 fn work<J: Job, N: Naming, R: Wait, G: Gate>(
     rt: &R,
     alloc: Global,
@@ -109,7 +109,7 @@ fn run_named<J: Job + Sync, N: Naming + Send + Sync, R: Threads + Wait + Sync, G
 {
     let (desk, pass): (Desk<'_, J, N>, Pass<N>) = Desk::new(alloc, blank, job, workers)?;
     let pass = crew(rt, alloc, &desk, job, pass, round, gate);
-    // A part is missing only where a worker stopped since an allocation failed.
+    // A part is missing only where a worker stopped because an allocation failed.
     Desk::close(alloc, desk, pass).map_err(|_| AllocError)
 }
 
@@ -119,8 +119,9 @@ fn run_named<J: Job + Sync, N: Naming + Send + Sync, R: Threads + Wait + Sync, G
 ///
 /// # Errors
 ///
-/// Where an allocation failed. A worker that finds no memory stops, and the others go on. A thread that can't be started is
-/// no error: the thread that was to start it does its share.
+/// Only where an allocation failed. A worker whose allocation fails stops, and the others go on; a join that was refused is
+/// tried once more at the close. A thread that can't be started is no error: the thread that was to start it does its share,
+/// behind its own.
 pub fn run_round<J: Job + Sync, R: Threads + Wait + Sync, G: Gate>(
     rt: &R,
     alloc: Global,

@@ -35,7 +35,7 @@ pub struct Surveyed {
 ///
 /// # Errors
 ///
-/// The first bad event, or `Memory` where a growth was refused.
+/// The first bad event, or `Memory` where an allocation failed.
 pub fn survey<R: Threads + Wait + Sync, G: Gate>(
     rt: &R,
     alloc: Global,
@@ -78,7 +78,7 @@ pub fn survey<R: Threads + Wait + Sync, G: Gate>(
 ///
 /// # Errors
 ///
-/// The first bad event, or `Memory` where a growth was refused. A thread that can't be started is no error: the thread
+/// The first bad event, or `Memory` where an allocation failed. A thread that can't be started is no error: the thread
 /// that was to start it does its share.
 pub fn figures<R: Threads + Wait + Sync, G: Gate>(
     rt: &R,

@@ -72,7 +72,7 @@ pub enum CutFault {
         /// The place.
         index: u32,
     },
-    /// A growth was refused.
+    /// An allocation failed.
     Memory,
 }
 
@@ -123,7 +123,7 @@ fn push_part<'t, 'a>(
 ///
 /// # Errors
 ///
-/// Where an allocation was refused.
+/// Where an allocation failed.
 pub fn cut_even<'t, 'a>(
     alloc: Global,
     trace: &'t Trace<'a>,
@@ -174,7 +174,7 @@ fn check_cuts(events: u32, cuts: &[u32]) -> Result<(), CutFault>
 /// # Errors
 ///
 /// `TooMany` where there are more than 65,535, else the first bad cut, `OutOfRange` before `NotRising`, or `Memory`
-/// where an allocation was refused.
+/// where an allocation failed.
 pub fn cut_at<'t, 'a>(
     alloc: Global,
     trace: &'t Trace<'a>,

@@ -17,7 +17,7 @@ use std::collections::BTreeSet;
 use std::fmt;
 use thiserror::Error;
 
-/// Why bytes open as no trace: what is wrong first, or want of memory.
+/// Why bytes open as no trace: what is wrong first, or that an allocation failed.
 ///
 /// Names are numbered on: function names from 0, then site names from the number of functions.
 #[derive(Clone, Copy, Debug, Error, PartialEq, Eq)]
@@ -42,7 +42,7 @@ pub enum HeaderFault {
     RootFunc,
     /// More bytes follow the header than all events have.
     Trailing,
-    /// No memory was left for the names.
+    /// An allocation failed.
     Memory,
 }
 
@@ -225,7 +225,7 @@ fn checked<'a>(alloc: Global, bytes: &'a [u8]) -> Result<Trace<'a>, HeaderFault>
 ///
 /// # Errors
 ///
-/// The first fault of the header, by what stands before it being good; `Memory` where a growth was refused.
+/// The first fault of the header, by what stands before it being good; `Memory` where an allocation failed.
 pub fn open_trace<'a>(alloc: Global, bytes: &'a [u8]) -> Result<Trace<'a>, HeaderFault>
     // What is opened is a trace.
     ensures found { IfOk result (λ t. (body : List ℕ) × IsTraceOf bytes.now t body) }

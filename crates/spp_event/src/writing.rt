@@ -93,7 +93,7 @@ fn push_records(bytes: &mut Vec<u8>, events: &[Event]) -> Result<(), AllocError>
 ///
 /// # Errors
 ///
-/// `AllocError` where a growth was refused.
+/// `AllocError` where an allocation failed.
 pub fn trace_bytes(alloc: Global, contents: &Contents<'_>) -> Result<Vec<u8>, AllocError>
     requires limits { InLimits (recording_of contents.now) }
     requires names { HasGoodNames (recording_of contents.now) }

@@ -12,7 +12,7 @@ use spp_site::Share;
 ///
 /// # Errors
 ///
-/// Where room was refused; both are handed back.
+/// Where an allocation failed; both are handed back.
 pub(crate) fn summed(left: Share, right: Share) -> Result<Share, JoinRefused<Share>>
     requires root_fits { Fits (plus left.root right.root) }
     requires sites_fit { (s : ℕ) → Fits (plus (row_at left s) (row_at right s)) }

@@ -17,7 +17,7 @@ use std::alloc::{AllocError, Global};
 ///
 /// # Errors
 ///
-/// Where a growth was refused.
+/// Where an allocation failed.
 pub fn entries_of(alloc: Global, cut: &Cut<'_, '_>, each: &[Summary]) -> Result<Entries, AllocError>
     requires well_formed { IsWellFormed cut.now.trace.records }
     requires each { (burdens : Burdens) × AreSummariesOf cut.now burdens each.now }

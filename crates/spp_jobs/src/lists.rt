@@ -10,7 +10,7 @@ use std::collections::VecDeque;
 ///
 /// # Errors
 ///
-/// Where room was refused.
+/// Where an allocation failed.
 pub(crate) fn make_room<T: Drop>(
     left: &mut VecDeque<T>,
     right: &mut VecDeque<T>,

@@ -64,6 +64,7 @@ impl<'c, 't, 'a> Job for SurveyJob<'c, 't, 'a> {
         let part = &self.cut.parts()[number as usize];
         let whole = Summary::summarise(alloc, part, self.burdens)?;
         let mut each = VecDeque::with_capacity(alloc, 1)?;
+        // The copy is kept, since it has no room to spare; `whole` goes into a join soon.
         each.push_back(Summary::copy(alloc, &whole)?)?;
         Ok(Survey { each, whole })
     }

@@ -37,7 +37,7 @@ pub struct PartResult {
 ///
 /// # Errors
 ///
-/// Where a growth was refused.
+/// Where an allocation failed.
 pub fn run_part(
     alloc: Global,
     part: &Part<'_, '_>,

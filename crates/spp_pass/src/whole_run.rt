@@ -32,7 +32,7 @@ fn bad(at: u32, why: Why) -> ProfileFault
 ///
 /// # Errors
 ///
-/// The first bad event, or `Memory` where a growth was refused.
+/// The first bad event, or `Memory` where an allocation failed.
 pub fn first_pass(
     alloc: Global,
     trace: &Trace<'_>,

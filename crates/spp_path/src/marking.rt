@@ -118,7 +118,7 @@ impl<'e> Marking<'e> {
 ///
 /// # Errors
 ///
-/// Where a growth was refused; the bytes may then be any.
+/// Where an allocation failed; the bytes may then be any.
 pub fn mark_part(
     alloc: Global,
     part: &Part<'_, '_>,
@@ -156,7 +156,7 @@ pub fn mark_part(
 ///
 /// # Errors
 ///
-/// Where a growth was refused.
+/// Where an allocation failed.
 fn mark_within(
     alloc: Global,
     part: &Part<'_, '_>,

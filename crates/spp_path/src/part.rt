@@ -35,7 +35,7 @@ use std::alloc::{AllocError, Global};
 ///
 /// # Errors
 ///
-/// Where a growth was refused.
+/// Where an allocation failed.
 pub fn part_rows(
     alloc: Global,
     part: &Part<'_, '_>,
@@ -92,7 +92,7 @@ fn stays_beside(part: &Part<'_, '_>, skipped: u32) -> bool
 ///
 /// # Errors
 ///
-/// Where a growth was refused.
+/// Where an allocation failed.
 fn rows_within(
     alloc: Global,
     part: &Part<'_, '_>,

@@ -170,7 +170,7 @@ fn count_to(spawns: &[u32], from: usize, position: u32) -> usize
 ///
 /// # Errors
 ///
-/// Where an allocation was refused.
+/// Where an allocation failed.
 pub(crate) fn places(
     alloc: Global,
     entries: &Entries,

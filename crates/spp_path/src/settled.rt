@@ -213,7 +213,7 @@ fn go_back(
 ///
 /// # Errors
 ///
-/// Where a growth was refused.
+/// Where an allocation failed.
 pub fn settle<'e>(
     alloc: Global,
     entries: &'e Entries,

@@ -173,7 +173,7 @@ impl WayBack {
 ///
 /// # Errors
 ///
-/// Where a growth was refused.
+/// Where an allocation failed.
 pub fn settle_whole(alloc: Global, ends: &[End], joins: &[Choice]) -> Result<Vec<u32>, AllocError>
     ensures { IfOk result (λ spawns. (es : List Event) (burdens : Burdens) → IsWellFormed es → AreEnds es ends.now → AreJoins es burdens joins.now → AreEnteredIn es burdens 0 (length es) spawns.items) }
 {

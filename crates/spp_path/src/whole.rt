@@ -34,7 +34,7 @@ fn known_event(trace: &Trace<'_>, at: u32) -> Event
 ///
 /// # Errors
 ///
-/// Where a growth was refused.
+/// Where an allocation failed.
 pub fn path_table(alloc: Global, trace: &Trace<'_>, entered: &[u32]) -> Result<Table, AllocError>
     requires formed { IsWellFormed trace.now.records }
     requires marks { (burdens : Burdens) × AreEnteredOf trace.now burdens entered.now }

@@ -165,7 +165,7 @@ fn profiled(
 ///
 /// # Errors
 ///
-/// The first bad event, or `Memory` where a growth was refused.
+/// The first bad event, or `Memory` where an allocation failed.
 pub fn profile(
     alloc: Global,
     trace: &Trace<'_>,

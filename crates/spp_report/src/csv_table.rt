@@ -136,7 +136,7 @@ fn write_tables<W: Write + Drop>(
 ///
 /// # Errors
 ///
-/// No memory was left.
+/// An allocation failed.
 pub fn csv_text(alloc: Global, named: &Named<'_, '_>) -> Result<Vec<u8>, AllocError>
     ensures { IfOk result (λ text. text.items ≡ csv_of_profile named.now.trace.now named.now.profile.now) }
 {

@@ -36,7 +36,7 @@ fn text_of_ratio(alloc: Global, hundredths: Option<u128>) -> Result<String, Allo
 ///
 /// # Errors
 ///
-/// No memory was left.
+/// An allocation failed.
 pub fn figures_text(alloc: Global, figures: &Figures) -> Result<Vec<u8>, AllocError>
     requires { figures.now.work < 2 ^ 120 }
     ensures { IfOk result (λ text. text.items ≡ text_of_figures figures.now) }

@@ -82,7 +82,7 @@ fn push_table(
 ///
 /// # Errors
 ///
-/// No memory was left.
+/// An allocation failed.
 pub fn plain_text(alloc: Global, named: &Named<'_, '_>) -> Result<Vec<u8>, AllocError>
     requires { named.now.profile.now.figures.work < 2 ^ 120 }
     ensures { IfOk result (λ text. text.items ≡ text_of_profile named.now.trace.now named.now.profile.now) }

@@ -51,7 +51,7 @@ pub enum UsageFault {
         /// 0 for help, which goes to standard output; 2 else, for standard error.
         status: u8,
     },
-    /// No memory was left.
+    /// An allocation failed.
     #[error("out of memory")]
     Memory,
 }

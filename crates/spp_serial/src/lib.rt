@@ -73,7 +73,7 @@ fn path_tables(
 ///
 /// # Errors
 ///
-/// The first bad event, or `Memory` where a growth was refused.
+/// The first bad event, or `Memory` where an allocation failed.
 pub fn profile_serial(
     alloc: Global,
     trace: &Trace<'_>,

@@ -18,7 +18,7 @@ pub enum ReadFault {
     /// More bytes came than are allowed, or all reads that are allowed were made and the end was not seen.
     #[error("too many bytes or reads")]
     TooLong,
-    /// No memory was left.
+    /// An allocation failed.
     #[error("out of memory")]
     Memory,
 }
@@ -62,7 +62,7 @@ fn pull_behind<S: Source>(
 ///
 /// # Errors
 ///
-/// `Device` where the source failed, `TooLong` where a bound was passed, `Memory` where a growth was refused. What
+/// `Device` where the source failed, `TooLong` where a bound was passed, `Memory` where an allocation failed. What
 /// was read until then is lost.
 pub fn read_within<S: Source>(
     alloc: Global,

@@ -9,12 +9,12 @@ use std::alloc::AllocError;
 pub(crate) enum Refusal {
     /// The bytes are refused, and this line says why.
     Line(String),
-    /// No memory was left.
+    /// An allocation failed.
     Memory,
 }
 
 impl Refusal {
-    /// That the bytes are refused by this line, or that no memory was left for it.
+    /// That the bytes are refused by this line, or that an allocation failed for it.
     pub(crate) fn of_line(line: Result<String, AllocError>) -> Refusal
         ensures { MatchResult line (λ text. result ≡ Line text) (λ _. result ≡ Memory) }
     {

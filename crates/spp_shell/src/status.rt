@@ -12,5 +12,5 @@ pub const USAGE: u8 = 2;
 /// An input could not be read whole, or the output could not be written whole.
 pub const DEVICE: u8 = 3;
 
-/// No memory was left.
+/// An allocation failed.
 pub const MEMORY: u8 = 4;

@@ -15,7 +15,7 @@ pub(crate) enum Trouble {
     TooLong,
     /// The output didn't take the whole answer, or failed to send it on.
     CannotWrite,
-    /// No memory was left.
+    /// An allocation failed.
     NoMemory,
 }
 

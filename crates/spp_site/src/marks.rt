@@ -48,7 +48,7 @@ impl Marks {
     ///
     /// # Errors
     ///
-    /// Where a growth was refused; the set then is as it was.
+    /// Where an allocation failed; the set then is as it was.
     #[inline(always)]
     pub fn add(&mut self, x: u32) -> Result<(), AllocError>
         ensures added { OnOk result ((y : ℕ) → is_marked self.new y ≡ with_mark x (is_marked self.old) y) }
@@ -66,7 +66,7 @@ impl Marks {
     ///
     /// # Errors
     ///
-    /// Where a growth was refused; the set then is as it was.
+    /// Where an allocation failed; the set then is as it was.
     #[inline(always)]
     pub fn add_if(&mut self, into: bool, x: u32) -> Result<(), AllocError>
         ensures added { OnOk result ((y : ℕ) → is_marked self.new y ≡ (is_marked self.old y || cond into (nat_eq x y) false)) }

@@ -133,7 +133,7 @@ impl Share {
     ///
     /// # Errors
     ///
-    /// Where an allocation was refused.
+    /// Where an allocation failed.
     pub fn copy(alloc: Global, share: &Share) -> Result<Share, AllocError>
         ensures same { IfOk result (λ t. t ≡ share.now) }
     {

@@ -90,7 +90,7 @@ impl Table {
     ///
     /// # Errors
     ///
-    /// Where a growth was refused; the table then has the rows that it had.
+    /// Where an allocation failed; the table then has the rows that it had.
     #[inline(always)]
     pub fn add(&mut self, site: u32, row: &Row) -> Result<(), AllocError>
         requires limit { site < 65536 }
@@ -115,7 +115,7 @@ impl Table {
     ///
     /// # Errors
     ///
-    /// Where a growth was refused; the table then has the rows that it had.
+    /// Where an allocation failed; the table then has the rows that it had.
     #[inline(always)]
     pub fn close(&mut self, site: u32, frame: &ClosedFrame) -> Result<(), AllocError>
         requires limit { site < 65536 }
@@ -143,7 +143,7 @@ impl Table {
     ///
     /// # Errors
     ///
-    /// Where room for its rows was refused; the table then has the rows that it had.
+    /// Where an allocation failed; the table then has the rows that it had.
     pub fn absorb(&mut self, share: &Share) -> Result<(), AllocError>
         requires root_fits { Fits (plus self.old.root share.now.root) }
         requires sites_fit { (s : ℕ) → Fits (plus (row_at self.old s) (row_at share.now s)) }
@@ -159,7 +159,7 @@ impl Table {
     ///
     /// # Errors
     ///
-    /// Where room for its rows was refused.
+    /// Where an allocation failed.
     pub fn from_share(alloc: Global, share: &Share) -> Result<Table, AllocError>
         requires root_fits { Fits share.now.root }
         requires sites_fit { (s : ℕ) → Fits (row_at share.now s) }
@@ -199,7 +199,7 @@ impl Table {
     ///
     /// # Errors
     ///
-    /// Where an allocation was refused.
+    /// Where an allocation failed.
     pub fn copy(alloc: Global, table: &Table) -> Result<Table, AllocError>
         ensures same { IfOk result (λ t. t ≡ table.now) }
         ensures no_zero_row { IfOk result HasNoZeroRow }
@@ -218,7 +218,7 @@ impl Table {
     ///
     /// # Errors
     ///
-    /// Where an allocation was refused.
+    /// Where an allocation failed.
     pub fn merged(alloc: Global, left: &Table, right: &Table) -> Result<Table, AllocError>
         requires root_fits { Fits (plus left.now.root right.now.root) }
         requires sites_fit { (s : ℕ) → Fits (plus (row_at left.now s) (row_at right.now s)) }

@@ -30,7 +30,7 @@ fn most_nodes(summaries: &[Summary]) -> usize {
 ///
 /// # Errors
 ///
-/// Where a growth was refused.
+/// Where an allocation failed.
 pub fn entries(alloc: Global, root: u32, summaries: &[Summary]) -> Result<Entries, AllocError>
     requires parts { (es : List EventValue) × (burdens : BurdensValue) × AreOfParts es burdens summaries.now }
     requires few { length summaries.now ≤ 65536 }

@@ -154,7 +154,7 @@ impl<'e> Entry<'e> {
     ///
     /// # Errors
     ///
-    /// Where a growth was refused.
+    /// Where an allocation failed.
     pub fn marks(&self, alloc: Global) -> Result<(Marks, Marks), AllocError>
         ensures sites { IfOk result (λ m. (fs : List FrameValue) → HasFrames self.now fs → (x : ℕ) → is_marked m.0 x ≡ has_site fs x) }
         ensures funcs { IfOk result (λ m. (fs : List FrameValue) → HasFrames self.now fs → (x : ℕ) → is_marked m.1 x ≡ has_func fs x) }

@@ -15,14 +15,14 @@ return_of segs at = record { segs = segs; at = at }
 -- the returns, of which those that are kept in full have what happened before them in the list
 abbrev pub returns_of : List Close → List Segs → List Unmatched
 returns_of [] gs = []
-returns_of (Strand run at ∷ cs) gs = return_of (strand run) at ∷ returns_of cs gs
+returns_of (Strand at run ∷ cs) gs = return_of (strand run) at ∷ returns_of cs gs
 returns_of (Kept at ∷ cs) [] = return_of idle at ∷ returns_of cs []
 returns_of (Kept at ∷ cs) (g ∷ gs) = return_of g at ∷ returns_of cs gs
 
 -- how many those are
 abbrev pub kept_count : List Close → ℕ
 kept_count [] = 0
-kept_count (Strand run at ∷ cs) = kept_count cs
+kept_count (Strand at run ∷ cs) = kept_count cs
 kept_count (Kept at ∷ cs) = kept_count cs + 1
 
 -- The returns; how many of them are kept in full; and for how many returns, and for how many of those, there is room.

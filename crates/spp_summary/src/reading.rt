@@ -238,7 +238,7 @@ impl Reading {
     ///
     /// # Errors
     ///
-    /// Where a growth was refused.
+    /// Where an allocation failed.
     pub(crate) fn of_part(
         alloc: Global,
         part: &Part<'_, '_>,

@@ -9,16 +9,16 @@ use std::alloc::{AllocError, Global};
 use std::collections::VecDeque;
 use std::marker::Model;
 
-/// An unmatched return, as it is kept.
+/// An unmatched return, as it is kept: 16 bytes, since the position, of 4, lies behind the mark of the variant.
 #[derive(Clone, Copy)]
 pub(crate) enum Close {
     /// Since the last such return a strand alone has happened to its frame, or what is like one, whose instructions fit
     /// into 64 bits.
     Strand {
-        /// The instructions of the strand.
-        run: u64,
         /// The position of the return.
         at: u32,
+        /// The instructions of the strand.
+        run: u64,
     },
     /// More has happened, or a longer strand. It is in a list of its own.
     Kept {
@@ -134,7 +134,7 @@ impl Returns {
         ensures { OnOk result (self.new.items ≡ self.old.items ++ return_of segs.now at ∷ []) }
     {
         if let Some(run) = segs.as_strand() {
-            self.closes.push_back(Close::Strand { run, at })?;
+            self.closes.push_back(Close::Strand { at, run })?;
             return Ok(());
         }
         self.push_kept(segs, at)
@@ -162,7 +162,7 @@ impl Returns {
         ensures kept_room { self.new.kept_room ≡ self.old.kept_room }
     {
         match segs.as_strand() {
-            Some(run) => self.closes.push_front_reserved(Close::Strand { run, at }),
+            Some(run) => self.closes.push_front_reserved(Close::Strand { at, run }),
             None => {
                 self.segs.push_front_reserved(*segs);
                 self.closes.push_front_reserved(Close::Kept { at });
@@ -183,7 +183,7 @@ impl Returns {
         ensures kept_room { self.new.kept_room ≡ self.old.kept_room }
     {
         match self.closes.pop_front()? {
-            Close::Strand { run, at } => Some(Return::Strand { run, at }),
+            Close::Strand { at, run } => Some(Return::Strand { run, at }),
             Close::Kept { at } => {
                 let segs = self.segs.pop_front()?;
                 Some(Return::Kept { segs, at })
@@ -275,7 +275,7 @@ impl<'a> ReturnsLeft<'a> {
         ensures last { result ≡ None → self.new ≡ [] }
     {
         match *self.closes.get(self.read)? {
-            Close::Strand { run, at } => {
+            Close::Strand { at, run } => {
                 self.read += 1;
                 Some(Return::Strand { run, at })
             }

@@ -32,7 +32,8 @@ use std::marker::Model;
 /// opened before it; what it does to the frame that is then the innermost; and the frames that it opens and leaves
 /// open. Reading stops at a bad record.
 ///
-/// Contracts see the burdens, the range, and these. It takes memory for its frames and for its unmatched returns.
+/// Contracts see the burdens, the range, and these. It takes memory for its unmatched returns, and for the most frames that
+/// were open at a time while it was made; a copy takes memory for its returns and frames alone.
 #[derive(Drop)]
 pub struct Summary {
     burdens: Burdens,
@@ -53,7 +54,7 @@ impl Model for Summary {
     ghost invariant = { λ a. IsStored (record { burdens = a.burdens; first = a.first; events = a.events; sum = seen a.storage }) a.storage };
 }
 
-/// Two values that weren't joined for want of memory, as they were.
+/// Two values that weren't joined, since an allocation failed, as they were.
 #[derive(Drop)]
 pub struct JoinRefused<T> {
     /// The earlier one.
@@ -70,7 +71,7 @@ impl Summary {
     ///
     /// # Errors
     ///
-    /// Where a growth was refused.
+    /// Where an allocation failed.
     pub fn summarise(
         alloc: Global,
         part: &Part<'_, '_>,
@@ -92,13 +93,13 @@ impl Summary {
     /// The summary of two neighbouring ranges together, with the same burdens: it acts as the one and then the other,
     /// and is the summary of both lists of events.
     ///
-    /// Amortized, it takes time linear in the number of frames of the left one that the right one closes, and then in the
-    /// lesser of the numbers of frames and of unmatched returns that the two have left: the fewer ones are moved into the
-    /// list of the other.
+    /// Amortized, it takes time linear in the number of frames of the left one that the right one closes; then in the number
+    /// of frames of the side that has fewer left, and in the number of unmatched returns of the side that has fewer left,
+    /// since those are moved into the list of the other.
     ///
     /// # Errors
     ///
-    /// Where a growth was refused; both are handed back.
+    /// Where an allocation failed; both are handed back.
     pub fn join(left: Summary, right: Summary) -> Result<Summary, JoinRefused<Summary>>
         requires burdens { left.burdens ≡ right.burdens }
         requires neighbours { right.first ≡ left.first + left.events }
@@ -198,7 +199,7 @@ impl Summary {
     ///
     /// # Errors
     ///
-    /// Where an allocation was refused.
+    /// Where an allocation failed.
     pub fn copy(alloc: Global, summary: &Summary) -> Result<Summary, AllocError>
         ensures { IfOk result (λ s. s ≡ summary.now) }
     {

@@ -39,7 +39,7 @@ pub enum TextWhy {
     Site,
     /// The function isn't below the number of functions.
     Func,
-    /// No memory was left.
+    /// An allocation failed.
     Memory,
 }
 
@@ -85,7 +85,7 @@ impl<T: Drop> From<AllocFailed<T>> for TextWhy {
 #[error("line {line}: {why}")]
 pub struct TextFault {
     /// The number of the line, from 1, or of the end, as of a line behind the last; 2^32 - 1 for that line and all after
-    /// it. At want of memory, too, it is one of these, and no line before it has a fault.
+    /// it. Where an allocation failed, too, it is one of these, and no line before it has a fault.
     pub line: u32,
     /// What is wrong with it.
     pub why: TextWhy,

@@ -17,7 +17,7 @@ use std::alloc::Global;
 /// # Errors
 ///
 /// The first fault of the least line that has one, in the order of the checks of [`TextWhy`]'s documentation;
-/// `Memory`, where a growth was refused, with the number of a line, or of the end, before which no line has a fault.
+/// `Memory`, where an allocation failed, with the number of a line, or of the end, before which no line has a fault.
 pub fn parse_text(alloc: Global, text: &str) -> Result<Vec<u8>, TextFault>
     ensures found { IfOk result (λ bytes. IsEncoded text.now bytes.items) }
     ensures refused { IfErr result (λ fault. IsTextFault text.now fault) }

@@ -25,7 +25,7 @@ pub enum PrintFault {
         /// What is wrong with it.
         why: EventFault,
     },
-    /// No memory was left.
+    /// An allocation failed.
     #[error("out of memory")]
     Memory,
 }
@@ -134,7 +134,7 @@ fn push_events(text: &mut String, trace: &Trace<'_>) -> Result<(), PrintFault>
 ///
 /// # Errors
 ///
-/// `Bad` where a record is bad, with the least; `Memory` where a growth was refused.
+/// `Bad` where a record is bad, with the least; `Memory` where an allocation failed.
 pub fn print_text(alloc: Global, trace: &Trace<'_>) -> Result<String, PrintFault>
     ensures text { IfOk result (λ text. (es : List AnEvent) × (trace.now.records ≡ map (λ e. Ok e) es) × (string_bytes text ≡ text_of trace.now es)) }
     // Read again, it names the trace.

@@ -10,7 +10,7 @@ use std::io;
 use std::sync::Wait;
 use std::thread::Threads;
 
-/// The mark of each event of a cut trace; none where the trace isn't well-formed or no memory was left.
+/// The mark of each event of a cut trace; none where the trace isn't well-formed or an allocation failed.
 pub(crate) fn marked<R: Threads + Wait + Sync>(
     rt: &R,
     alloc: Global,

@@ -62,7 +62,7 @@ fn put<J: Job>(alloc: Global, book: &mut Book<'_, J>, job: &J, number: u32) -> O
     book.accept(alloc, piece).ok()
 }
 
-/// The milliseconds in which the job is done in this order; none where it has none, or no memory was left.
+/// The milliseconds in which the job is done in this order; none where it has none, or an allocation failed.
 fn milliseconds<R: Clock, J: Job>(rt: &R, alloc: Global, job: &J, order: Order) -> Option<u128> {
     let start = Instant::now(rt).ok()?;
     let parts = job.parts();

@@ -7,7 +7,7 @@ use Rattle.spp_summary.proofs.returns.Returns.push.Goals as goal
 pub invariant_of-self-in-Some : goal.invariant_of-self-in-Some
 invariant_of-self-in-Some c =
     let r = c.self.inside in
-    omega (arith, ap kept_count c.in_ok-push_back.ensures.items, count-append r.closes.items (Strand c.in-Some.run' c.args.at ∷ []), c.self.invariant)
+    omega (arith, ap kept_count c.in_ok-push_back.ensures.items, count-append r.closes.items (Strand c.args.at c.in-Some.run' ∷ []), c.self.invariant)
 
 pub returns-in-Some : goal.returns-in-Some
 returns-in-Some c =
