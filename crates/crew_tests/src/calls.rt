@@ -131,5 +131,5 @@ pub(crate) fn stacks_of<R: Threads + Wait + Sync>(
     ensures { IfOk result (λ stacks. AreEntriesOf cut.now THREE stacks) }
 {
     let found = survey(rt, alloc, cut, crew.workers(), THREE, &OpenGate)?;
-    Ok(entries_of(alloc, cut, &found.each)?)
+    Ok(entries_of(alloc, cut, &found.summaries)?)
 }

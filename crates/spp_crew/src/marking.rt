@@ -171,8 +171,8 @@ pub fn marks<R: Threads + Wait + Sync, G: Gate>(
     let count = cut.parts().len();
     let burdens = Burdens::equal(0);
     let found = survey(rt, alloc, cut, workers, burdens, gate)?;
-    let stacks = entries_of(alloc, cut, &found.each)?;
-    drop(found.each);
+    let stacks = entries_of(alloc, cut, &found.summaries)?;
+    drop(found.summaries);
     let Tabled { choices, .. } = tabled(rt, alloc, cut, &stacks, workers, burdens, gate)?;
     let choices = choices.into_vec();
     let settled = settle(alloc, &stacks, &choices, Under::Zero)?;

@@ -175,9 +175,9 @@ pub fn profile<R: Threads + Wait + Sync, G: Gate>(
     // Called for its contract alone: the parts hold all events.
     let _parts = cut.parts();
     let found = survey(rt, alloc, cut, workers, burdens, gate)?;
-    let figures = found.whole;
-    let stacks = entries_of(alloc, cut, &found.each)?;
-    drop(found.each);
+    let figures = found.figures;
+    let stacks = entries_of(alloc, cut, &found.summaries)?;
+    drop(found.summaries);
     let Tabled { share, choices } = tabled(rt, alloc, cut, &stacks, workers, burdens, gate)?;
     let choices = choices.into_vec();
     let on_paths = pathed(rt, alloc, cut, &stacks, &choices, workers, burdens, gate)?;

@@ -25,9 +25,9 @@ use std::thread::Threads;
 #[derive(Drop)]
 pub struct Surveyed {
     /// The summary of each part, in order.
-    pub each: Vec<Summary>,
+    pub summaries: Vec<Summary>,
     /// The work, span and burdened span of the run.
-    pub whole: Figures,
+    pub figures: Figures,
 }
 
 /// The summaries of the parts of a cut trace, with the figures that all parts together come to, made by so many workers
@@ -46,13 +46,13 @@ pub fn survey<R: Threads + Wait + Sync, G: Gate>(
 ) -> Result<Surveyed, ProfileFault>
     requires some { 0 < workers }
     requires most { workers ≤ 64 }
-    ensures figures { IfOk result (λ s. AreFigures cut.now.trace.records burdens s.whole) }
-    ensures small { IfOk result (λ s. s.whole.work < 2 ^ 92) }
-    ensures count { IfOk result (λ s. length s.each.items ≡ length cut.now.parts) }
-    ensures few { IfOk result (λ s. length s.each.items ≤ 65536) }
-    ensures burdens { IfOk result (λ s. All (λ a. a.burdens ≡ burdens) s.each.items) }
-    ensures each { IfOk result (λ s. AreSummariesOf cut.now burdens s.each.items) }
-    ensures parts { IfOk result (λ s. (es : List EventValue) → AreEvents cut.now.trace.records es → AreOfParts es burdens s.each.items) }
+    ensures figures { IfOk result (λ s. AreFigures cut.now.trace.records burdens s.figures) }
+    ensures small { IfOk result (λ s. s.figures.work < 2 ^ 92) }
+    ensures count { IfOk result (λ s. length s.summaries.items ≡ length cut.now.parts) }
+    ensures few { IfOk result (λ s. length s.summaries.items ≤ 65536) }
+    ensures burdens { IfOk result (λ s. All (λ a. a.burdens ≡ burdens) s.summaries.items) }
+    ensures each { IfOk result (λ s. AreSummariesOf cut.now burdens s.summaries.items) }
+    ensures parts { IfOk result (λ s. (es : List EventValue) → AreEvents cut.now.trace.records es → AreOfParts es burdens s.summaries.items) }
     ensures fault { IfErr result (λ f. IsFaultOf cut.now.trace.records f) }
 {
     // Called for their contracts alone: the limits, and that the parts hold all events.
@@ -62,8 +62,8 @@ pub fn survey<R: Threads + Wait + Sync, G: Gate>(
     let Survey { each, whole } = run_round(rt, alloc, &job, workers, Round::Summaries, gate)?;
     let whole = whole.finish()?;
     Ok(Surveyed {
-        each: each.into_vec(),
-        whole,
+        summaries: each.into_vec(),
+        figures: whole,
     })
 }
 
@@ -94,6 +94,6 @@ pub fn figures<R: Threads + Wait + Sync, G: Gate>(
     ensures small { IfOk result (λ f. f.work < 2 ^ 92) }
     ensures fault { IfErr result (λ f. IsFaultOf cut.now.trace.records f) }
 {
-    let Surveyed { whole, .. } = survey(rt, alloc, cut, workers, burdens, gate)?;
-    Ok(whole)
+    let Surveyed { figures, .. } = survey(rt, alloc, cut, workers, burdens, gate)?;
+    Ok(figures)
 }

@@ -96,7 +96,7 @@ fn stacks_of<R: Threads + Wait + Sync>(rt: &R, alloc: Global, cut: &Cut<'_, '_>)
     ensures { IfSome result (λ stacks. AreEntriesOf cut.now BURDENS stacks) }
 {
     let found = survey(rt, alloc, cut, 1, BURDENS, &OpenGate).ok()?;
-    entries_of(alloc, cut, &found.each).ok()
+    entries_of(alloc, cut, &found.summaries).ok()
 }
 
 /// The same of the job of the table of the dag.

@@ -48,7 +48,7 @@ add_root-requires g c =
     let n : ℕ = length t.records in
     let small = (c.in_ok-found.ensures.parts fig.events fig.are_events).small in
     subst (λ (r : Row). Fits (plus c.in_ok-dag.dag.root r)) (sym c.root_row-root.ensures)
-    (root_fits Everywhere t b c.in_ok-found.found.whole fig n refl c.in_ok-dag.dag (rows_again Everywhere t n c.in_ok-share.field-0.share c.in_ok-dag.dag c.in_ok-dag.ensures (dag_rows (table_of c.args.cut.now b) c.parts-parts.ensures.cut c.in_ok-share.field-0 c.in_ok-share.ensures)) everywhere refl refl small)
+    (root_fits Everywhere t b c.in_ok-found.found.figures fig n refl c.in_ok-dag.dag (rows_again Everywhere t n c.in_ok-share.field-0.share c.in_ok-dag.dag c.in_ok-dag.ensures (dag_rows (table_of c.args.cut.now b) c.parts-parts.ensures.cut c.in_ok-share.field-0 c.in_ok-share.ensures)) everywhere refl refl small)
 
 pub add_root-requires-2 : goal.add_root-requires-2
 add_root-requires-2 g c =
@@ -57,9 +57,9 @@ add_root-requires-2 g c =
     let fig = c.in_ok-found.ensures.figures in
     let n : ℕ = length t.records in
     let small = (c.in_ok-found.ensures.parts fig.events fig.are_events).small in
-    let path = path_of t b c.in_ok-found.found.whole fig unburdened in
+    let path = path_of t b c.in_ok-found.found.figures fig unburdened in
     subst (λ (r : Row). Fits (plus c.in_ok-path.path.root r)) (sym c.root_row-root.ensures)
-    (root_fits (OnPath unburdened) t b c.in_ok-found.found.whole fig n refl c.in_ok-path.path (rows_again (OnPath unburdened) t n c.in_ok-on_paths.on_paths.path c.in_ok-path.path c.in_ok-path.ensures (path_rows (path_of_job c.args.cut.now b) c.parts-parts.ensures.cut c.in_ok-on_paths.on_paths c.in_ok-on_paths.ensures)) (contains (0 ∷ path.0)) (path.0, path.1, refl) refl small)
+    (root_fits (OnPath unburdened) t b c.in_ok-found.found.figures fig n refl c.in_ok-path.path (rows_again (OnPath unburdened) t n c.in_ok-on_paths.on_paths.path c.in_ok-path.path c.in_ok-path.ensures (path_rows (path_of_job c.args.cut.now b) c.parts-parts.ensures.cut c.in_ok-on_paths.on_paths c.in_ok-on_paths.ensures)) (contains (0 ∷ path.0)) (path.0, path.1, refl) refl small)
 
 pub add_root-requires-3 : goal.add_root-requires-3
 add_root-requires-3 g c =
@@ -68,9 +68,9 @@ add_root-requires-3 g c =
     let fig = c.in_ok-found.ensures.figures in
     let n : ℕ = length t.records in
     let small = (c.in_ok-found.ensures.parts fig.events fig.are_events).small in
-    let path = path_of t b c.in_ok-found.found.whole fig b in
+    let path = path_of t b c.in_ok-found.found.figures fig b in
     subst (λ (r : Row). Fits (plus c.in_ok-burdened_path.burdened_path.root r)) (sym c.root_row-root.ensures)
-    (root_fits (OnPath b) t b c.in_ok-found.found.whole fig n refl c.in_ok-burdened_path.burdened_path (rows_again (OnPath b) t n c.in_ok-on_paths.on_paths.burdened_path c.in_ok-burdened_path.burdened_path c.in_ok-burdened_path.ensures (burdened_rows (path_of_job c.args.cut.now b) c.parts-parts.ensures.cut c.in_ok-on_paths.on_paths c.in_ok-on_paths.ensures)) (contains (0 ∷ path.0)) (path.0, path.1, refl) refl small)
+    (root_fits (OnPath b) t b c.in_ok-found.found.figures fig n refl c.in_ok-burdened_path.burdened_path (rows_again (OnPath b) t n c.in_ok-on_paths.on_paths.burdened_path c.in_ok-burdened_path.burdened_path c.in_ok-burdened_path.ensures (burdened_rows (path_of_job c.args.cut.now b) c.parts-parts.ensures.cut c.in_ok-on_paths.on_paths c.in_ok-on_paths.ensures)) (contains (0 ∷ path.0)) (path.0, path.1, refl) refl small)
 
 pub returns-clause-dag : goal.returns-clause-dag
 returns-clause-dag g c =
@@ -78,7 +78,7 @@ returns-clause-dag g c =
     let b : Burdens = c.args.burdens in
     let fig = c.in_ok-found.ensures.figures in
     let n : ℕ = length t.records in
-    dag_is t b c.in_ok-found.found.whole fig n refl c.in_ok-dag.dag (rows_again Everywhere t n c.in_ok-share.field-0.share c.in_ok-dag.dag c.in_ok-dag.ensures (dag_rows (table_of c.args.cut.now b) c.parts-parts.ensures.cut c.in_ok-share.field-0 c.in_ok-share.ensures)) c.add_root.new.self (c.add_root.ensures ∙ ap (λ (r : Row). let u : Sums = record c.in_ok-dag.dag { root = plus c.in_ok-dag.dag.root r } in u) c.root_row-root.ensures)
+    dag_is t b c.in_ok-found.found.figures fig n refl c.in_ok-dag.dag (rows_again Everywhere t n c.in_ok-share.field-0.share c.in_ok-dag.dag c.in_ok-dag.ensures (dag_rows (table_of c.args.cut.now b) c.parts-parts.ensures.cut c.in_ok-share.field-0 c.in_ok-share.ensures)) c.add_root.new.self (c.add_root.ensures ∙ ap (λ (r : Row). let u : Sums = record c.in_ok-dag.dag { root = plus c.in_ok-dag.dag.root r } in u) c.root_row-root.ensures)
 
 pub returns-clause-path : goal.returns-clause-path
 returns-clause-path g c =
@@ -86,7 +86,7 @@ returns-clause-path g c =
     let b : Burdens = c.args.burdens in
     let fig = c.in_ok-found.ensures.figures in
     let n : ℕ = length t.records in
-    path_is t b c.in_ok-found.found.whole fig unburdened n refl c.in_ok-path.path (rows_again (OnPath unburdened) t n c.in_ok-on_paths.on_paths.path c.in_ok-path.path c.in_ok-path.ensures (path_rows (path_of_job c.args.cut.now b) c.parts-parts.ensures.cut c.in_ok-on_paths.on_paths c.in_ok-on_paths.ensures)) c.add_root-2.new.self (c.add_root-2.ensures ∙ ap (λ (r : Row). let u : Sums = record c.in_ok-path.path { root = plus c.in_ok-path.path.root r } in u) c.root_row-root.ensures)
+    path_is t b c.in_ok-found.found.figures fig unburdened n refl c.in_ok-path.path (rows_again (OnPath unburdened) t n c.in_ok-on_paths.on_paths.path c.in_ok-path.path c.in_ok-path.ensures (path_rows (path_of_job c.args.cut.now b) c.parts-parts.ensures.cut c.in_ok-on_paths.on_paths c.in_ok-on_paths.ensures)) c.add_root-2.new.self (c.add_root-2.ensures ∙ ap (λ (r : Row). let u : Sums = record c.in_ok-path.path { root = plus c.in_ok-path.path.root r } in u) c.root_row-root.ensures)
 
 pub returns-clause-burdened_path : goal.returns-clause-burdened_path
 returns-clause-burdened_path g c =
@@ -94,7 +94,7 @@ returns-clause-burdened_path g c =
     let b : Burdens = c.args.burdens in
     let fig = c.in_ok-found.ensures.figures in
     let n : ℕ = length t.records in
-    path_is t b c.in_ok-found.found.whole fig b n refl c.in_ok-burdened_path.burdened_path (rows_again (OnPath b) t n c.in_ok-on_paths.on_paths.burdened_path c.in_ok-burdened_path.burdened_path c.in_ok-burdened_path.ensures (burdened_rows (path_of_job c.args.cut.now b) c.parts-parts.ensures.cut c.in_ok-on_paths.on_paths c.in_ok-on_paths.ensures)) c.add_root-3.new.self (c.add_root-3.ensures ∙ ap (λ (r : Row). let u : Sums = record c.in_ok-burdened_path.burdened_path { root = plus c.in_ok-burdened_path.burdened_path.root r } in u) c.root_row-root.ensures)
+    path_is t b c.in_ok-found.found.figures fig b n refl c.in_ok-burdened_path.burdened_path (rows_again (OnPath b) t n c.in_ok-on_paths.on_paths.burdened_path c.in_ok-burdened_path.burdened_path c.in_ok-burdened_path.ensures (burdened_rows (path_of_job c.args.cut.now b) c.parts-parts.ensures.cut c.in_ok-on_paths.on_paths c.in_ok-on_paths.ensures)) c.add_root-3.new.self (c.add_root-3.ensures ∙ ap (λ (r : Row). let u : Sums = record c.in_ok-burdened_path.burdened_path { root = plus c.in_ok-burdened_path.burdened_path.root r } in u) c.root_row-root.ensures)
 
 pub returns-clause-profile : goal.returns-clause-profile
 returns-clause-profile g c =
@@ -102,7 +102,7 @@ returns-clause-profile g c =
     let b : Burdens = c.args.burdens in
     let fig = c.in_ok-found.ensures.figures in
     let n : ℕ = length t.records in
-    let dags : IsDagTable t c.add_root.new.self = dag_is t b c.in_ok-found.found.whole fig n refl c.in_ok-dag.dag (rows_again Everywhere t n c.in_ok-share.field-0.share c.in_ok-dag.dag c.in_ok-dag.ensures (dag_rows (table_of c.args.cut.now b) c.parts-parts.ensures.cut c.in_ok-share.field-0 c.in_ok-share.ensures)) c.add_root.new.self (c.add_root.ensures ∙ ap (λ (r : Row). let u : Sums = record c.in_ok-dag.dag { root = plus c.in_ok-dag.dag.root r } in u) c.root_row-root.ensures) in
-    let one : IsPathTable t unburdened c.add_root-2.new.self = path_is t b c.in_ok-found.found.whole fig unburdened n refl c.in_ok-path.path (rows_again (OnPath unburdened) t n c.in_ok-on_paths.on_paths.path c.in_ok-path.path c.in_ok-path.ensures (path_rows (path_of_job c.args.cut.now b) c.parts-parts.ensures.cut c.in_ok-on_paths.on_paths c.in_ok-on_paths.ensures)) c.add_root-2.new.self (c.add_root-2.ensures ∙ ap (λ (r : Row). let u : Sums = record c.in_ok-path.path { root = plus c.in_ok-path.path.root r } in u) c.root_row-root.ensures) in
-    let other : IsPathTable t b c.add_root-3.new.self = path_is t b c.in_ok-found.found.whole fig b n refl c.in_ok-burdened_path.burdened_path (rows_again (OnPath b) t n c.in_ok-on_paths.on_paths.burdened_path c.in_ok-burdened_path.burdened_path c.in_ok-burdened_path.ensures (burdened_rows (path_of_job c.args.cut.now b) c.parts-parts.ensures.cut c.in_ok-on_paths.on_paths c.in_ok-on_paths.ensures)) c.add_root-3.new.self (c.add_root-3.ensures ∙ ap (λ (r : Row). let u : Sums = record c.in_ok-burdened_path.burdened_path { root = plus c.in_ok-burdened_path.burdened_path.root r } in u) c.root_row-root.ensures) in
-    whole t b (record { figures = c.in_ok-found.found.whole; dag = c.add_root.new.self; path = c.add_root-2.new.self; burdened_path = c.add_root-3.new.self }) fig dags one other
+    let dags : IsDagTable t c.add_root.new.self = dag_is t b c.in_ok-found.found.figures fig n refl c.in_ok-dag.dag (rows_again Everywhere t n c.in_ok-share.field-0.share c.in_ok-dag.dag c.in_ok-dag.ensures (dag_rows (table_of c.args.cut.now b) c.parts-parts.ensures.cut c.in_ok-share.field-0 c.in_ok-share.ensures)) c.add_root.new.self (c.add_root.ensures ∙ ap (λ (r : Row). let u : Sums = record c.in_ok-dag.dag { root = plus c.in_ok-dag.dag.root r } in u) c.root_row-root.ensures) in
+    let one : IsPathTable t unburdened c.add_root-2.new.self = path_is t b c.in_ok-found.found.figures fig unburdened n refl c.in_ok-path.path (rows_again (OnPath unburdened) t n c.in_ok-on_paths.on_paths.path c.in_ok-path.path c.in_ok-path.ensures (path_rows (path_of_job c.args.cut.now b) c.parts-parts.ensures.cut c.in_ok-on_paths.on_paths c.in_ok-on_paths.ensures)) c.add_root-2.new.self (c.add_root-2.ensures ∙ ap (λ (r : Row). let u : Sums = record c.in_ok-path.path { root = plus c.in_ok-path.path.root r } in u) c.root_row-root.ensures) in
+    let other : IsPathTable t b c.add_root-3.new.self = path_is t b c.in_ok-found.found.figures fig b n refl c.in_ok-burdened_path.burdened_path (rows_again (OnPath b) t n c.in_ok-on_paths.on_paths.burdened_path c.in_ok-burdened_path.burdened_path c.in_ok-burdened_path.ensures (burdened_rows (path_of_job c.args.cut.now b) c.parts-parts.ensures.cut c.in_ok-on_paths.on_paths c.in_ok-on_paths.ensures)) c.add_root-3.new.self (c.add_root-3.ensures ∙ ap (λ (r : Row). let u : Sums = record c.in_ok-burdened_path.burdened_path { root = plus c.in_ok-burdened_path.burdened_path.root r } in u) c.root_row-root.ensures) in
+    whole t b (record { figures = c.in_ok-found.found.figures; dag = c.add_root.new.self; path = c.add_root-2.new.self; burdened_path = c.add_root-3.new.self }) fig dags one other
