@@ -142,13 +142,13 @@ fn pathed<R: Threads + Wait + Sync, G: Gate>(
 /// workers, 1 to 64, each on a thread of its own but one, who draw the parts of the cut trace in three rounds. How many
 /// workers there are, which of them draws which part, and in which order the parts are done doesn't show in the profile.
 ///
-/// Each event is read four times: for the summaries, for the table of the dag, and for that of each path, and up to twice
-/// more to find out whether a path comes to its part. All workers together take a time linear in the number of events,
-/// besides, for each part, the numbers of sites and of functions. The joins of what comes of the parts are made one at a
-/// time. The memory is linear in the numbers of parts, of the sites that each of them has rows of, of the frames that they
-/// leave open or close and don't open, and of spawned children, in the most frames that are open at a time within a part,
-/// and, for each worker, in the numbers of sites and of functions; a thread has a stack of its own besides. The work is
-/// below 2^92.
+/// Each event is read four times: for the summaries, for the table of the dag, and for that of each path, or once for both
+/// paths where they go alike in its part. To find out whether a path comes to the part at all, it may be read once more
+/// before each of these. All workers together take a time linear in the number of events, besides, for each part, the
+/// numbers of sites and of functions. The joins of what comes of the parts are made one at a time. The memory is linear in
+/// the numbers of parts, of the sites that each of them has rows of, of the frames that they leave open or close and don't
+/// open, and of spawned children, in the most frames that are open at a time within a part, and, for each worker, in the
+/// numbers of sites and of functions; a thread has a stack of its own besides. The work is below 2^92.
 ///
 /// # Errors
 ///

@@ -37,7 +37,7 @@ chosen_at es b (p ∷ ps) [] h k c is = absurd h
 chosen_at es b (p ∷ ps) (d ∷ cs) h zero c is = (p, refl, subst (λ x. AreChoicesIn es b p.first (p.first + p.count) x) (same_Some d c is) h.0)
 chosen_at es b (p ∷ ps) (d ∷ cs) h (suc k) c is = chosen_at es b ps cs h.1 k c is
 
-number_at : (t : Recording) (number from end : ℕ) (ps : List PartOf) → Cover t number from ps end → (k : ℕ) (p : PartOf) → slice_get ps k ≡ Some p → p.number ≡ number + k
+pub number_at : (t : Recording) (number from end : ℕ) (ps : List PartOf) → Cover t number from ps end → (k : ℕ) (p : PartOf) → slice_get ps k ≡ Some p → p.number ≡ number + k
 number_at t number from end [] h k p is = cc
 number_at t number from end (q ∷ ps) h zero p is =
     let same : p.number ≡ q.number = ap (λ (x : PartOf). x.number) (sym (same_Some q p is)) in

@@ -124,13 +124,17 @@ impl<'c, 't, 'a> Job for PathJob<'c, 't, 'a> {
         (part.first(), part.count())
     }
 
-    /// Time and memory are those of [`part_rows`], for each of the two paths.
+    /// Time and memory are those of [`part_rows`], once for both paths where they go alike in the part, else for each.
     fn run(&self, alloc: Global, number: u32) -> Result<Pathed, AllocError> {
         self.cut.trace().keeps_limits();
         let at = number as usize;
         let part = &self.cut.parts()[at];
         let path = part_rows(alloc, part, self.stacks.entry(at), self.path)?;
-        let burdened_path = part_rows(alloc, part, self.stacks.entry(at), self.burdened)?;
+        let burdened_path = if self.path.goes_alike(self.burdened, at) {
+            Share::copy(alloc, &path)?
+        } else {
+            part_rows(alloc, part, self.stacks.entry(at), self.burdened)?
+        };
         Ok(Pathed {
             path,
             burdened_path,

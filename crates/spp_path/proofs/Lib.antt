@@ -34,6 +34,7 @@ pub mod PartPass
 pub mod Ending
 pub mod Staying
 pub mod Counting
+pub mod Alike
 pub mod Placed
 pub mod MarkSteps
 pub mod MarkPass

@@ -10,4 +10,5 @@ pub mod Rows
 pub mod Outside
 pub mod Parts
 pub mod Beside
+pub mod Alike
 pub mod Marks

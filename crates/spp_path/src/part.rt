@@ -7,8 +7,10 @@ ghost use Rattle.spp_event.specs.Recordings.{record_at};
 ghost use Rattle.spp_frame.specs.Nesting.{AreEvents};
 ghost use Rattle.spp_maxplus.specs.declared.state.Burdens.{Burdens};
 ghost use Rattle.spp_path.specs.Outside.{HasEntry};
+ghost use Rattle.spp_path.specs.Alike.{GoAlike};
 ghost use Rattle.spp_path.specs.Beside.{StaysBeside};
 ghost use Rattle.spp_path.specs.Parts.{GoesOn, IsPlaced, IsSettledIn, IsPathShare};
+ghost use Rattle.spp_path.specs.Settled.{PathOf};
 
 use crate::entered::Entered;
 use crate::rows::PathRows;
@@ -45,7 +47,8 @@ pub fn part_rows(
     requires stands { (burdens : Burdens) × HasEntry part.now.trace burdens part.now.first entry }
     requires placed { IsPlaced part.now entry settled.now }
     requires settled { (burdens : Burdens) × IsSettledIn part.now.trace burdens settled.now }
-    ensures { IfOk result (λ t. (burdens : Burdens) → IsSettledIn part.now.trace burdens settled.now → (es : List AnEvent) → AreEvents part.now.trace.records es → IsPathShare es burdens part.now.trace.root part.now.first (part.now.first + part.now.count) t) }
+    ensures share { IfOk result (λ t. (burdens : Burdens) → IsSettledIn part.now.trace burdens settled.now → (es : List AnEvent) → AreEvents part.now.trace.records es → IsPathShare es burdens part.now.trace.root part.now.first (part.now.first + part.now.count) t) }
+    ensures alike { IfOk result (λ t. (burdens : Burdens) (other : PathOf) → GoAlike part.now.number settled.now other → IsSettledIn part.now.trace burdens other → (es : List AnEvent) → AreEvents part.now.trace.records es → IsPathShare es burdens part.now.trace.root part.now.first (part.now.first + part.now.count) t) }
 {
     let number = part.number() as usize;
     let LiveFrame {

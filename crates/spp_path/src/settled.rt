@@ -1,6 +1,6 @@
 //! A path that was settled, part by part.
 
-ghost use Rattle.std.specs.Prelude.{◌≡◌, ℕ, ◌+◌, ◌≤◌, ◌<◌, ◌^◌, ◌∷◌, [], List, length, slice_get, Some, IfOk};
+ghost use Rattle.std.specs.Prelude.{◌≡◌, ℕ, ◌+◌, ◌≤◌, ◌<◌, ◌^◌, ◌↔◌, ◌∷◌, [], List, length, slice_get, Some, IfOk, IsTrue};
 ghost use Rattle.spp_event.specs.declared.records.Event.{Event};
 ghost use Rattle.spp_maxplus.specs.declared.state.Burdens.{Burdens as BurdensValue};
 ghost use Rattle.spp_dag.specs.declared.stack.EntryFrame.{EntryFrame as FrameValue};
@@ -8,6 +8,7 @@ ghost use Rattle.spp_stack.specs.Chain.{IsStart};
 ghost use Rattle.spp_dag.specs.Dag.{IsPath};
 ghost use Rattle.spp_path.specs.declared.settling.Onward.{Onward as OnwardValue};
 ghost use Rattle.spp_path.specs.Ways.{StandsAt};
+ghost use Rattle.spp_path.specs.Alike.{GoAlike};
 ghost use Rattle.spp_path.specs.Entered.{AreEnteredIn};
 ghost use Rattle.spp_path.specs.Settled.{
   position,
@@ -105,6 +106,23 @@ impl<'e> Settled<'e> {
     {
         let start = self.starts[part];
         start.before
+    }
+
+    /// Whether another path, settled over the same stacks, goes as this one does in part `part`: where the part begins it
+    /// enters the same frame as the innermost, which runs on along both or neither, and in the part the same children. The
+    /// time is linear in the number of these.
+    pub fn goes_alike(&self, other: &Settled<'_>, part: usize) -> bool
+        requires part { part + 1 < length self.now.starts }
+        requires stacks { other.now.stacks ≡ self.now.stacks }
+        requires count { length other.now.starts ≡ length self.now.starts }
+        ensures { IsTrue result ↔ GoAlike part self.now other.now }
+    {
+        let here = self.starts[part];
+        let there = other.starts[part];
+        if here.live != there.live || here.running != there.running {
+            return false;
+        }
+        self.entered(part) == other.entered(part)
     }
 
     /// What of the frames that are open where part `part` begins is on the path, in the order of
