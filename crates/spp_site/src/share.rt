@@ -14,14 +14,16 @@ use std::alloc::{AllocError, Global};
 use std::marker::Model;
 
 /// The share of some neighbouring parts of a run in the run's table: rows that wait to be added to those of other parts
-/// ([`Share::merge`]), or to a table ([`Table::absorb`]).
+/// ([`Share::merge`]), or to become a table ([`Table::from_share`]).
 ///
 /// It takes memory for its rows and not for other sites, so that as many shares as parts can be kept: about 128 bytes for
-/// each row, or up to twice that, and room for four rows at least where it has any; and for hints no more than the rows of
-/// both shares took in the merge that lengthened them, or up to twice that. A site can have several rows, since the rows
-/// that a part came with have no hints: at most two, besides 2,048 rows that came before there were hints for their sites.
+/// each row, or up to twice that, and room for four rows at least where it has any; up to four times where shares were
+/// added to it, since room is made for all rows of a share before it is known which of them are there; and for hints no
+/// more than the rows of both shares took in the merge that lengthened them, or up to twice that. A site can have several
+/// rows, since the rows that a part came with have no hints: at most two, besides 2,048 rows that came before there were
+/// hints for their sites.
 ///
-/// [`Table::absorb`]: crate::Table::absorb
+/// [`Table::from_share`]: crate::Table::from_share
 #[derive(Drop)]
 pub struct Share {
     root: Row,
