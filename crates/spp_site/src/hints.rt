@@ -14,7 +14,7 @@ use std::alloc::AllocError;
 const HINTS_OF_A_ROW: usize = 32;
 
 /// Makes room for these rows, so that none of them needs memory when it is put in; and lengthens the hints up to their
-/// sites, where hints then take no more memory than rows do. What is stored stays, also where the room was refused.
+/// sites, where hints then take no more memory than rows do. What is stored stays, also where an allocation failed.
 pub(crate) fn make_room(
     hints: &mut Vec<u32>,
     rows: &mut Vec<SiteRow>,

@@ -90,7 +90,7 @@ impl Share {
     ///
     /// # Errors
     ///
-    /// Where room for its rows, or for hints, was refused; the share then has the rows that it had.
+    /// Where an allocation failed; the share then has the rows that it had.
     pub fn merge(&mut self, other: &Share) -> Result<(), AllocError>
         requires root_fits { Fits (plus self.old.root other.now.root) }
         requires sites_fit { (s : ℕ) → Fits (plus (row_at self.old s) (row_at other.now s)) }
@@ -108,7 +108,7 @@ impl Share {
     ///
     /// # Errors
     ///
-    /// Where room for their rows, or for hints, was refused; both shares then have the rows that they had.
+    /// Where an allocation failed; both shares then have the rows that they had.
     pub fn merge_both(
         &mut self,
         other: &Share,
