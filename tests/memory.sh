@@ -120,11 +120,32 @@ each_refused 'figures by workers' 0 1 'work 10*' '' "$folder/two" "$spprof" figu
 each_refused 'profile by workers' 0 4 'name,count*' '' "$folder/two" "$spprof" profile --csv --parts 9 --workers 2
 each_refused 'marks by workers' 0 3 '111100011' '' "$folder/two" "$printer" marks 9 2
 each_refused 'marks, a recorded trace' 0 6 '1*' '' "$examples/nqueens.sptrace" "$printer" marks 20 3
+each_refused 'compare' 0 20 'work 17 32744*' '' /dev/null "$spprof" compare "$examples/small.sptrace" "$examples/nqueens.sptrace"
+each_refused 'compare by workers' 0 8 'work 10 17*' '' /dev/null "$spprof" compare --parts 9 --workers 2 "$folder/two" "$examples/small.sptrace"
+each_refused 'compare, a bad first event' 1 3 '' 'before: bad event 4: tag' /dev/null "$spprof" compare "$folder/tag" "$folder/two"
+each_refused 'compare, a bad second header' 1 10 '' 'after: bad header: short' /dev/null "$spprof" compare "$folder/two" "$folder/short"
 each_refused 'encode, a good text' 0 0 'SPTRACE1*' '' "$examples/small.txt" "$spprof" encode
 printf 'func f\nsync\nsync 1 2 3 4 5\n' > "$folder/text"
 each_refused 'encode, a bad text' 1 0 '' 'bad text line 3: count' "$folder/text" "$spprof" encode
 printf 'func f\n\377' > "$folder/bytes"
 each_refused 'encode, bytes that are no text' 1 0 '' 'bad text line 2: word' "$folder/bytes" "$spprof" encode
+# The first run's bytes are let go before the second is read: the peak is that of the larger run, and not of both.
+awk 'BEGIN { print "func f"; for (n = 0; n < 4000000; n++) print "strand", n % 7 }' | "$spprof" encode > "$folder/long"
+peak_of() { # WORDS..: the program's peak memory in KiB
+    python3 - "$spprof" "$@" <<'PEAK'
+import os, resource, subprocess, sys
+subprocess.run(sys.argv[1:], stdout=subprocess.DEVNULL, check=True)
+print(resource.getrusage(resource.RUSAGE_CHILDREN).ru_maxrss)
+PEAK
+}
+one=$(peak_of profile "$folder/long")
+both=$(peak_of compare "$folder/long" "$folder/long")
+if [ "$both" -lt $((one + 20000)) ]; then
+    echo "memory: a profile takes $one KiB, and compare of two such runs $both KiB"
+    passed=$((passed + 1))
+else
+    fails "compare takes $both KiB, where a profile of one run takes $one KiB"
+fi
 each_refused 'help' 0 0 'A call-site profiler*' '' /dev/null "$spprof" --help
 each_refused 'a usage fault' 2 0 '' 'error: *' /dev/null "$spprof" check --nothing
 

@@ -100,6 +100,83 @@ for run in loop tree; do
     : > "$folder/out"
     judge "profile of the $run" 0 '' ''
 done
+# Two runs beside each other (tests/compare, by that program too), with options and without, from files and pipes.
+compare_gives() { # NAME FILE WORDS..: with these words, `compare` prints just the bytes of the file
+    local name=$1 file=$2
+    shift 2
+    "$spprof" compare "$@" < /dev/null > "$folder/out" 2> "$folder/err"
+    status=$?
+    cmp -s "$folder/out" "$top/tests/compare/$file.txt" || status=125
+    : > "$folder/out"
+    judge "compare: $name" 0 '' ''
+}
+for shared in '' '--parts 1 --workers 1' '--parts 7 --workers=2' '--parts 65536 --workers 64'; do
+    compare_gives "fib and nqueens $shared" fib_nqueens "$top/examples/fib.sptrace" "$top/examples/nqueens.sptrace" $shared
+    compare_gives "cilksort twice $shared" cilksort_twice $shared "$top/examples/cilksort.sptrace" "$top/examples/cilksort.sptrace"
+done
+compare_gives 'with burdens' fib_nqueens_burdened --burden 100 --join-burden 7 "$top/examples/fib.sptrace" "$top/examples/nqueens.sptrace"
+# The story of README.md, of two recorded runs.
+record=$top/examples/record
+compare_gives 'the merge sort' mergesort "$record/mergesort_before.sptrace" "$record/mergesort_after.sptrace"
+sed -n '/^    \$ .*compare examples\/record/,/^The figures are/p' "$top/README.md" | sed -e '1d' -e '/^The/d' -e 's/^    //' | sed '$d' > "$folder/out"
+cmp -s "$folder/out" "$top/tests/compare/mergesort.txt"
+status=$?
+: > "$folder/out" > "$folder/err"
+judge 'the comparison in README.md' 0 '' ''
+# The recorder in examples/record; what it counts depends on the compiler.
+mkdir "$folder/record" && cp "$record"/*.[ch] "$record/record.sh" "$folder/record"
+if command -v gcc > /dev/null; then
+    "$folder/record/record.sh" > "$folder/out" 2> "$folder/err"
+    status=$?
+    judge 'the recorder' 0 '*' ''
+    expect 'two recorded runs' 0 'work *' '' /dev/null compare "$folder/record/out/before.sptrace" "$folder/record/out/after.sptrace"
+fi
+mkfifo "$folder/before" "$folder/after"
+feed() { # FILE PIPE SECONDS: writes the file to the pipe, that long after both ends of it are open
+    timeout 10 bash -c 'exec > "$1" && sleep "$2" && cat "$0"' "$@" &
+}
+feed "$top/examples/fib.sptrace" "$folder/before" 0
+feed "$top/examples/nqueens.sptrace" "$folder/after" 0
+compare_gives 'pipes by name' fib_nqueens "$folder/before" "$folder/after"
+wait
+# One pipe twice: the first input takes all of it, and the second is empty. Its writer waits until both are opened.
+feed "$small" "$folder/before" 1
+timeout 10 "$spprof" compare "$folder/before" "$folder/before" > "$folder/out" 2> "$folder/err"
+status=$?
+judge 'compare: one pipe twice' 1 '' "after: bad header: short$lf"
+wait
+expect 'compare: no file is called -' 3 '' "before: cannot open input$lf" "$small" compare - "$small"
+(cd "$folder" && cp "$small" './-a b' && "$spprof" compare --burden 3 -- '-a b' "$small" > out 2> err)
+status=$?
+judge 'compare: a file whose name begins with a dash' 0 "work 17 17$lf*" ''
+expect 'compare: standard input by name' 0 'work 17 17*' '' "$small" compare /dev/stdin "$small"
+expect 'compare: no first file' 3 '' "before: cannot open input$lf" /dev/null compare "$folder/no" "$folder/no"
+expect 'compare: no second file' 3 '' "after: cannot open input$lf" /dev/null compare "$small" "$folder/no"
+expect 'compare: both are opened before one is read' 3 '' "after: cannot open input$lf" /dev/null compare "$top/README.md" "$folder/no"
+expect 'compare: a first folder' 3 '' "before: cannot read input$lf" /dev/null compare "$folder" "$small"
+expect 'compare: a second folder' 3 '' "after: cannot read input$lf" /dev/null compare "$small" "$folder"
+expect 'compare: a bad first header' 1 '' "before: bad header: magic$lf" /dev/null compare "$top/README.md" "$top/README.md"
+expect 'compare: a bad second header' 1 '' "after: bad header: magic$lf" /dev/null compare "$small" "$top/README.md"
+head -c 120 "$small" > "$folder/input"
+expect 'compare: a bad first event' 1 '' "before: bad event 5: truncated$lf" /dev/null compare "$folder/input" "$top/README.md"
+expect 'compare: a bad second event' 1 '' "after: bad event 5: truncated$lf" /dev/null compare "$small" "$folder/input"
+"$spprof" compare "$small" "$small" > /dev/full 2> "$folder/err"
+status=$?
+: > "$folder/out"
+judge 'compare: a full output' 3 '' "cannot write output$lf"
+# Many long names, all in both runs, or each in one alone: linear in their length.
+for letter in a b; do
+    awk -v letter=$letter 'BEGIN { print "func f"; pad = sprintf("%194s", ""); for (n = 0; n < 65536; n++) printf "site %s%s%05d\n", letter, pad, n }' \
+        > "$folder/text"
+    "$spprof" encode < "$folder/text" > "$folder/many_$letter" 2> "$folder/err"
+done
+for second in a b; do
+    timeout 10 "$spprof" compare "$folder/many_a" "$folder/many_$second" > "$folder/answer" 2> "$folder/err"
+    status=$?
+    wc -l < "$folder/answer" > "$folder/out"
+    [ $second = a ] && lines=65544 || lines=131080
+    judge "compare: many long names, and $second" 0 "$lines$lf" ''
+done
 # And so is which events are on the path without burdens (tests/marks, computed by that program too).
 marks_of() { # NAME INPUT FILE PARTS WORKERS: the printer prints just the marks that the file has
     "$printer" marks $4 $5 < "$2" > "$folder/out" 2> "$folder/err"
@@ -286,15 +363,27 @@ shown help 0 -h
 for word in --version -V; do
     expect "$word" 0 "spprof 0.1.0$lf" '' /dev/null $word
 done
-for command in check figures profile encode; do
+shown help 0 help
+for command in check figures profile compare encode; do
     shown help_of_$command 0 $command --help
     shown help_of_$command 0 $command -h
+    shown help_of_$command 0 help $command
     expect "$command with an option that isn't there" 2 '' 'error: *' "$small" $command --nothing
 done
 shown no_command 2
 shown two_files 2 check a b
 shown two_texts 2 encode a b
 shown unknown_option 2 encode --nothing
+shown help_of_nothing 2 help nothing
+shown help_of_two 2 help check encode
+expect 'help of help' 2 '' "error: unrecognized subcommand 'help'$lf*" /dev/null help help
+shown no_inputs 2 compare
+shown no_after 2 compare a
+shown three_inputs 2 compare a b c
+expect 'compare with --csv' 2 '' 'error: *' /dev/null compare --csv a b
+expect 'compare by no workers' 2 '' "error: invalid value '0' for '--workers <N>': 0 is not in 1..=64$lf*" /dev/null compare --workers 0 a b
+expect 'compare in too many parts' 2 '' "error: invalid value '65537' for '--parts <N>': 65537 is not in 1..=65536$lf*" /dev/null compare --parts 65537 a b
+expect 'compare with too great a burden' 2 '' "error: invalid value '4294967296' for '--burden <N>': *" /dev/null compare --burden 4294967296 a b
 for command in figures profile; do
     shown no_parts 2 $command --parts 0
     shown too_many_parts 2 $command --parts 65537

@@ -13,12 +13,13 @@ use spp_event::{HeaderFault, Trace, open_trace};
 use spp_frame::{ProfileFault, check};
 use spp_maxplus::Burdens;
 use spp_reference::profile;
-use spp_report::{Named, csv_text, figures_text, plain_text};
+use spp_report::{Named, Run, compare_text, csv_text, figures_text, plain_text};
 use spp_serial::profile_serial;
 use spp_shell::{InSource, ReadFault, read_all, read_within};
 use spp_site::{Profile, Table};
 use spp_text::{PrintFault, TextFault, TextWhy, parse_text, print_text};
 use std::alloc::{AllocError, Global};
+use std::hash::{BuildHasherDefault, FoldHasher};
 use std::io;
 
 /// A trace with two events, the functions `main` and `f`, and the sites `A` and `B`.
@@ -72,6 +73,18 @@ first greatest path
 first greatest burdened path
        count        local   site_count    site_work    site_span caller_count  caller_work  caller_span name
            0            0            0            0            0            0            0            0 (root)
+";
+
+/// A run without rows beside itself.
+const TWICE: &str = "work 17 17
+span 13 13
+burdened 0 0
+parallelism 1.30 1.30
+burdened parallelism - -
+
+     count_1      count_2      local_1      local_2       work_1       work_2       path_1       path_2 name
+           0            0            0            0            0            0            0            0 (root)
+           0            0            0            0            0            0            0            0 A
 ";
 
 /// What a call answered.
@@ -184,6 +197,24 @@ fn reported(alloc: Global) -> Result<Answer, Answer> {
     })
 }
 
+/// Answers `Memory` also where what is compared of the run can't be made.
+fn compared(alloc: Global) -> Result<Answer, Answer> {
+    let trace = trace_in(alloc, NESTED)?;
+    let named = Named {
+        trace: &trace,
+        profile: &without_rows(alloc),
+    };
+    let hasher: BuildHasherDefault<FoldHasher> = BuildHasherDefault::new();
+    let Ok(run) = Run::new(alloc, hasher, &named) else {
+        return Ok(Answer::Memory);
+    };
+    Ok(match compare_text(alloc, &run, &run) {
+        Ok(text) if text.as_slice() == TWICE.as_bytes() => Answer::Good,
+        Ok(_) => Answer::Other,
+        Err(_) => Answer::Memory,
+    })
+}
+
 fn told(alloc: Global) -> Answer {
     let figures = Figures {
         work: 17,
@@ -243,6 +274,7 @@ fn main(rt: HostRuntime) -> io::Result<()> {
         println!(rt; "profile_serial: {:?}", first(profiled(alloc)))?;
         println!(rt; "csv_text: {:?}", first(summed(alloc)))?;
         println!(rt; "plain_text: {:?}", first(reported(alloc)))?;
+        println!(rt; "compare_text: {:?}", first(compared(alloc)))?;
         println!(rt; "figures_text: {:?}", told(alloc))?;
         println!(rt; "the reference's profile: {:?}", first(referred(alloc)))?;
         println!(rt;

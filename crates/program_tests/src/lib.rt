@@ -2,6 +2,8 @@
 #![tactic(auto)]
 
 #[cfg(test)]
+mod comparison;
+#[cfg(test)]
 mod report;
 #[cfg(test)]
 mod shell;

@@ -1,6 +1,7 @@
 //! Devices that give and take in pieces, are interrupted or fail, and whole runs over them.
 
 mod commands;
+mod compares;
 mod devices;
 mod encodes;
 mod fakes;

@@ -5,49 +5,55 @@ use Rattle.clap.specs.Walk.{Text}
 use Rattle.clap.specs.Simple.{subcommand_of}
 use Rattle.clap.specs.Faults.{fault_of}
 use Rattle.clap.specs.declared.error.kind.ErrorKind.{ErrorKind}
-use Rattle.clap.specs.declared.error.kind.ErrorKind.TheVariants.{DisplayHelp, DisplayVersion, MissingSubcommand, UnknownArgument, ValueValidation}
+use Rattle.clap.specs.declared.error.kind.ErrorKind.TheVariants.{DisplayHelp, DisplayVersion, MissingRequiredArgument, MissingSubcommand, UnknownArgument, ValueValidation}
 use Rattle.spp_request.specs.declared.request.Command.{Command}
-use Rattle.spp_request.specs.declared.request.Command.TheVariants.{Check, Figures, Profile, Encode}
+use Rattle.spp_request.specs.declared.request.Command.TheVariants.{Check, Figures, Profile, Compare, Encode}
 use Rattle.spp_request.specs.declared.request.Request.{Request}
 use Rattle.spp_maxplus.specs.declared.state.Burdens.{Burdens}
 use Rattle.spp_maxplus.specs.State.{equal}
 use Rattle.spp_command_line.specs.Spprof.{spprof}
-use Rattle.spp_command_line.specs.Usage.{Gives, IsRequestOf}
+use Rattle.spp_command_line.specs.Usage.{Gives, IsRequestOf, spoken}
 
 -- the words have no fault, they give a request these values, and no request of them has others
 abbrev pub Ask : List Text → Command → List Text → Burdens → ℕ → ℕ → Bool → Type 0
 Ask words command files burdens parts workers csv =
-    (fault_of spprof (codes "spprof" ∷ words) ≡ [])
-    × ((r : Request) → IsRequestOf (subcommand_of spprof (codes "spprof" ∷ words)) r
+    (fault_of spprof (spoken (codes "spprof" ∷ words)) ≡ [])
+    × ((r : Request) → IsRequestOf (subcommand_of spprof (spoken (codes "spprof" ∷ words))) r
     → (r.command ≡ command) × (map string_bytes r.files.items ≡ files) × (r.burdens ≡ burdens) × (r.parts ≡ parts) × (r.workers ≡ workers) × (r.csv ≡ csv))
-    × Gives (subcommand_of spprof (codes "spprof" ∷ words)) command files burdens parts workers csv
+    × Gives (subcommand_of spprof (spoken (codes "spprof" ∷ words))) command files burdens parts workers csv
 
 -- the words have just this fault
 abbrev pub Fail : List Text → ErrorKind → Type 0
-Fail words kind = fault_of spprof (codes "spprof" ∷ words) ≡ kind ∷ []
+Fail words kind = fault_of spprof (spoken (codes "spprof" ∷ words)) ≡ kind ∷ []
 
 abbrev pub name_of : Command → Text
 name_of Check = codes "check"
 name_of Figures = codes "figures"
 name_of Profile = codes "profile"
+name_of Compare = codes "compare"
 name_of Encode = codes "encode"
 
--- a command alone asks for itself, over standard input, with the defaults
+-- all commands but `compare` are over one input
+abbrev pub IsOverOne : Command → Type 0
+IsOverOne Compare = ⊥
+IsOverOne _ = Unit {0}
+
+-- a command over one input, alone asks for itself, over standard input, with the defaults
 abbrev pub CommandAlone : Type 0
-CommandAlone = (command : Command) → Ask (name_of command ∷ []) command [] (equal 15000) 16 4 false
+CommandAlone = (command : Command) → IsOverOne command → Ask (name_of command ∷ []) command [] (equal 15000) 16 4 false
 
 -- and so with `-`
 abbrev pub Dash : Type 0
-Dash = (command : Command) → Ask (name_of command ∷ codes "-" ∷ []) command [] (equal 15000) 16 4 false
+Dash = (command : Command) → IsOverOne command → Ask (name_of command ∷ codes "-" ∷ []) command [] (equal 15000) 16 4 false
 
 -- one word more, if it doesn't begin with `-` (45), is the file
 abbrev pub OneWord : Type 0
-OneWord = (command : Command) (first : ℕ) (rest : Text) → (first == 45) ≡ false
+OneWord = (command : Command) (first : ℕ) (rest : Text) → IsOverOne command → (first == 45) ≡ false
     → Ask (name_of command ∷ (first ∷ rest) ∷ []) command ((first ∷ rest) ∷ []) (equal 15000) 16 4 false
 
 -- a second such word is a fault
 abbrev pub TwoWords : Type 0
-TwoWords = (command : Command) (first second : ℕ) (rest more : Text) → (first == 45) ≡ false → (second == 45) ≡ false
+TwoWords = (command : Command) (first second : ℕ) (rest more : Text) → IsOverOne command → (first == 45) ≡ false → (second == 45) ≡ false
     → Fail (name_of command ∷ (first ∷ rest) ∷ (second ∷ more) ∷ []) UnknownArgument
 
 abbrev pub FiguresInParts : Type 0
@@ -80,11 +86,35 @@ GreatBurdens =
     × Fail (codes "figures" ∷ codes "--burden=4294967296" ∷ []) ValueValidation
     × Fail (codes "figures" ∷ codes "--join-burden=4294967296" ∷ []) ValueValidation
 
+-- two words are the files of `compare`, the first that of the run before
+abbrev pub CompareBoth : Type 0
+CompareBoth = Ask (codes "compare" ∷ codes "a" ∷ codes "b" ∷ []) Compare (codes "a" ∷ codes "b" ∷ []) (equal 15000) 16 4 false
+
+-- with options between them and behind
+abbrev pub CompareInParts : Type 0
+CompareInParts =
+    Ask (codes "compare" ∷ codes "a" ∷ codes "--burden=3" ∷ codes "b" ∷ codes "--join-burden=0" ∷ codes "--parts=7" ∷ codes "--workers=2" ∷ [])
+    Compare (codes "a" ∷ codes "b" ∷ []) (record { continuation = 3; join = 0 }) 7 2 false
+
+-- a file left out, one too many, an option that `compare` hasn't got, and numbers out of their ranges
+abbrev pub NoCompare : Type 0
+NoCompare =
+    Fail (codes "compare" ∷ []) MissingRequiredArgument
+    × Fail (codes "compare" ∷ codes "a" ∷ []) MissingRequiredArgument
+    × Fail (codes "compare" ∷ codes "a" ∷ codes "b" ∷ codes "c" ∷ []) UnknownArgument
+    × Fail (codes "compare" ∷ codes "--csv" ∷ codes "a" ∷ codes "b" ∷ []) UnknownArgument
+    × Fail (codes "compare" ∷ codes "--parts=0" ∷ codes "a" ∷ codes "b" ∷ []) ValueValidation
+    × Fail (codes "compare" ∷ codes "--workers=65" ∷ codes "a" ∷ codes "b" ∷ []) ValueValidation
+
 abbrev pub NoCommand : Type 0
 NoCommand = Fail [] MissingSubcommand
 
 abbrev pub Help : Type 0
 Help = Fail (codes "--help" ∷ []) DisplayHelp × ((command : Command) → Fail (name_of command ∷ codes "--help" ∷ []) DisplayHelp)
+
+-- so does `help`, alone and before a command
+abbrev pub HelpBefore : Type 0
+HelpBefore = Fail (codes "help" ∷ []) DisplayHelp × ((command : Command) → Fail (codes "help" ∷ name_of command ∷ []) DisplayHelp)
 
 abbrev pub Version : Type 0
 Version = Fail (codes "--version" ∷ []) DisplayVersion

@@ -11,6 +11,10 @@ use Rattle.clap.specs.declared.builder.value_parser.ValueParser.TheVariants.{Sig
 abbrev pub file_rule : Rule
 file_rule = new_rule (codes "FILE")
 
+-- an input that must be named
+abbrev pub input_rule : Text → Rule
+input_rule name = record (new_rule name) { required = true }
+
 -- --burden N, a number of 32 bits; 15000 where it isn't given
 abbrev pub burden_rule : Rule
 burden_rule = record (new_rule (codes "burden")) {
@@ -54,10 +58,15 @@ csv_rule = record (new_rule (codes "csv")) { long = Some (codes "csv"); action =
 abbrev pub over_file : Text → List Rule → Shape
 over_file name options = record (new_shape name) { rules = file_rule ∷ options }
 
+-- a command over two files that must both be named, with its options
+abbrev pub over_both : Text → List Rule → Shape
+over_both name options = record (new_shape name) { rules = input_rule (codes "BEFORE") ∷ input_rule (codes "AFTER") ∷ options }
+
 abbrev pub commands : List Shape
 commands = over_file (codes "check") []
     ∷ over_file (codes "figures") (burden_rule ∷ join_burden_rule ∷ parts_rule ∷ workers_rule ∷ [])
     ∷ over_file (codes "profile") (burden_rule ∷ join_burden_rule ∷ parts_rule ∷ workers_rule ∷ csv_rule ∷ [])
+    ∷ over_both (codes "compare") (burden_rule ∷ join_burden_rule ∷ parts_rule ∷ workers_rule ∷ [])
     ∷ over_file (codes "encode") []
     ∷ []
 

@@ -1,6 +1,6 @@
 -- What a request has of the words, and how a program ends whose words are no request. What `clap` finds in words, and
 -- which kinds of error it has for those that it refuses, are definitions of its own.
-use Rattle.std.specs.Prelude.{◌≡◌, ℕ, Bool, true, false, List, [], ◌∷◌, Option, Some, None, cond, codes, map, ◌≤◌}
+use Rattle.std.specs.Prelude.{◌≡◌, ℕ, Bool, true, false, List, [], ◌∷◌, ◌++◌, Option, Some, None, cond, codes, map, ◌≤◌}
 use Rattle.std.specs.Str.{bytes_eq}
 use Rattle.std.specs.Str.Parse.{IsNumeral, digits_value, without_leading_plus}
 use Rattle.std.specs.String.{string_bytes}
@@ -10,10 +10,18 @@ use Rattle.clap.specs.declared.error.kind.ErrorKind.{ErrorKind}
 use Rattle.clap.specs.declared.error.kind.ErrorKind.TheVariants.{DisplayHelp, DisplayVersion}
 use Rattle.spp_maxplus.specs.declared.state.Burdens.{Burdens}
 use Rattle.spp_request.specs.declared.request.Command.{Command}
-use Rattle.spp_request.specs.declared.request.Command.TheVariants.{Check, Figures, Profile, Encode}
+use Rattle.spp_request.specs.declared.request.Command.TheVariants.{Check, Figures, Profile, Compare, Encode}
 use Rattle.spp_request.specs.declared.request.Request.{Request}
 use Rattle.spp_request.specs.declared.request.UsageFault.{UsageFault}
 use Rattle.spp_request.specs.declared.request.UsageFault.TheVariants.{Shown, Memory}
+
+-- the words as they are handed to `clap`: `help` before one more word asks for the help of that command, and alone for all
+-- help; the first word is the program's name
+abbrev pub spoken : List Text → List Text
+spoken (program ∷ word ∷ []) = cond (bytes_eq word (codes "help")) (program ∷ codes "--help" ∷ []) (program ∷ word ∷ [])
+spoken (program ∷ word ∷ command ∷ []) =
+    cond (bytes_eq word (codes "help")) (program ∷ command ∷ codes "--help" ∷ []) (program ∷ word ∷ command ∷ [])
+spoken words = words
 
 -- the status that a text goes with: 0 where help or the version was asked for, and else 2
 abbrev pub status_of : ErrorKind → ℕ
@@ -31,12 +39,22 @@ abbrev pub IsNamed : Text → Command → Type 0
 IsNamed name Check = name ≡ codes "check"
 IsNamed name Figures = name ≡ codes "figures"
 IsNamed name Profile = name ≡ codes "profile"
+IsNamed name Compare = name ≡ codes "compare"
 IsNamed name Encode = name ≡ codes "encode"
 
--- the files of a request: none where no file is named, or `-`
-abbrev pub paths_of : Option (List ℕ) → List (List ℕ)
-paths_of None = []
-paths_of (Some path) = cond (bytes_eq path (codes "-")) [] (path ∷ [])
+-- the file of a command over one input: none where no file is named, or `-`
+abbrev pub path_of : Option (List ℕ) → List (List ℕ)
+path_of None = []
+path_of (Some path) = cond (bytes_eq path (codes "-")) [] (path ∷ [])
+
+-- a file that must be named
+abbrev pub named_path : Option (List ℕ) → List (List ℕ)
+named_path None = []
+named_path (Some path) = path ∷ []
+
+-- the files of a request
+abbrev pub paths_of : Option (List ℕ) → Option (List ℕ) → Option (List ℕ) → List (List ℕ)
+paths_of file before after = path_of file ++ named_path before ++ named_path after
 
 -- the number that a text spells
 abbrev pub number_of : Text → ℕ
@@ -71,7 +89,7 @@ abbrev pub Gives : Option (Text × List Row) → Command → List Text → Burde
 Gives None command files burdens parts workers csv = ⊥
 Gives (Some (name, rows)) command files burdens parts workers csv =
     IsNamed name command
-    × (files ≡ paths_of (first_of (codes "FILE") rows))
+    × (files ≡ paths_of (first_of (codes "FILE") rows) (first_of (codes "BEFORE") rows) (first_of (codes "AFTER") rows))
     × AreBurdens rows burdens
     × IsNumberOr 1 65536 16 (one_of (codes "parts") rows) parts
     × IsNumberOr 1 64 4 (one_of (codes "workers") rows) workers

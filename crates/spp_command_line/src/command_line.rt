@@ -2,7 +2,7 @@
 
 ghost use Rattle.std.specs.Prelude.{◌≡◌, ◌∷◌, [], IfOk, false, codes};
 ghost use Rattle.clap.specs.Words.{app_of, rule_of};
-ghost use Rattle.spp_command_line.specs.Spprof.{IsAt, burden_rule, csv_rule, file_rule, join_burden_rule, over_file, parts_rule, spprof, workers_rule};
+ghost use Rattle.spp_command_line.specs.Spprof.{IsAt, burden_rule, csv_rule, file_rule, input_rule, join_burden_rule, over_both, over_file, parts_rule, spprof, workers_rule};
 
 use clap::{Arg, ArgAction, Command, value_parser};
 use spp_cut::Parts;
@@ -25,7 +25,9 @@ const DEFAULT_PARTS_WORD: &str = "16";
 /// The number of workers where none is given, as a word.
 const DEFAULT_WORKERS_WORD: &str = "4";
 
-const STATUSES: &str = "Exit status:
+const AFTER_HELP: &str = "'spprof help COMMAND' tells more about a command, with an example
+
+Exit status:
   0  the answer stands on standard output, whole
   1  the input is no good trace or text; standard error says why in one line
   2  the command line is wrong
@@ -35,20 +37,29 @@ const STATUSES: &str = "Exit status:
 /// The help for the file of a command over a trace.
 const THE_TRACE: &str = "The trace; without it, or as -, standard input is read";
 
-/// A command over one input, and the help for its file.
+/// A command over one input: its name, what it is about, the help for its file, and an example to stand behind its help.
 fn command_over<'a>(
     alloc: Global,
     name: &'a str,
     about: &'a str,
     file: &'a str,
+    example: &'a str,
 ) -> Result<Command<'a>, AllocError>
     ensures { IfOk result (IsAt (over_file name.now [])) }
 {
     let file = Arg::new(alloc, "FILE").help(file);
     Command::new(alloc, name)
         .about(about)
-        .after_help(STATUSES)
+        .after_help(example)
         .arg(file)
+}
+
+/// A file that must be named.
+fn input<'a>(alloc: Global, name: &'a str, help: &'a str) -> Arg<'a>
+    ensures rule { rule_of result ≡ input_rule name.now }
+    ensures local { result.global ≡ false }
+{
+    Arg::new(alloc, name).required(true).help(help)
 }
 
 /// What each edge past a spawned child bears, and each edge of its return.
@@ -127,6 +138,10 @@ fn check<'a>(alloc: Global) -> Result<Command<'a>, AllocError>
         "check",
         "Check a trace, and print its work",
         THE_TRACE,
+        "Example:
+  spprof check run.trace
+
+'spprof help' lists the exit statuses",
     )
 }
 
@@ -135,10 +150,11 @@ fn command_by_parts<'a>(
     alloc: Global,
     name: &'a str,
     about: &'a str,
+    example: &'a str,
 ) -> Result<Command<'a>, AllocError>
     ensures { IfOk result (IsAt (over_file name.now (burden_rule ∷ join_burden_rule ∷ parts_rule ∷ workers_rule ∷ []))) }
 {
-    command_over(alloc, name, about, THE_TRACE)?
+    command_over(alloc, name, about, THE_TRACE, example)?
         .arg(burden(alloc))?
         .arg(join_burden(alloc))?
         .arg(parts(alloc))?
@@ -152,6 +168,10 @@ fn figures<'a>(alloc: Global) -> Result<Command<'a>, AllocError>
         alloc,
         "figures",
         "Print the work, the span and the burdened span of a run",
+        "Example:
+  spprof figures --burden 1000 run.trace
+
+'spprof help' lists the exit statuses",
     )
 }
 
@@ -162,8 +182,46 @@ fn profile<'a>(alloc: Global) -> Result<Command<'a>, AllocError>
         alloc,
         "profile",
         "Print the figures of a run and three tables of its call sites",
+        "Example:
+  spprof profile --csv run.trace > run.csv
+
+'spprof help' lists the exit statuses",
     )?
     .arg(csv(alloc))
+}
+
+/// A command over two files, both of which must be named: the trace of a run before a change, and that of a run after it.
+fn command_over_both<'a>(
+    alloc: Global,
+    name: &'a str,
+    about: &'a str,
+    example: &'a str,
+) -> Result<Command<'a>, AllocError>
+    ensures { IfOk result (IsAt (over_both name.now [])) }
+{
+    Command::new(alloc, name)
+        .about(about)
+        .after_help(example)
+        .arg(input(alloc, "BEFORE", "The trace of the run before a change"))?
+        .arg(input(alloc, "AFTER", "The trace of the run after it"))
+}
+
+fn compare<'a>(alloc: Global) -> Result<Command<'a>, AllocError>
+    ensures { IfOk result (IsAt (over_both (codes "compare") (burden_rule ∷ join_burden_rule ∷ parts_rule ∷ workers_rule ∷ []))) }
+{
+    command_over_both(
+        alloc,
+        "compare",
+        "Print the figures and the call sites of two runs beside each other",
+        "Example:
+  spprof compare before.trace after.trace
+
+'spprof help' lists the exit statuses",
+    )?
+    .arg(burden(alloc))?
+    .arg(join_burden(alloc))?
+    .arg(parts(alloc))?
+    .arg(workers(alloc))
 }
 
 fn encode<'a>(alloc: Global) -> Result<Command<'a>, AllocError>
@@ -174,6 +232,10 @@ fn encode<'a>(alloc: Global) -> Result<Command<'a>, AllocError>
         "encode",
         "Read a trace as text, and write its bytes",
         "The text; without it, or as -, standard input is read",
+        "Example:
+  spprof encode run.txt > run.trace
+
+'spprof help' lists the exit statuses",
     )
 }
 
@@ -184,11 +246,12 @@ pub(crate) fn command_line<'a>(alloc: Global) -> Result<Command<'a>, AllocError>
     Command::new(alloc, "spprof")
         .about(ABOUT)
         .version(VERSION)
-        .after_help(STATUSES)
+        .after_help(AFTER_HELP)
         .subcommand_required(true)
         .disable_help_subcommand(true)
         .subcommand(check(alloc)?)?
         .subcommand(figures(alloc)?)?
         .subcommand(profile(alloc)?)?
+        .subcommand(compare(alloc)?)?
         .subcommand(encode(alloc)?)
 }

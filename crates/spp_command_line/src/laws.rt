@@ -1,5 +1,5 @@
 //! What words of a command line ask for.
-ghost use Rattle.spp_command_line.specs.Laws.{CommandAlone, Dash, FiguresInParts, GreatBurdens, Help, JoinBurden, NoCommand, NoParts, NoWorkers, OneWord, ProfileAsCsv, ProfileByWorkers, TwoBurdens, TwoWords, Version};
+ghost use Rattle.spp_command_line.specs.Laws.{CommandAlone, CompareBoth, CompareInParts, Dash, FiguresInParts, GreatBurdens, Help, HelpBefore, JoinBurden, NoCommand, NoCompare, NoParts, NoWorkers, OneWord, ProfileAsCsv, ProfileByWorkers, TwoBurdens, TwoWords, Version};
 
 /// What the definitions say of words: of some shapes of words, and of lists of words worked by hand. Its contract is what
 /// it is for.
@@ -13,8 +13,12 @@ pub fn word_laws()
     ensures join_burden { JoinBurden }
     ensures two_burdens { TwoBurdens }
     ensures great_burdens { GreatBurdens }
+    ensures compare_both { CompareBoth }
+    ensures compare_in_parts { CompareInParts }
+    ensures no_compare { NoCompare }
     ensures no_command { NoCommand }
     ensures help { Help }
+    ensures help_before { HelpBefore }
     ensures version { Version }
     ensures no_parts { NoParts }
     ensures no_workers { NoWorkers }

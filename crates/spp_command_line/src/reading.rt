@@ -7,7 +7,7 @@ ghost use Rattle.clap.specs.declared.error.kind.ErrorKind.TheVariants.{MissingSu
 ghost use Rattle.spp_request.specs.declared.request.UsageFault.TheVariants.{Memory};
 ghost use Rattle.spp_request.specs.declared.request.Command.{Command};
 ghost use Rattle.spp_command_line.specs.Spprof.{spprof};
-ghost use Rattle.spp_command_line.specs.Usage.{EndsBy, IsNamed, IsRequestOf, paths_of};
+ghost use Rattle.spp_command_line.specs.Usage.{EndsBy, IsNamed, IsRequestOf, paths_of, spoken};
 
 use crate::command_line::{DEFAULT_BURDEN, command_line};
 use clap::Error;
@@ -41,13 +41,14 @@ fn command_of(name: &str) -> Option<Command>
         "check" => Some(Command::Check),
         "figures" => Some(Command::Figures),
         "profile" => Some(Command::Profile),
+        "compare" => Some(Command::Compare),
         "encode" => Some(Command::Encode),
         _ => None,
     }
 }
 
 /// What the user is shown where there is none of the commands. `clap` has refused such words already, as the proof of
-/// `read_request` shows.
+/// `read_spoken` shows.
 fn no_command(alloc: Global) -> UsageFault
     ensures { EndsBy (MissingSubcommand ∷ []) result }
 {
@@ -57,26 +58,14 @@ fn no_command(alloc: Global) -> UsageFault
     }
 }
 
-/// The request of what `clap` found. A file named `-` is standard input, as is none.
-///
-/// # Errors
-///
-/// Where an allocation failed.
-fn request_of(
+/// The files of a request: FILE, where there is one and it isn't `-`, then BEFORE and AFTER.
+fn paths(
     alloc: Global,
-    command: Command,
     file: Option<&str>,
-    burdens: Burdens,
-    parts: Parts,
-    workers: Workers,
-    csv: bool,
-) -> Result<Request, AllocError>
-    ensures command { IfOk result (λ r. r.command ≡ command) }
-    ensures files { IfOk result (λ r. map string_bytes r.files.items ≡ paths_of (option_map (λ f. f.now) file.entry)) }
-    ensures burdens { IfOk result (λ r. r.burdens ≡ burdens) }
-    ensures parts { IfOk result (λ r. r.parts ≡ parts) }
-    ensures workers { IfOk result (λ r. r.workers ≡ workers) }
-    ensures csv { IfOk result (λ r. r.csv ≡ csv) }
+    before: Option<&str>,
+    after: Option<&str>,
+) -> Result<Vec<String>, AllocError>
+    ensures { IfOk result (λ v. map string_bytes v.items ≡ paths_of (option_map (λ f. f.now) file.entry) (option_map (λ f. f.now) before.entry) (option_map (λ f. f.now) after.entry)) }
 {
     let mut files = Vec::new(alloc);
     if let Some(path) = file {
@@ -84,26 +73,40 @@ fn request_of(
             files.push(path.to_string(alloc)?)?;
         }
     }
-    Ok(Request {
-        command,
-        files,
-        burdens,
-        parts,
-        workers,
-        csv,
-    })
+    if let Some(path) = before {
+        files.push(path.to_string(alloc)?)?;
+    }
+    if let Some(path) = after {
+        files.push(path.to_string(alloc)?)?;
+    }
+    Ok(files)
 }
 
-/// Reads a request from the words of a command line, of which the first is the program's name. A request is what `clap`
-/// finds in the words, which are then without fault; a text is shown where they have a fault, and with its status. Both
-/// are by `clap`'s definitions, for the command line `spprof` of specs; `word_laws` says what they make of some words.
-///
-/// The texts of help and usage are those of `clap`: which text is shown isn't said, and tests compare them.
-///
-/// # Errors
-///
-/// The text that the user is to be shown, or that an allocation failed.
-pub fn read_request<S: AsStr>(alloc: Global, words: &[S]) -> Result<Request, UsageFault>
+/// The words as texts.
+fn texts<S: AsStr>(alloc: Global, words: &[S]) -> Result<Vec<&str>, AllocError>
+    ensures { IfOk result (λ v. map (λ w. w.now) v.items ≡ map S.text words.now) }
+{
+    let mut texts = Vec::new(alloc);
+    for word in words {
+        texts.push(word.as_str())?;
+    }
+    Ok(texts)
+}
+
+/// Puts the words as `clap` is to read them: `help COMMAND` is `COMMAND --help` for it, and `help` alone `--help`.
+fn turn_help_into_option(words: &mut Vec<&str>)
+    ensures { map (λ w. w.now) words.new.items ≡ spoken (map (λ w. w.now) words.old.items) }
+{
+    if words.len() == 2 && words[1] == "help" {
+        words[1] = "--help";
+    } else if words.len() == 3 && words[1] == "help" {
+        words[1] = words[2];
+        words[2] = "--help";
+    }
+}
+
+/// Reads a request from words as `clap` is to read them.
+fn read_spoken<S: AsStr>(alloc: Global, words: &[S]) -> Result<Request, UsageFault>
     ensures found { IfOk result (IsRequestOf (subcommand_of spprof (map S.text words.now))) }
     ensures good { IfOk result (λ _. fault_of spprof (map S.text words.now) ≡ []) }
     ensures refused { IfErr result (EndsBy (fault_of spprof (map S.text words.now))) }
@@ -126,13 +129,33 @@ pub fn read_request<S: AsStr>(alloc: Global, words: &[S]) -> Result<Request, Usa
     };
     let parts = given.get_one::<u32>("parts").and_then(Parts::new);
     let workers = given.get_one::<u32>("workers").and_then(Workers::new);
-    Ok(request_of(
-        alloc,
+    let (before, after) = (given.get_str("BEFORE"), given.get_str("AFTER"));
+    Ok(Request {
         command,
-        given.get_str("FILE"),
+        files: paths(alloc, given.get_str("FILE"), before, after)?,
         burdens,
-        parts.unwrap_or_default(),
-        workers.unwrap_or_default(),
-        given.get_flag("csv"),
-    )?)
+        parts: parts.unwrap_or_default(),
+        workers: workers.unwrap_or_default(),
+        csv: given.get_flag("csv"),
+    })
+}
+
+/// Reads a request from the words of a command line, of which the first is the program's name. A request is what `clap`
+/// finds in the words, which are then without fault; a text is shown where they have a fault, and with its status. Both
+/// are by `clap`'s definitions, for the command line `spprof` of specs; `word_laws` says what they make of some words.
+/// `help COMMAND` is read as `COMMAND --help`.
+///
+/// The texts of help and usage are those of `clap`: which text is shown isn't said, and tests compare them.
+///
+/// # Errors
+///
+/// The text that the user is to be shown, or that an allocation failed.
+pub fn read_request<S: AsStr>(alloc: Global, words: &[S]) -> Result<Request, UsageFault>
+    ensures found { IfOk result (IsRequestOf (subcommand_of spprof (spoken (map S.text words.now)))) }
+    ensures good { IfOk result (λ _. fault_of spprof (spoken (map S.text words.now)) ≡ []) }
+    ensures refused { IfErr result (EndsBy (fault_of spprof (spoken (map S.text words.now)))) }
+{
+    let mut words = texts(alloc, words)?;
+    turn_help_into_option(&mut words);
+    read_spoken(alloc, words.as_slice())
 }

@@ -6,3 +6,5 @@ pub mod Figures
 pub mod Csv
 pub mod CsvWriters
 pub mod Plain
+pub mod Comparison
+pub mod Runs

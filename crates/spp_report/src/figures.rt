@@ -21,7 +21,7 @@ pub fn hundredths(work: u128, span: u128) -> Option<u128>
 }
 
 /// A ratio with two digits behind its point, or a dash where there is none.
-fn text_of_ratio(alloc: Global, hundredths: Option<u128>) -> Result<String, AllocError>
+pub(crate) fn text_of_ratio(alloc: Global, hundredths: Option<u128>) -> Result<String, AllocError>
     ensures { IfOk result (λ text. string_bytes text ≡ ratio_text hundredths) }
 {
     match hundredths {

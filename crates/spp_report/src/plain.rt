@@ -24,7 +24,7 @@ const HEADINGS: &str = "       count        local   site_count    site_work    s
 caller_count  caller_work  caller_span name\n";
 
 /// Adds a cell, with spaces before it that fill its column, and one behind it.
-fn push_cell(text: &mut Vec<u8>, cell: &str) -> Result<(), AllocError>
+pub(crate) fn push_cell(text: &mut Vec<u8>, cell: &str) -> Result<(), AllocError>
     ensures { OnOk result (text.new.items ≡ text.old.items ++ (aligned cell.now ++ codes " ")) }
 {
     text.extend_from_slice(&SPACES[cell.len().min(WIDTH)..])?;

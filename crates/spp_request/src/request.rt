@@ -17,6 +17,8 @@ pub enum Command {
     Figures,
     /// Print the figures of a run and three tables of its call sites.
     Profile,
+    /// Print the figures and call sites of two runs beside each other.
+    Compare,
     /// Read a trace as text and write its bytes.
     Encode,
 }
@@ -26,14 +28,15 @@ pub enum Command {
 pub struct Request {
     /// The command.
     pub command: Command,
-    /// The paths of its inputs, in order; where there is none, standard input is read.
+    /// The paths of its inputs, in order: two to compare, the run before and the run after; else one, or none where
+    /// standard input is read.
     pub files: Vec<String>,
     /// What continuation edges and return edges bear, in instructions: 15,000 where no number is given, and the same on
     /// both where none is given for return edges alone.
     pub burdens: Burdens,
-    /// Into how many parts the trace is cut, which changes no answer; 16 where no number is given.
+    /// Into how many parts each trace is cut, which changes no answer; 16 where no number is given.
     pub parts: Parts,
-    /// How many workers answer, which changes no answer; 4 where no number is given. Only commands that go by parts of the
+    /// How many workers answer, which changes no answer; 4 where no number is given. Only commands that go by parts of a
     /// trace have them.
     pub workers: Workers,
     /// Whether comma-separated values are asked for.

@@ -1,6 +1,8 @@
 -- What `check` answers: the work of the trace that the input is, or the line of its first fault.
-use Rattle.std.specs.Prelude.{◌≡◌, ◌⊎◌, ℕ, List, [], ◌∷◌, ◌++◌, codes, decimal}
+use Rattle.std.specs.Prelude.{◌≡◌, ◌⊎◌, ℕ, Result, List, [], ◌∷◌, ◌++◌, codes, decimal}
 use Rattle.spp_event.specs.declared.header.HeaderFault.{HeaderFault}
+use Rattle.spp_event.specs.declared.records.Event.{Event}
+use Rattle.spp_event.specs.declared.records.EventFault.{EventFault}
 use Rattle.spp_event.specs.Recordings.{Recording}
 use Rattle.spp_event.specs.Header.{IsTraceOf, IsHeaderFault}
 use Rattle.spp_event.specs.Texts.{header_fault_text}
@@ -27,10 +29,13 @@ TellsWork bytes text =
 abbrev pub TellsHeader : List ℕ → List ℕ → Type 0
 TellsHeader bytes told = (fault : HeaderFault) × IsHeaderFault bytes fault × (told ≡ header_line fault)
 
+-- the line tells the first bad event
+abbrev pub IsFirstBadLine : List (Result Event EventFault) → List ℕ → Type 0
+IsFirstBadLine records told = (fault : Fault) × IsFirstBad records fault × (told ≡ event_line fault)
+
 -- the bytes are those of a trace that has a bad event, and the line tells the first
 abbrev pub TellsEvent : List ℕ → List ℕ → Type 0
-TellsEvent bytes told =
-    (t : Recording) × (body : List ℕ) × (fault : Fault) × IsTraceOf bytes t body × IsFirstBad t.records fault × (told ≡ event_line fault)
+TellsEvent bytes told = (t : Recording) × (body : List ℕ) × IsTraceOf bytes t body × IsFirstBadLine t.records told
 
 -- the text for one input
 abbrev pub IsCheckText : List (List ℕ) → List ℕ → Type 0

@@ -1,10 +1,9 @@
 -- What is known of the devices of a run when it has ended.
 use Rattle.std.specs.Prelude.{◌≡◌, ℕ, ◌≤◌, ◌^◌, ◌⊎◌, List, [], ◌∷◌, length, take, Option}
 use Rattle.spp_report.specs.Devices.{Raised}
-use Rattle.spp_shell.specs.declared.trouble.Trouble.TheVariants.{CannotRead, TooLong}
-use Rattle.spp_shell.specs.Reading.{GaveAll, ReadWithin, PassedBound}
-use Rattle.spp_shell.specs.Refusals.{FailedWithin}
-use Rattle.spp_shell.specs.Troubles.{trouble_line}
+use Rattle.spp_shell.specs.Reading.{GaveAll, ReadWithin}
+use Rattle.spp_shell.specs.Refusals.{ReadRefused}
+use Rattle.spp_shell.specs.declared.reading.ReadFault.{ReadFault}
 
 -- what is known of a device that takes bytes
 pub record Taking : Type 1 where
@@ -34,37 +33,50 @@ TookPart d text = (n : ℕ) × (n ≤ length text) × d.Took (take n text) × d.
 abbrev pub Told : Taking → List ℕ → Type 0
 Told d told = TookWhole d told ⊎ TookPart d told
 
--- what is known of all devices
+-- what is known of a device that gives bytes
+pub record Giving : Type 1 where
+  -- it gave exactly these bytes up to its end, at most 2^33 of them in as many reads, and never failed
+  pub Gave : List ℕ → Type 0
+  -- it could not be read whole, for this reason
+  pub Refused : ReadFault → Type 0
+  -- at most 2^33 bytes came of it in as many reads, up to its end or not
+  pub Within : Type 0
+  -- it was not used at all
+  pub Untouched : Type 0
+
+module _ {S : Type 0} (answered : S → Option (List ℕ) → S → Type 0) (failures : S → ℕ) (old new : S) where
+  abbrev GaveWithin : List ℕ → Type 0
+  GaveWithin bytes = (length bytes ≤ 2 ^ 33) × GaveAll answered (2 ^ 33) old bytes new × (failures new ≡ failures old)
+
+  -- the same of a source, from its state before to that after
+  abbrev pub giving_of : Giving
+  giving_of = record {
+    Gave = GaveWithin;
+    Refused = λ fault. ReadRefused answered failures (2 ^ 33) (2 ^ 33) old fault new;
+    Within = ReadWithin answered (2 ^ 33) (2 ^ 33) old new ⊎ ((bytes : List ℕ) × GaveWithin bytes);
+    Untouched = new ≡ old;
+  }
+
+-- the inputs of a run: most runs read the first alone
+pub record Inputs : Type 1 where
+  pub first : Giving
+  pub second : Giving
+
+-- the inputs that were read gave exactly these bytes, in order; no other was used
+abbrev pub WasRead : Inputs → List (List ℕ) → Type 0
+WasRead d [] = ⊥
+WasRead d (bytes ∷ []) = d.first.Gave bytes × d.second.Untouched
+WasRead d (before ∷ after ∷ []) = d.first.Gave before × d.second.Gave after
+WasRead d (before ∷ after ∷ other ∷ more) = ⊥
+
+-- all devices of a run: its inputs, its output, and the device for faults
 pub record Devices : Type 1 where
-  -- each input that was read gave exactly these bytes up to its end, in order
-  pub WasRead : List (List ℕ) → Type 0
-  -- an input could not be read whole, and this line says why
-  pub Unread : List ℕ → Type 0
-  -- what was read of the inputs stayed within the bounds
-  pub StayedWithin : Type 0
-  -- the output
+  pub inputs : Inputs
   pub out : Taking
-  -- the device for faults
   pub err : Taking
 
--- one input of at most 2^33 bytes, read to its end in at most as many reads
-abbrev pub OneRead : {S : Type 0} → (S → Option (List ℕ) → S → Type 0) → S → S → List (List ℕ) → Type 0
-OneRead answered old new [] = ⊥
-OneRead answered old new (bytes ∷ []) = (length bytes ≤ 2 ^ 33) × GaveAll answered (2 ^ 33) old bytes new
-OneRead answered old new (bytes ∷ more ∷ rest) = ⊥
+abbrev pub inputs_of : Giving → Giving → Inputs
+inputs_of first second = record { first = first; second = second }
 
--- one input that could not be read: it failed, or is too long
-abbrev pub OneUnread : {S : Type 0} → (S → Option (List ℕ) → S → Type 0) → (S → ℕ) → S → S → List ℕ → Type 0
-OneUnread answered failures old new told =
-    ((told ≡ trouble_line CannotRead) × FailedWithin answered failures (2 ^ 33) (2 ^ 33) old new)
-    ⊎ ((told ≡ trouble_line TooLong) × PassedBound answered (2 ^ 33) (2 ^ 33) old new)
-
--- one input of which at most 2^33 bytes came in as many reads, up to its end or not
-abbrev pub OneWithin : {S : Type 0} → (S → Option (List ℕ) → S → Type 0) → S → S → Type 0
-OneWithin answered old new =
-    ReadWithin answered (2 ^ 33) (2 ^ 33) old new ⊎ ((bytes : List ℕ) × (length bytes ≤ 2 ^ 33) × GaveAll answered (2 ^ 33) old bytes new)
-
--- the devices of a run over one input, which is a source, from its state before to that after
-abbrev pub devices_of : {S : Type 0} → (S → Option (List ℕ) → S → Type 0) → (S → ℕ) → S → S → Taking → Taking → Devices
-devices_of answered failures old new out err =
-    record { WasRead = OneRead answered old new; Unread = OneUnread answered failures old new; StayedWithin = OneWithin answered old new; out = out; err = err }
+abbrev pub devices_of : Inputs → Taking → Taking → Devices
+devices_of inputs out err = record { inputs = inputs; out = out; err = err }

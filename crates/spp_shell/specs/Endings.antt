@@ -1,8 +1,12 @@
 -- What a run may end with, by its status.
 use Rattle.std.specs.Prelude.{◌≡◌, ℕ, ◌⊎◌, List}
 use Rattle.spp_shell.specs.declared.status.TheConstants.{GOOD, BAD_INPUT, DEVICE, MEMORY}
+use Rattle.spp_request.specs.declared.request.Request.{Request}
+use Rattle.spp_shell.specs.declared.trouble.Trouble.{Trouble}
 use Rattle.spp_shell.specs.declared.trouble.Trouble.TheVariants.{CannotWrite, NoMemory}
-use Rattle.spp_shell.specs.Devices.{Taking, Devices, TookWhole, TookPart, Told}
+use Rattle.spp_shell.specs.Devices.{Taking, Devices, TookWhole, TookPart, Told, WasRead}
+use Rattle.spp_shell.specs.Inputs.{IsUnread, StayedWithin, first_place}
+use Rattle.spp_shell.specs.Requests.{text_for, line_for}
 use Rattle.spp_shell.specs.Troubles.{trouble_line}
 
 -- A text is written to an output: the output takes it whole and nothing is told, or it fails before that, which is told
@@ -17,29 +21,38 @@ module _ (out err : Taking) (text : List ℕ) where
   abbrev pub WritingEnds : ℕ → Type 0
   WritingEnds status = ((status ≡ GOOD) × WritesWell) ⊎ ((status ≡ DEVICE) × WritesPart)
 
--- What the definitions give for the bytes of the inputs is handed in: the text of the answer, and the line of fault of
--- inputs that are refused.
-module _ (d : Devices) (TextFor LineFor : List (List ℕ) → List ℕ → Type 0) where
+module _ (d : Devices) (request : Request) where
+  -- what the definitions give for the bytes of inputs: the text of the answer, or the line of fault
+  abbrev TextFor : List (List ℕ) → List ℕ → Type 0
+  TextFor = text_for request.command request.burdens request.csv
+
+  abbrev LineFor : List (List ℕ) → List ℕ → Type 0
+  LineFor = line_for request.command
+
   -- the output took exactly the text for the bytes read
   abbrev pub AnswersWell : Type 0
-  AnswersWell = (inputs : List (List ℕ)) × (text : List ℕ) × d.WasRead inputs × TextFor inputs text × WritesWell d.out d.err text
+  AnswersWell = (inputs : List (List ℕ)) × (text : List ℕ) × WasRead d.inputs inputs × TextFor inputs text × WritesWell d.out d.err text
 
   -- the definitions refuse the bytes read, and the line is theirs
   abbrev pub RefusesInput : Type 0
-  RefusesInput = (inputs : List (List ℕ)) × (fault : List ℕ) × d.WasRead inputs × LineFor inputs fault × d.out.Untouched × Told d.err fault
+  RefusesInput = (inputs : List (List ℕ)) × (fault : List ℕ) × WasRead d.inputs inputs × LineFor inputs fault × d.out.Untouched × Told d.err fault
 
   -- the text for the bytes read could not be written whole
   abbrev pub OutputFails : Type 0
-  OutputFails = (inputs : List (List ℕ)) × (text : List ℕ) × d.WasRead inputs × TextFor inputs text × WritesPart d.out d.err text
+  OutputFails = (inputs : List (List ℕ)) × (text : List ℕ) × WasRead d.inputs inputs × TextFor inputs text × WritesPart d.out d.err text
 
   -- an input could not be read whole
   abbrev pub InputFails : Type 0
-  InputFails = (fault : List ℕ) × d.Unread fault × d.out.Untouched × Told d.err fault
+  InputFails = (trouble : Trouble) × IsUnread d.inputs (first_place request.command) trouble × d.out.Untouched × Told d.err (trouble_line trouble)
 
-  -- an allocation failed, while the input was read or after
+  -- memory is told as wanting; what was read stayed within the bounds, to the end of the inputs or not
   abbrev pub MemoryFails : Type 0
-  MemoryFails = d.StayedWithin × d.out.Untouched × Told d.err (trouble_line NoMemory)
+  MemoryFails = StayedWithin d.inputs (first_place request.command) × d.out.Untouched × Told d.err (trouble_line NoMemory)
 
-  abbrev pub RunEnds : ℕ → Type 0
-  RunEnds status = ((status ≡ GOOD) × AnswersWell) ⊎ ((status ≡ BAD_INPUT) × RefusesInput)
-      ⊎ ((status ≡ DEVICE) × (OutputFails ⊎ InputFails)) ⊎ ((status ≡ MEMORY) × MemoryFails)
+  -- what goes with each status
+  pub record RunEnds (status : ℕ) : Type 0 where
+    pub known : (status ≡ GOOD) ⊎ (status ≡ BAD_INPUT) ⊎ (status ≡ DEVICE) ⊎ (status ≡ MEMORY)
+    pub good : status ≡ GOOD → AnswersWell
+    pub bad_input : status ≡ BAD_INPUT → RefusesInput
+    pub device : status ≡ DEVICE → OutputFails ⊎ InputFails
+    pub memory : status ≡ MEMORY → MemoryFails

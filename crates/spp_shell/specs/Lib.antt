@@ -1,3 +1,4 @@
+pub mod Places
 pub mod Troubles
 pub mod Reading
 pub mod Refusals
@@ -6,6 +7,8 @@ pub mod Check
 pub mod Encode
 pub mod Figures
 pub mod Profiles
+pub mod Compare
+pub mod Inputs
 pub mod Requests
 pub mod Tasks
 pub mod Devices

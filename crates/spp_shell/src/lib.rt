@@ -1,11 +1,14 @@
-//! The shell of the program: reads a request's input, answers it, and writes the answer or one line of fault.
+//! The shell of the program: reads a request's inputs, answers it, and writes the answer or one line of fault.
 #![tactic(auto)]
 
 mod check_task;
+mod compare_task;
 mod encode_task;
 mod figures_task;
 mod in_source;
+mod input;
 mod opening;
+mod place;
 mod profile_task;
 mod reading;
 mod refusal;
@@ -17,6 +20,7 @@ mod usage;
 mod writing;
 
 pub use in_source::InSource;
+pub use place::Place;
 pub use reading::{ReadFault, read_all, read_within};
 pub use running::run;
 pub use source::{Source, SourceFault};

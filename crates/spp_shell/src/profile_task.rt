@@ -1,16 +1,20 @@
 //! The task `profile`: the figures and tables of a run, by workers that share the parts of its trace, or its first fault.
 ghost use Rattle.std.specs.Prelude.{◌≡◌, ◌<◌, ◌^◌, [], ◌∷◌, IfOk, IfErr};
 ghost use Rattle.spp_shell.specs.Tasks.{IfLine};
-ghost use Rattle.spp_shell.specs.Check.{IsCheckLine};
+ghost use Rattle.spp_frame.specs.Nesting.{IsWellFormed};
+ghost use Rattle.spp_site.specs.Profiles.{IsProfileOf};
+ghost use Rattle.spp_shell.specs.Check.{IsCheckLine, IsFirstBadLine};
 ghost use Rattle.spp_shell.specs.Profiles.{IsProfileText, report_text};
 
 use crate::opening::{open_or_refuse, refusal_of_event};
 use crate::refusal::Refusal;
 use spp_crew::{OpenGate, profile};
 use spp_cut::cut_even;
+use spp_event::Trace;
 use spp_frame::ProfileFault;
 use spp_report::{Named, csv_text, plain_text};
 use spp_request::Request;
+use spp_site::Profile;
 use std::alloc::{AllocError, Global};
 use std::sync::Wait;
 use std::thread::Threads;
@@ -27,6 +31,27 @@ fn report(alloc: Global, named: &Named<'_, '_>, csv: bool) -> Result<Vec<u8>, Al
     }
 }
 
+/// The profile of the run of a trace, or why there is none.
+pub(crate) fn profile_or_refuse<R: Threads + Wait + Sync>(
+    rt: &R,
+    alloc: Global,
+    request: &Request,
+    trace: &Trace<'_>,
+) -> Result<Profile, Refusal>
+    ensures profile { IfOk result (IsProfileOf trace.now request.now.burdens) }
+    ensures good { IfOk result (λ p. IsWellFormed trace.now.records) }
+    ensures small { IfOk result (λ p. p.figures.work < 2 ^ 92) }
+    ensures line { IfErr result (λ refusal. IfLine refusal (IsFirstBadLine trace.now.records)) }
+{
+    let cut = cut_even(alloc, trace, request.parts)?;
+    let workers = request.workers.number();
+    match profile(rt, alloc, &cut, workers, request.burdens, &OpenGate) {
+        Ok(profile) => Ok(profile),
+        Err(ProfileFault::Bad(fault)) => Err(refusal_of_event(alloc, fault)),
+        Err(ProfileFault::Memory) => Err(Refusal::Memory),
+    }
+}
+
 /// The report of the run whose trace these bytes are, or why there is none.
 pub(crate) fn answer_profile<R: Threads + Wait + Sync>(
     rt: &R,
@@ -38,17 +63,10 @@ pub(crate) fn answer_profile<R: Threads + Wait + Sync>(
     ensures line { IfErr result (λ refusal. IfLine refusal (IsCheckLine (bytes.now ∷ []))) }
 {
     let trace = open_or_refuse(alloc, bytes)?;
-    let cut = cut_even(alloc, &trace, request.parts)?;
-    let workers = request.workers.number();
-    match profile(rt, alloc, &cut, workers, request.burdens, &OpenGate) {
-        Ok(profile) => {
-            let named = Named {
-                trace: &trace,
-                profile: &profile,
-            };
-            Ok(report(alloc, &named, request.csv)?)
-        }
-        Err(ProfileFault::Bad(fault)) => Err(refusal_of_event(alloc, fault)),
-        Err(ProfileFault::Memory) => Err(Refusal::Memory),
-    }
+    let profile = profile_or_refuse(rt, alloc, request, &trace)?;
+    let named = Named {
+        trace: &trace,
+        profile: &profile,
+    };
+    Ok(report(alloc, &named, request.csv)?)
 }

@@ -1,15 +1,18 @@
 //! One run: read, answer, write.
-ghost use Rattle.std.specs.Prelude.{[], ◌∷◌, IfOk, IfErr};
-ghost use Rattle.spp_shell.specs.Devices.{devices_of, taking_of};
+ghost use Rattle.std.specs.Prelude.{ℕ, List, [], ◌∷◌, IfOk, IfErr};
+ghost use Rattle.spp_shell.specs.Devices.{WasRead, devices_of, giving_of, inputs_of, taking_of};
 ghost use Rattle.spp_shell.specs.Endings.{RunEnds};
+ghost use Rattle.spp_shell.specs.Inputs.{IsRefusedBy, first_place};
 ghost use Rattle.spp_shell.specs.Requests.{text_for, line_for};
 ghost use Rattle.spp_shell.specs.Tasks.{IfLine};
 
 use crate::check_task::answer_check;
+use crate::compare_task::answer_compare;
 use crate::encode_task::answer_encode;
 use crate::figures_task::answer_figures;
+use crate::input::read_or_refuse;
+use crate::place::Place;
 use crate::profile_task::answer_profile;
-use crate::reading::{ReadFault, read_all};
 use crate::refusal::Refusal;
 use crate::source::Source;
 use crate::status::BAD_INPUT;
@@ -18,56 +21,73 @@ use crate::writing::{tell, tell_trouble, write_answer};
 use spp_report::Sink;
 use spp_request::{Command, Request};
 use std::alloc::Global;
+use std::random::RandomSource;
 use std::sync::Wait;
 use std::thread::Threads;
 
-/// The text for the bytes of the request's input, or why there is none.
-fn answer<R: Threads + Wait + Sync>(
-    rt: &R,
-    alloc: Global,
-    request: &Request,
-    bytes: &[u8],
-) -> Result<Vec<u8>, Refusal>
-    ensures text { IfOk result (λ text. text_for request.now.command request.now.burdens request.now.csv (bytes.now ∷ []) text.items) }
-    ensures line { IfErr result (λ refusal. IfLine refusal (line_for request.now.command (bytes.now ∷ []))) }
-{
-    match request.command {
-        Command::Check => answer_check(alloc, bytes),
-        Command::Figures => answer_figures(rt, alloc, request, bytes),
-        Command::Profile => answer_profile(rt, alloc, request, bytes),
-        Command::Encode => answer_encode(alloc, bytes),
-    }
-}
-
-/// One run of the program: reads the input, answers the request, and writes the whole answer to `out`, or one line
-/// of fault to `err`. Gives the exit status.
-///
-/// `figures` and `profile` share the parts of the trace among so many workers as the request says, on threads of the
-/// runtime, and wait for them: what is said here holds where the call returns.
-///
-/// Nothing goes to `out` before the whole answer stands. A failure of `err` changes nothing.
-pub fn run<R: Threads + Wait + Sync, S: Source, O: Sink, E: Sink>(
+/// The text for the bytes of the request's inputs, or why there is none.
+fn answer<R: Threads + Wait + Sync + RandomSource, S: Source, T: Source>(
     rt: &R,
     alloc: Global,
     request: &Request,
     first: &mut S,
+    second: &mut T,
+) -> Result<Vec<u8>, Refusal>
+    ensures text { IfOk result (λ text. (inputs : List (List ℕ)) × WasRead (inputs_of (giving_of S.answered S.failures first.old first.new) (giving_of T.answered T.failures second.old second.new)) inputs × text_for request.now.command request.now.burdens request.now.csv inputs text.items) }
+    ensures refused { IfErr result (IsRefusedBy (inputs_of (giving_of S.answered S.failures first.old first.new) (giving_of T.answered T.failures second.old second.new)) (first_place request.now.command) (line_for request.now.command)) }
+{
+    match request.command {
+        Command::Check => {
+            let bytes = read_or_refuse(alloc, first, Place::Only)?;
+            answer_check(alloc, bytes.as_slice())
+        }
+        Command::Figures => {
+            let bytes = read_or_refuse(alloc, first, Place::Only)?;
+            answer_figures(rt, alloc, request, bytes.as_slice())
+        }
+        Command::Profile => {
+            let bytes = read_or_refuse(alloc, first, Place::Only)?;
+            answer_profile(rt, alloc, request, bytes.as_slice())
+        }
+        Command::Compare => answer_compare(rt, alloc, request, first, second),
+        Command::Encode => {
+            let bytes = read_or_refuse(alloc, first, Place::Only)?;
+            answer_encode(alloc, bytes.as_slice())
+        }
+    }
+}
+
+/// One run of the program: reads the inputs, answers the request, and writes the whole answer to `out`, or one line of
+/// fault to `err`. Gives the exit status:
+///
+/// - 0: `out` took exactly the text that the definitions give for the bytes read.
+/// - 1: the definitions refuse these bytes, and `err` was told their line of fault.
+/// - 3: `out` failed after a first part of that text; or an input failed, or was too long, and `out` is untouched.
+/// - 4: an allocation failed, and `out` is untouched.
+///
+/// Only `compare` reads `second`, after the run that `first` gives was profiled, and only where that trace is good.
+/// Commands over parts of a trace share them among so many workers as the request says, on threads of the runtime, and
+/// wait for them: what is said here holds where the call returns.
+///
+/// Nothing goes to `out` before the whole answer stands. A failure of `err` changes nothing.
+pub fn run<R: Threads + Wait + Sync + RandomSource, S: Source, T: Source, O: Sink, E: Sink>(
+    rt: &R,
+    alloc: Global,
+    request: &Request,
+    first: &mut S,
+    second: &mut T,
     out: &mut O,
     err: &mut E,
 ) -> u8
-    ensures ends { RunEnds (devices_of S.answered S.failures first.old first.new (taking_of O.took O.finished O.failures out.old out.new) (taking_of E.took E.finished E.failures err.old err.new)) (text_for request.now.command request.now.burdens request.now.csv) (line_for request.now.command) result }
+    ensures ends { RunEnds (devices_of (inputs_of (giving_of S.answered S.failures first.old first.new) (giving_of T.answered T.failures second.old second.new)) (taking_of O.took O.finished O.failures out.old out.new) (taking_of E.took E.finished E.failures err.old err.new)) request.now result }
 {
-    let bytes = match read_all(alloc, first) {
-        Ok(bytes) => bytes,
-        Err(ReadFault::Device) => return tell_trouble(err, Trouble::CannotRead),
-        Err(ReadFault::TooLong) => return tell_trouble(err, Trouble::TooLong),
-        Err(ReadFault::Memory) => return tell_trouble(err, Trouble::NoMemory),
-    };
-    match answer(rt, alloc, request, bytes.as_slice()) {
+    match answer(rt, alloc, request, first, second) {
         Ok(text) => write_answer(text.as_slice(), out, err),
         Err(Refusal::Line(line)) => {
             tell(err, line.as_bytes());
             BAD_INPUT
         }
+        Err(Refusal::Unread(trouble)) => tell_trouble(err, trouble),
         Err(Refusal::Memory) => tell_trouble(err, Trouble::NoMemory),
     }
 }

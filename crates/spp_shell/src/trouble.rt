@@ -2,17 +2,18 @@
 ghost use Rattle.std.specs.Prelude.{◌≡◌};
 ghost use Rattle.spp_shell.specs.Troubles.{trouble_line, trouble_status};
 
+use crate::place::Place;
 use crate::status::{DEVICE, MEMORY};
 
 /// What keeps a run from its answer, whatever its input says.
 #[derive(Clone, Copy, Debug, PartialEq, Eq)]
 pub(crate) enum Trouble {
     /// The input can't be opened.
-    CannotOpen,
+    CannotOpen(Place),
     /// The device of the input failed before its end.
-    CannotRead,
+    CannotRead(Place),
     /// The input has more bytes, or takes more reads, than are allowed.
-    TooLong,
+    TooLong(Place),
     /// The output didn't take the whole answer, or failed to send it on.
     CannotWrite,
     /// An allocation failed.
@@ -25,9 +26,15 @@ impl Trouble {
         ensures { result.now ≡ trouble_line self }
     {
         match self {
-            Trouble::CannotOpen => b"cannot open input\n".as_slice(),
-            Trouble::CannotRead => b"cannot read input\n".as_slice(),
-            Trouble::TooLong => b"input too long\n".as_slice(),
+            Trouble::CannotOpen(Place::Only) => b"cannot open input\n".as_slice(),
+            Trouble::CannotOpen(Place::Before) => b"before: cannot open input\n".as_slice(),
+            Trouble::CannotOpen(Place::After) => b"after: cannot open input\n".as_slice(),
+            Trouble::CannotRead(Place::Only) => b"cannot read input\n".as_slice(),
+            Trouble::CannotRead(Place::Before) => b"before: cannot read input\n".as_slice(),
+            Trouble::CannotRead(Place::After) => b"after: cannot read input\n".as_slice(),
+            Trouble::TooLong(Place::Only) => b"input too long\n".as_slice(),
+            Trouble::TooLong(Place::Before) => b"before: input too long\n".as_slice(),
+            Trouble::TooLong(Place::After) => b"after: input too long\n".as_slice(),
             Trouble::CannotWrite => b"cannot write output\n".as_slice(),
             Trouble::NoMemory => b"out of memory\n".as_slice(),
         }
@@ -38,8 +45,10 @@ impl Trouble {
         ensures { result ≡ trouble_status self }
     {
         match self {
-            Trouble::CannotOpen | Trouble::CannotRead | Trouble::TooLong | Trouble::CannotWrite =>
-                DEVICE,
+            Trouble::CannotOpen(_)
+            | Trouble::CannotRead(_)
+            | Trouble::TooLong(_)
+            | Trouble::CannotWrite => DEVICE,
             Trouble::NoMemory => MEMORY,
         }
     }

@@ -5,6 +5,7 @@ ghost use Rattle.spp_shell.specs.Troubles.{trouble_line};
 ghost use Rattle.spp_shell.specs.Usage.{UsageEnds};
 ghost use Rattle.spp_shell.specs.declared.trouble.Trouble.TheVariants.{CannotOpen};
 
+use crate::place::Place;
 use crate::status::{DEVICE, GOOD};
 use crate::trouble::Trouble;
 use crate::writing::{tell, tell_trouble, write_answer};
@@ -12,11 +13,11 @@ use spp_report::Sink;
 use spp_request::UsageFault;
 
 /// Tells that an input cannot be opened. Gives the exit status.
-pub fn refuse_input<E: Sink>(err: &mut E) -> u8
+pub fn refuse_input<E: Sink>(place: Place, err: &mut E) -> u8
     ensures status { result ≡ DEVICE }
-    ensures told { Told (taking_of E.took E.finished E.failures err.old err.new) (trouble_line CannotOpen) }
+    ensures told { Told (taking_of E.took E.finished E.failures err.old err.new) (trouble_line (CannotOpen place)) }
 {
-    tell_trouble(err, Trouble::CannotOpen)
+    tell_trouble(err, Trouble::CannotOpen(place))
 }
 
 /// Shows help on `out`, or the text of a usage fault on `err`. Gives the exit status.

@@ -4,15 +4,16 @@
 
 use spp_command_line::read_request;
 use spp_report::{OutSink, Sink};
-use spp_request::{Request, UsageFault};
-use spp_shell::{InSource, refuse_input, run, show_usage, status};
+use spp_request::{Command, Request, UsageFault};
+use spp_shell::{InSource, Place, refuse_input, run, show_usage, status};
 use std::alloc::Global;
 use std::io::ErrorKind;
 use std::process::ExitCode;
+use std::random::RandomSource;
 use std::rt::{Env, Files};
 use std::sync::Wait;
 use std::thread::Threads;
-use std::{env, fs};
+use std::{env, fs, io};
 
 /// The words of the command line.
 fn words<R: Env + AllocGlobal>(rt: &R) -> Result<Vec<String>, UsageFault> {
@@ -26,19 +27,67 @@ fn words<R: Env + AllocGlobal>(rt: &R) -> Result<Vec<String>, UsageFault> {
     }
 }
 
-/// Answers the request, from its file or from standard input.
-fn answer<R, O: Sink, E: Sink>(rt: &R, request: &Request, out: &mut O, err: &mut E) -> u8
+/// Ends a run whose input can't be opened. Gives the exit status.
+fn refuse<O: Sink, E: Sink>(error: &io::Error, place: Place, out: &mut O, err: &mut E) -> u8 {
+    if error.kind() == ErrorKind::OutOfMemory {
+        show_usage(UsageFault::Memory, out, err)
+    } else {
+        refuse_input(place, err)
+    }
+}
+
+/// Answers a request over two files, of which both are opened before one is read. A request to compare has two: `clap`
+/// refuses words that name fewer.
+fn answer_both<R, O: Sink, E: Sink>(rt: &R, request: &Request, out: &mut O, err: &mut E) -> u8
 where
-    R: Files + Input + Threads + Wait + Sync + AllocGlobal,
+    R: Files + Threads + Wait + Sync + RandomSource + AllocGlobal,
 {
+    let (Some(before), Some(after)) = (request.files.first(), request.files.get(1)) else {
+        return refuse_input(Place::Before, err);
+    };
+    let mut first = match fs::open(rt, before.as_str()) {
+        Ok(file) => InSource::new(file),
+        Err(e) => return refuse(&e, Place::Before, out, err),
+    };
+    let mut second = match fs::open(rt, after.as_str()) {
+        Ok(file) => InSource::new(file),
+        Err(e) => return refuse(&e, Place::After, out, err),
+    };
+    run(rt, rt.alloc(), request, &mut first, &mut second, out, err)
+}
+
+/// Answers a request over one file, or over standard input.
+fn answer_one<R, O: Sink, E: Sink>(rt: &R, request: &Request, out: &mut O, err: &mut E) -> u8
+where
+    R: Files + Input + Threads + Wait + Sync + RandomSource + AllocGlobal,
+{
+    let mut no_second = InSource::new(io::empty());
     let Some(path) = request.files.first() else {
         let mut first = InSource::new(rt.reader());
-        return run(rt, rt.alloc(), request, &mut first, out, err);
+        return run(
+            rt,
+            rt.alloc(),
+            request,
+            &mut first,
+            &mut no_second,
+            out,
+            err,
+        );
     };
     match fs::open(rt, path.as_str()) {
-        Ok(file) => run(rt, rt.alloc(), request, &mut InSource::new(file), out, err),
-        Err(e) if e.kind() == ErrorKind::OutOfMemory => show_usage(UsageFault::Memory, out, err),
-        Err(_) => refuse_input(err),
+        Ok(file) => {
+            let mut first = InSource::new(file);
+            run(
+                rt,
+                rt.alloc(),
+                request,
+                &mut first,
+                &mut no_second,
+                out,
+                err,
+            )
+        }
+        Err(e) => refuse(&e, Place::Only, out, err),
     }
 }
 
@@ -50,7 +99,10 @@ fn main(rt: HostRuntime) -> ExitCode {
         Err(fault) => Err(fault),
     };
     let ends = match request {
-        Ok(request) => answer(&rt, &request, &mut out, &mut err),
+        Ok(request) if request.command == Command::Compare => {
+            answer_both(&rt, &request, &mut out, &mut err)
+        }
+        Ok(request) => answer_one(&rt, &request, &mut out, &mut err),
         Err(fault) => show_usage(fault, &mut out, &mut err),
     };
     ExitCode::from(ends)

@@ -1,6 +1,7 @@
 //! A program for tests: prints what the library says of the trace or traces on standard input, where no command of
 //! `spprof` does. Its words tell what: `text`, the trace as text; `marks PARTS WORKERS`, which events are on its path, as
-//! so many workers mark them in so many even parts; `orders PARTS`, how long its parts take in three orders; `reference`,
+//! so many workers mark them in so many even parts; `orders PARTS`, how long its parts take in three orders; `turns PARTS`,
+//! how long its profile takes on one thread and, by turns with that, in so many parts with one worker; `reference`,
 //! what the reference profiler answers for each of many traces, held against the profiler on one thread and against
 //! workers, with `reference PARTS` in so many parts too.
 #![tactic(auto)]
@@ -9,6 +10,7 @@ mod marks;
 mod orders;
 mod reference;
 mod text;
+mod turns;
 
 use spp_cut::Parts;
 use spp_request::Workers;
@@ -23,6 +25,7 @@ enum Task {
     Text,
     Marks { parts: Parts, workers: Workers },
     Orders(Parts),
+    Turns(Parts),
     Reference(Option<u32>),
 }
 
@@ -40,6 +43,7 @@ fn asked(words: &[String]) -> Option<Task> {
             workers: Workers::new(number(words, 3)?)?,
         }),
         "orders" => Some(Task::Orders(Parts::new(number(words, 2)?)?)),
+        "turns" => Some(Task::Turns(Parts::new(number(words, 2)?)?)),
         "reference" => Some(Task::Reference(number(words, 2))),
         _ => None,
     }
@@ -64,6 +68,7 @@ fn main(rt: HostRuntime) -> io::Result<ExitCode> {
             workers,
         )?,
         Task::Orders(parts) => orders::print(&rt, alloc, bytes.as_slice(), parts)?,
+        Task::Turns(parts) => turns::print(&rt, alloc, bytes.as_slice(), parts)?,
         Task::Reference(parts) => reference::print(&rt, alloc, bytes.as_slice(), parts)?,
     };
     Ok(if is_printed {

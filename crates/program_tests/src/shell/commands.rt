@@ -1,15 +1,16 @@
 //! A command over bytes in memory.
 
-use super::fakes::{dripping, empty_cup};
+use super::fakes::{dripping, empty_cup, unread};
 use spp_cut::Parts;
 use spp_maxplus::Burdens;
 use spp_request::{Command, Request, Workers};
 use spp_shell::run;
 use std::alloc::Global;
+use std::random::RandomSource;
 use std::sync::Wait;
 use std::thread::Threads;
 
-/// A request for this over standard input, with burdens of 3, 16 parts and 4 workers.
+/// A request for this over inputs without a name, with burdens of 3, 16 parts and 4 workers.
 pub fn request_for(alloc: Global, command: Command) -> Request {
     Request {
         command,
@@ -22,7 +23,7 @@ pub fn request_for(alloc: Global, command: Command) -> Request {
 }
 
 /// Runs the command on the bytes, and says whether it ended with this status, output and line of fault.
-pub fn command_ends_with<R: Threads + Wait + Sync + AllocGlobal>(
+pub fn command_ends_with<R: Threads + Wait + Sync + RandomSource + AllocGlobal>(
     rt: &R,
     command: Command,
     bytes: &[u8],
@@ -35,7 +36,7 @@ pub fn command_ends_with<R: Threads + Wait + Sync + AllocGlobal>(
 }
 
 /// Runs the request on the bytes, and says the same.
-pub fn request_ends_with<R: Threads + Wait + Sync + AllocGlobal>(
+pub fn request_ends_with<R: Threads + Wait + Sync + RandomSource + AllocGlobal>(
     rt: &R,
     request: &Request,
     bytes: &[u8],
@@ -45,6 +46,15 @@ pub fn request_ends_with<R: Threads + Wait + Sync + AllocGlobal>(
 ) -> bool {
     let alloc = rt.alloc();
     let (mut out, mut err) = (empty_cup(alloc, 2000), empty_cup(alloc, 100));
-    let got = run(rt, alloc, request, &mut dripping(bytes), &mut out, &mut err);
+    let (mut first, mut second) = (dripping(bytes), unread());
+    let got = run(
+        rt,
+        alloc,
+        request,
+        &mut first,
+        &mut second,
+        &mut out,
+        &mut err,
+    );
     got == ends && out.taken.as_slice() == text && err.taken.as_slice() == line
 }

@@ -1,9 +1,10 @@
 //! Whole runs of `encode`.
 
 use super::commands::{command_ends_with, request_for};
-use super::fakes::{dripping, empty_cup};
+use super::fakes::{dripping, empty_cup, unread};
 use spp_request::Command;
 use spp_shell::{run, status};
+use std::random::RandomSource;
 use std::sync::Wait;
 use std::thread::Threads;
 
@@ -15,7 +16,11 @@ const TRACE: &[u8] = b"SPTRACE1\x00\x00\x00\x01\x00\x00\x00\x00\x00\x00\x00\x00\
 \x00\x00\x00\x00\x00\x00\x00\x00\x00\x00\x00\x00\x00\x00\x00\x01";
 
 /// Whether `encode` of the bytes is refused with this line of fault.
-fn is_refused<R: Threads + Wait + Sync + AllocGlobal>(rt: &R, bytes: &[u8], line: &str) -> bool {
+fn is_refused<R: Threads + Wait + Sync + RandomSource + AllocGlobal>(
+    rt: &R,
+    bytes: &[u8],
+    line: &str,
+) -> bool {
     let none = b"".as_slice();
     command_ends_with(rt, Command::Encode, bytes, 1, none, line.as_bytes())
 }
@@ -55,6 +60,7 @@ fn an_output_that_fails_has_the_first_bytes(rt: HostRuntime) {
             rt.alloc(),
             &request_for(rt.alloc(), Command::Encode),
             &mut dripping(TEXT),
+            &mut unread(),
             &mut out,
             &mut err,
         );

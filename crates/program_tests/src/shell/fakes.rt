@@ -57,6 +57,11 @@ pub fn dripping(bytes: &[u8]) -> Drip<'_> {
     failing(bytes, u64::MAX)
 }
 
+/// A source that fails at its first read, where none is to be read.
+pub fn unread() -> Drip<'static> {
+    failing(b"".as_slice(), 0)
+}
+
 /// Is interrupted at each read.
 #[derive(Drop)]
 pub struct Busy;

@@ -4,6 +4,7 @@ use super::commands::{command_ends_with, request_ends_with, request_for};
 use spp_cut::Parts;
 use spp_maxplus::Burdens;
 use spp_request::{Command, Request, Workers};
+use std::random::RandomSource;
 use std::sync::Wait;
 use std::thread::Threads;
 
@@ -66,7 +67,7 @@ A,1,10,1,10,10,1,10,10,1,10,1,10,10,1,10,10,0,0,0,0,0,0,0,0
 
 /// Whether the command on the bytes ends with this status, output and line of fault, in so many parts and by so many
 /// workers.
-fn ends_by<R: Threads + Wait + Sync + AllocGlobal>(
+fn ends_by<R: Threads + Wait + Sync + RandomSource + AllocGlobal>(
     rt: &R,
     command: Command,
     shared: (u32, u32),
@@ -88,7 +89,7 @@ fn ends_by<R: Threads + Wait + Sync + AllocGlobal>(
 const SHARED: &[(u32, u32)] = &[(1, 1), (2, 2), (7, 2), (16, 64), (65536, 4)];
 
 /// The same for various numbers of parts and workers, and as many as there are by default.
-fn ends_with<R: Threads + Wait + Sync + AllocGlobal>(
+fn ends_with<R: Threads + Wait + Sync + RandomSource + AllocGlobal>(
     rt: &R,
     command: Command,
     bytes: &[u8],

@@ -1,11 +1,12 @@
 //! Whole runs: what goes out, what is told, and the status.
 
 use super::commands::{command_ends_with, request_for};
-use super::fakes::{Cup, dripping, empty_cup, failing};
+use super::fakes::{Cup, dripping, empty_cup, failing, unread};
 use spp_report::Sink;
 use spp_request::{Command, Request, UsageFault};
-use spp_shell::{refuse_input, run, show_usage, status};
+use spp_shell::{Place, refuse_input, run, show_usage, status};
 use std::alloc::{AllocError, Global};
+use std::random::RandomSource;
 use std::sync::Wait;
 use std::test::Fail;
 use std::thread::Threads;
@@ -36,7 +37,7 @@ fn trace_of(alloc: Global, records: [&[u8]; 2]) -> Result<Vec<u8>, AllocError> {
 }
 
 /// Whether `check` of the bytes ends with this status, output and line of fault.
-fn ends_with<R: Threads + Wait + Sync + AllocGlobal>(
+fn ends_with<R: Threads + Wait + Sync + RandomSource + AllocGlobal>(
     rt: &R,
     bytes: &[u8],
     ends: u8,
@@ -98,6 +99,7 @@ fn an_output_that_fails_ends_with_status_3(rt: HostRuntime) -> Result<(), Fail> 
             rt.alloc(),
             &check_input(rt.alloc()),
             &mut first,
+            &mut unread(),
             &mut out,
             &mut err,
         );
@@ -122,6 +124,7 @@ fn an_input_that_fails_ends_with_status_3(rt: HostRuntime) -> Result<(), Fail> {
             rt.alloc(),
             &check_input(rt.alloc()),
             &mut first,
+            &mut unread(),
             &mut out,
             &mut err,
         );
@@ -140,6 +143,7 @@ fn a_device_for_faults_that_fails_changes_nothing_else(rt: HostRuntime) {
         rt.alloc(),
         &check_input(rt.alloc()),
         &mut dripping(b"".as_slice()),
+        &mut unread(),
         &mut out,
         &mut err,
     );
@@ -193,7 +197,13 @@ fn help_goes_to_the_output_and_the_rest_does_not(rt: HostRuntime) -> Result<(), 
 
 #[test]
 fn an_input_that_cannot_be_opened_is_told(rt: HostRuntime) {
-    let mut err = empty_cup(rt.alloc(), 100);
-    assert_eq!(rt; refuse_input(&mut err), status::DEVICE);
-    assert_eq!(rt; err.taken.as_slice(), b"cannot open input\n".as_slice());
+    for (place, line) in [
+        (Place::Only, "cannot open input\n"),
+        (Place::Before, "before: cannot open input\n"),
+        (Place::After, "after: cannot open input\n"),
+    ] {
+        let mut err = empty_cup(rt.alloc(), 100);
+        assert_eq!(rt; refuse_input(place, &mut err), status::DEVICE);
+        assert_eq!(rt; err.taken.as_slice(), line.as_bytes());
+    }
 }

@@ -26,6 +26,7 @@ returns c =
     let one = c.in_ok-subcommand.ensures.shape c.in_ok-check.ensures.1 ∙ ap₂ with_subcommand start (ap top_of c.in_ok-check.ensures.0) in
     let two = c.in_ok-subcommand-2.ensures.shape c.in_ok-figures.ensures.1 ∙ ap₂ with_subcommand one (ap top_of c.in_ok-figures.ensures.0) in
     let three = c.in_ok-subcommand-3.ensures.shape c.in_ok-profile.ensures.1 ∙ ap₂ with_subcommand two (ap top_of c.in_ok-profile.ensures.0) in
-    IfOk-weaker c.subcommand-4.result _ _
-    (λ d h. h.shape c.in_ok-encode.ensures.1 ∙ ap₂ with_subcommand three (ap top_of c.in_ok-encode.ensures.0))
-    c.subcommand-4.ensures
+    let four = c.in_ok-subcommand-4.ensures.shape c.in_ok-compare.ensures.1 ∙ ap₂ with_subcommand three (ap top_of c.in_ok-compare.ensures.0) in
+    IfOk-weaker c.subcommand-5.result _ _
+    (λ d h. h.shape c.in_ok-encode.ensures.1 ∙ ap₂ with_subcommand four (ap top_of c.in_ok-encode.ensures.0))
+    c.subcommand-5.ensures

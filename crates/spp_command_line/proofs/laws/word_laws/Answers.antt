@@ -8,10 +8,10 @@ use Rattle.clap.specs.declared.builder.value_parser.Reading.TheVariants.{AsWritt
 use Rattle.spp_maxplus.specs.declared.state.Burdens.{Burdens}
 use Rattle.spp_maxplus.specs.State.{equal}
 use Rattle.spp_command_line.specs.Spprof.{spprof}
-use Rattle.spp_command_line.specs.Laws.{Ask, CommandAlone, Dash, Fail, Help, OneWord, TwoWords, name_of}
+use Rattle.spp_command_line.specs.Laws.{Ask, CommandAlone, Dash, Fail, Help, HelpBefore, OneWord, TwoWords, name_of}
 use Rattle.clap.proofs.OnLiterals.{clap_on_literals}
 use Rattle.spp_request.specs.declared.request.Command.{Command}
-use Rattle.spp_request.specs.declared.request.Command.TheVariants.{Check, Figures, Profile, Encode}
+use Rattle.spp_request.specs.declared.request.Command.TheVariants.{Check, Figures, Profile, Compare, Encode}
 use Rattle.spp_command_line.specs.Usage.{Gives, IsFlag, IsNamed, IsNumberIn, IsNumberOr, IsRequestOf, number_of, paths_of}
 use Rattle.clap.specs.declared.error.kind.ErrorKind.TheVariants.{DisplayHelp}
 use Rattle.spp_command_line.proofs.laws.word_laws.Goals as goal
@@ -23,6 +23,9 @@ is_check Figures e =
     let bad : true ≡ false = ap (λ (t : Text). bytes_eq t (codes "check")) e in
     cc
 is_check Profile e =
+    let bad : true ≡ false = ap (λ (t : Text). bytes_eq t (codes "check")) e in
+    cc
+is_check Compare e =
     let bad : true ≡ false = ap (λ (t : Text). bytes_eq t (codes "check")) e in
     cc
 is_check Encode e =
@@ -37,6 +40,9 @@ is_figures Figures e = refl
 is_figures Profile e =
     let bad : true ≡ false = ap (λ (t : Text). bytes_eq t (codes "figures")) e in
     cc
+is_figures Compare e =
+    let bad : true ≡ false = ap (λ (t : Text). bytes_eq t (codes "figures")) e in
+    cc
 is_figures Encode e =
     let bad : true ≡ false = ap (λ (t : Text). bytes_eq t (codes "figures")) e in
     cc
@@ -49,6 +55,9 @@ is_profile Figures e =
     let bad : true ≡ false = ap (λ (t : Text). bytes_eq t (codes "profile")) e in
     cc
 is_profile Profile e = refl
+is_profile Compare e =
+    let bad : true ≡ false = ap (λ (t : Text). bytes_eq t (codes "profile")) e in
+    cc
 is_profile Encode e =
     let bad : true ≡ false = ap (λ (t : Text). bytes_eq t (codes "profile")) e in
     cc
@@ -63,7 +72,25 @@ is_encode Figures e =
 is_encode Profile e =
     let bad : true ≡ false = ap (λ (t : Text). bytes_eq t (codes "encode")) e in
     cc
+is_encode Compare e =
+    let bad : true ≡ false = ap (λ (t : Text). bytes_eq t (codes "encode")) e in
+    cc
 is_encode Encode e = refl
+
+is_compare : (c : Command) → IsNamed (codes "compare") c → c ≡ Compare
+is_compare Check e =
+    let bad : true ≡ false = ap (λ (t : Text). bytes_eq t (codes "compare")) e in
+    cc
+is_compare Figures e =
+    let bad : true ≡ false = ap (λ (t : Text). bytes_eq t (codes "compare")) e in
+    cc
+is_compare Profile e =
+    let bad : true ≡ false = ap (λ (t : Text). bytes_eq t (codes "compare")) e in
+    cc
+is_compare Compare e = refl
+is_compare Encode e =
+    let bad : true ≡ false = ap (λ (t : Text). bytes_eq t (codes "compare")) e in
+    cc
 
 -- --burden alone is for edges of both kinds
 as_given : (b : Burdens) {n : ℕ} → (b.continuation ≡ n) × (b.join ≡ b.continuation) → b ≡ equal n
@@ -203,7 +230,7 @@ unfolding clap_on_literals given unsaid
 one_check x rest plain =
     let rows : List Row = given (codes "FILE") ((x ∷ rest) ∷ []) ∷ [] in
     let found : subcommand_of spprof (codes "spprof" ∷ codes "check" ∷ (x ∷ rest) ∷ []) ≡ Some (codes "check", rows) = simp plain in
-    let path : paths_of (Some (x ∷ rest)) ≡ (x ∷ rest) ∷ [] = simp plain in (
+    let path : paths_of (Some (x ∷ rest)) None None ≡ (x ∷ rest) ∷ [] = simp plain in (
       simp plain,
       (λ r h.
           let q : IsRequestOf (Some (codes "check", rows)) r = subst (λ o. IsRequestOf o r) found h in
@@ -216,7 +243,7 @@ unfolding clap_on_literals given unsaid
 one_figures x rest plain =
     let rows : List Row = given (codes "FILE") ((x ∷ rest) ∷ []) ∷ unsaid (codes "burden") (codes "15000") WithoutMinus ∷ unsaid (codes "parts") (codes "16") WithoutMinus ∷ unsaid (codes "workers") (codes "4") WithoutMinus ∷ [] in
     let found : subcommand_of spprof (codes "spprof" ∷ codes "figures" ∷ (x ∷ rest) ∷ []) ≡ Some (codes "figures", rows) = simp plain in
-    let path : paths_of (Some (x ∷ rest)) ≡ (x ∷ rest) ∷ [] = simp plain in (
+    let path : paths_of (Some (x ∷ rest)) None None ≡ (x ∷ rest) ∷ [] = simp plain in (
       simp plain,
       (λ r h.
           let q : IsRequestOf (Some (codes "figures", rows)) r = subst (λ o. IsRequestOf o r) found h in
@@ -229,7 +256,7 @@ unfolding clap_on_literals given unsaid
 one_profile x rest plain =
     let rows : List Row = given (codes "FILE") ((x ∷ rest) ∷ []) ∷ unsaid (codes "burden") (codes "15000") WithoutMinus ∷ unsaid (codes "parts") (codes "16") WithoutMinus ∷ unsaid (codes "workers") (codes "4") WithoutMinus ∷ unsaid (codes "csv") (codes "false") AsWritten ∷ [] in
     let found : subcommand_of spprof (codes "spprof" ∷ codes "profile" ∷ (x ∷ rest) ∷ []) ≡ Some (codes "profile", rows) = simp plain in
-    let path : paths_of (Some (x ∷ rest)) ≡ (x ∷ rest) ∷ [] = simp plain in (
+    let path : paths_of (Some (x ∷ rest)) None None ≡ (x ∷ rest) ∷ [] = simp plain in (
       simp plain,
       (λ r h.
           let q : IsRequestOf (Some (codes "profile", rows)) r = subst (λ o. IsRequestOf o r) found h in
@@ -242,7 +269,7 @@ unfolding clap_on_literals given unsaid
 one_encode x rest plain =
     let rows : List Row = given (codes "FILE") ((x ∷ rest) ∷ []) ∷ [] in
     let found : subcommand_of spprof (codes "spprof" ∷ codes "encode" ∷ (x ∷ rest) ∷ []) ≡ Some (codes "encode", rows) = simp plain in
-    let path : paths_of (Some (x ∷ rest)) ≡ (x ∷ rest) ∷ [] = simp plain in (
+    let path : paths_of (Some (x ∷ rest)) None None ≡ (x ∷ rest) ∷ [] = simp plain in (
       simp plain,
       (λ r h.
           let q : IsRequestOf (Some (codes "encode", rows)) r = subst (λ o. IsRequestOf o r) found h in
@@ -254,37 +281,41 @@ pub returns-clause-one_word : goal.returns-clause-one_word
 returns-clause-one_word c = one
   where
     one : OneWord
-    one Check x rest plain = one_check x rest plain
-    one Figures x rest plain = one_figures x rest plain
-    one Profile x rest plain = one_profile x rest plain
-    one Encode x rest plain = one_encode x rest plain
+    one Check x rest over plain = one_check x rest plain
+    one Figures x rest over plain = one_figures x rest plain
+    one Profile x rest over plain = one_profile x rest plain
+    one Compare x rest over plain = absurd over
+    one Encode x rest over plain = one_encode x rest plain
 
 two_words : TwoWords
 unfolding clap_on_literals
-two_words Check x y rest more plain plain2 = simp (plain, plain2)
-two_words Figures x y rest more plain plain2 = simp (plain, plain2)
-two_words Profile x y rest more plain plain2 = simp (plain, plain2)
-two_words Encode x y rest more plain plain2 = simp (plain, plain2)
+two_words Check x y rest more over plain plain2 = simp (plain, plain2)
+two_words Figures x y rest more over plain plain2 = simp (plain, plain2)
+two_words Profile x y rest more over plain plain2 = simp (plain, plain2)
+two_words Compare x y rest more over plain plain2 = absurd over
+two_words Encode x y rest more over plain plain2 = simp (plain, plain2)
 
 pub returns-clause-two_words : goal.returns-clause-two_words
 returns-clause-two_words c = two_words
 
 alone : CommandAlone
 unfolding clap_on_literals
-alone Check = (refl, (λ r h. (is_check r.command h.0, h.1, as_given r.burdens h.2, h.3, h.4, h.5.0 refl)), (refl, refl, (refl, refl), refl, refl, no_flag))
-alone Figures = (refl, (λ r h. (is_figures r.command h.0, h.1, as_given r.burdens (h.2.0.0 burden_unsaid, h.2.1), h.3.0 parts_unsaid, h.4.0 workers_unsaid, h.5.0 refl)), (refl, refl, (spells (codes "15000") burden_unsaid, refl), spells (codes "16") parts_unsaid, spells (codes "4") workers_unsaid, no_flag))
-alone Profile = (refl, (λ r h. (is_profile r.command h.0, h.1, as_given r.burdens (h.2.0.0 burden_unsaid, h.2.1), h.3.0 parts_unsaid, h.4.0 workers_unsaid, h.5.1 refl)), (refl, refl, (spells (codes "15000") burden_unsaid, refl), spells (codes "16") parts_unsaid, spells (codes "4") workers_unsaid, flag_off))
-alone Encode = (refl, (λ r h. (is_encode r.command h.0, h.1, as_given r.burdens h.2, h.3, h.4, h.5.0 refl)), (refl, refl, (refl, refl), refl, refl, no_flag))
+alone Check over = (refl, (λ r h. (is_check r.command h.0, h.1, as_given r.burdens h.2, h.3, h.4, h.5.0 refl)), (refl, refl, (refl, refl), refl, refl, no_flag))
+alone Figures over = (refl, (λ r h. (is_figures r.command h.0, h.1, as_given r.burdens (h.2.0.0 burden_unsaid, h.2.1), h.3.0 parts_unsaid, h.4.0 workers_unsaid, h.5.0 refl)), (refl, refl, (spells (codes "15000") burden_unsaid, refl), spells (codes "16") parts_unsaid, spells (codes "4") workers_unsaid, no_flag))
+alone Profile over = (refl, (λ r h. (is_profile r.command h.0, h.1, as_given r.burdens (h.2.0.0 burden_unsaid, h.2.1), h.3.0 parts_unsaid, h.4.0 workers_unsaid, h.5.1 refl)), (refl, refl, (spells (codes "15000") burden_unsaid, refl), spells (codes "16") parts_unsaid, spells (codes "4") workers_unsaid, flag_off))
+alone Compare over = absurd over
+alone Encode over = (refl, (λ r h. (is_encode r.command h.0, h.1, as_given r.burdens h.2, h.3, h.4, h.5.0 refl)), (refl, refl, (refl, refl), refl, refl, no_flag))
 
 pub returns-clause-command_alone : goal.returns-clause-command_alone
 returns-clause-command_alone c = alone
 
 dash : Dash
 unfolding clap_on_literals
-dash Check = (refl, (λ r h. (is_check r.command h.0, h.1, as_given r.burdens h.2, h.3, h.4, h.5.0 refl)), (refl, refl, (refl, refl), refl, refl, no_flag))
-dash Figures = (refl, (λ r h. (is_figures r.command h.0, h.1, as_given r.burdens (h.2.0.0 burden_unsaid, h.2.1), h.3.0 parts_unsaid, h.4.0 workers_unsaid, h.5.0 refl)), (refl, refl, (spells (codes "15000") burden_unsaid, refl), spells (codes "16") parts_unsaid, spells (codes "4") workers_unsaid, no_flag))
-dash Profile = (refl, (λ r h. (is_profile r.command h.0, h.1, as_given r.burdens (h.2.0.0 burden_unsaid, h.2.1), h.3.0 parts_unsaid, h.4.0 workers_unsaid, h.5.1 refl)), (refl, refl, (spells (codes "15000") burden_unsaid, refl), spells (codes "16") parts_unsaid, spells (codes "4") workers_unsaid, flag_off))
-dash Encode = (refl, (λ r h. (is_encode r.command h.0, h.1, as_given r.burdens h.2, h.3, h.4, h.5.0 refl)), (refl, refl, (refl, refl), refl, refl, no_flag))
+dash Check over = (refl, (λ r h. (is_check r.command h.0, h.1, as_given r.burdens h.2, h.3, h.4, h.5.0 refl)), (refl, refl, (refl, refl), refl, refl, no_flag))
+dash Figures over = (refl, (λ r h. (is_figures r.command h.0, h.1, as_given r.burdens (h.2.0.0 burden_unsaid, h.2.1), h.3.0 parts_unsaid, h.4.0 workers_unsaid, h.5.0 refl)), (refl, refl, (spells (codes "15000") burden_unsaid, refl), spells (codes "16") parts_unsaid, spells (codes "4") workers_unsaid, no_flag))
+dash Profile over = (refl, (λ r h. (is_profile r.command h.0, h.1, as_given r.burdens (h.2.0.0 burden_unsaid, h.2.1), h.3.0 parts_unsaid, h.4.0 workers_unsaid, h.5.1 refl)), (refl, refl, (spells (codes "15000") burden_unsaid, refl), spells (codes "16") parts_unsaid, spells (codes "4") workers_unsaid, flag_off))
+dash Compare over = absurd over
+dash Encode over = (refl, (λ r h. (is_encode r.command h.0, h.1, as_given r.burdens h.2, h.3, h.4, h.5.0 refl)), (refl, refl, (refl, refl), refl, refl, no_flag))
 
 pub returns-clause-dash : goal.returns-clause-dash
 returns-clause-dash c = dash
@@ -297,7 +328,42 @@ help = (refl, of)
     of Check = refl
     of Figures = refl
     of Profile = refl
+    of Compare = refl
     of Encode = refl
 
 pub returns-clause-help : goal.returns-clause-help
 returns-clause-help c = help
+
+help_before : HelpBefore
+unfolding clap_on_literals
+help_before = (refl, of)
+  where
+    of : (command : Command) → Fail (codes "help" ∷ name_of command ∷ []) DisplayHelp
+    of Check = refl
+    of Figures = refl
+    of Profile = refl
+    of Compare = refl
+    of Encode = refl
+
+pub returns-clause-help_before : goal.returns-clause-help_before
+returns-clause-help_before c = help_before
+
+pub returns-clause-compare_both : goal.returns-clause-compare_both
+unfolding clap_on_literals
+returns-clause-compare_both c = (
+  refl,
+  (λ r h. (is_compare r.command h.0, h.1, as_given r.burdens (h.2.0.0 burden_unsaid, h.2.1), h.3.0 parts_unsaid, h.4.0 workers_unsaid, h.5.0 refl)),
+  (refl, refl, (spells (codes "15000") burden_unsaid, refl), spells (codes "16") parts_unsaid, spells (codes "4") workers_unsaid, no_flag),
+)
+
+pub returns-clause-compare_in_parts : goal.returns-clause-compare_in_parts
+unfolding clap_on_literals
+returns-clause-compare_in_parts c = (
+  refl,
+  (λ r h. (is_compare r.command h.0, h.1, each_given r.burdens (h.2.0.0 burden_3) (h.2.1.0 burden_0), h.3.0 parts_7, h.4.0 workers_2, h.5.0 refl)),
+  (refl, refl, (spells (codes "3") burden_3, spells (codes "0") burden_0), spells (codes "7") parts_7, spells (codes "2") workers_2, no_flag),
+)
+
+pub returns-clause-no_compare : goal.returns-clause-no_compare
+unfolding clap_on_literals
+returns-clause-no_compare c = (refl, refl, refl, refl, refl, refl)

@@ -1,0 +1,162 @@
+/* The recorder. Compile the program's files with -fsanitize-coverage=trace-pc, and this one without. */
+#include "spprof_record.h"
+
+#include <errno.h>
+#include <stdio.h>
+#include <stdlib.h>
+#include <string.h>
+
+/* What a trace of version 1 can hold. */
+enum { RECORD_BYTES = 16, HEAD_BYTES = 24, MOST_NAME_BYTES = 200, MOST_NAMES = 65536, MOST_EVENTS = 1 << 28 };
+enum tag { STRAND, CALL, SPAWN, RETURN, SYNC };
+
+/* Exit statuses, as spprof has them. */
+enum { WRONG_USE = 1, NO_FILE = 3, NO_MEMORY = 4 };
+
+struct names {
+    const char *at[MOST_NAMES];
+    uint32_t count;
+};
+static struct names functions, sites;
+
+static unsigned char *records; /* as they will stand in the file */
+static size_t events, room;
+static uint64_t blocks, total; /* run since the last event, and before it */
+static uint64_t depth;         /* of open frames, without the root */
+static enum { BEFORE, RECORDING, AFTER } state;
+static const char *file_name;
+static FILE *file;
+
+/* gcc makes the program call this in each basic block. */
+void __sanitizer_cov_trace_pc(void);
+void __sanitizer_cov_trace_pc(void) {
+    blocks++;
+}
+
+static _Noreturn void fail(int status, const char *what, const char *detail) {
+    state = AFTER;
+    fprintf(stderr, "spprof_record: %s%s\n", what, detail);
+    exit(status);
+}
+
+static _Noreturn void fail_to_write(void) {
+    const char *why = strerror(errno);
+    state = AFTER;
+    fprintf(stderr, "spprof_record: cannot write %s: %s\n", file_name, why);
+    exit(NO_FILE);
+}
+
+static void put_word(unsigned char *at, uint32_t word) {
+    for (int i = 0; i < 4; i++) at[i] = (unsigned char)(word >> (24 - 8 * i));
+}
+
+static void grow(void) {
+    size_t more = room == 0 ? 4096 : 2 * room;
+    unsigned char *larger = more > SIZE_MAX / RECORD_BYTES ? NULL : realloc(records, more * RECORD_BYTES);
+    if (!larger) fail(NO_MEMORY, "out of memory", "");
+    records = larger;
+    room = more;
+}
+
+static void add(enum tag tag, uint32_t first, uint32_t second) {
+    if (events == MOST_EVENTS) fail(WRONG_USE, "more than 2^28 events", "");
+    if (events == room) grow();
+    unsigned char *at = records + RECORD_BYTES * events++;
+    put_word(at, (uint32_t)tag << 24);
+    put_word(at + 4, tag == STRAND ? 0 : first);
+    put_word(at + 8, tag == STRAND ? first : second);
+    put_word(at + 12, tag == STRAND ? second : 0);
+}
+
+/* Adds the blocks since the last event as a strand, if there were any. */
+static void add_strand(void) {
+    if (blocks > 0) add(STRAND, (uint32_t)(blocks >> 32), (uint32_t)blocks);
+    total += blocks;
+    blocks = 0;
+}
+
+static int is_name(const char *name) {
+    size_t length = strlen(name);
+    for (size_t i = 0; i < length; i++)
+        if (name[i] < 0x20 || name[i] > 0x7e) return 0;
+    return length >= 1 && length <= MOST_NAME_BYTES && strcmp(name, "(root)") != 0;
+}
+
+/* The number of a name, which is added if it isn't there yet. */
+static uint32_t number_of(struct names *names, const char *name) {
+    for (uint32_t i = 0; i < names->count; i++)
+        if (strcmp(names->at[i], name) == 0) return i;
+    if (!is_name(name)) fail(WRONG_USE, "a name needs 1 to 200 bytes of printable ASCII, and isn't (root): ", name);
+    if (names->count == MOST_NAMES) fail(WRONG_USE, "more than 65,536 functions, or as many sites: ", name);
+    names->at[names->count] = name;
+    return names->count++;
+}
+
+void rec_enter(struct rec_place *place, int spawned) {
+    if (state != RECORDING) return;
+    add_strand();
+    if (!place->is_known) {
+        place->site_number = number_of(&sites, place->site);
+        place->function_number = number_of(&functions, place->function);
+        place->is_known = 1;
+    }
+    add(spawned ? SPAWN : CALL, place->site_number, place->function_number);
+    depth++;
+}
+
+void rec_leave(void) {
+    if (state != RECORDING) return;
+    if (depth == 0) fail(WRONG_USE, "REC_START stands within a spawn or call", "");
+    add_strand();
+    add(RETURN, 0, 0);
+    depth--;
+}
+
+void rec_sync(void) {
+    if (state != RECORDING) return;
+    add_strand();
+    add(SYNC, 0, 0);
+}
+
+void rec_start(const char *function) {
+    if (state != BEFORE) fail(WRONG_USE, "REC_START is reached twice", "");
+    file_name = getenv("SPPROF_TRACE");
+    if (!file_name || !*file_name) file_name = "spprof.sptrace";
+    file = fopen(file_name, "wb");
+    if (!file) fail_to_write();
+    number_of(&functions, function);
+    state = RECORDING;
+    blocks = 0;
+}
+
+static void write_names(const struct names *names) {
+    for (uint32_t i = 0; i < names->count; i++) {
+        size_t length = strlen(names->at[i]);
+        putc((int)(length >> 8), file);
+        putc((int)(length & 0xff), file);
+        fwrite(names->at[i], 1, length, file);
+    }
+}
+
+static void write_trace(void) {
+    unsigned char head[HEAD_BYTES] = "SPTRACE1"; /* the root's function is number 0 */
+    put_word(head + 8, functions.count);
+    put_word(head + 12, sites.count);
+    put_word(head + 20, (uint32_t)events);
+    fwrite(head, 1, HEAD_BYTES, file);
+    write_names(&functions);
+    write_names(&sites);
+    fwrite(records, RECORD_BYTES, events, file);
+    int has_failed = ferror(file);
+    if (fclose(file) != 0 || has_failed) fail_to_write();
+}
+
+void rec_finish(void) {
+    if (state != RECORDING) fail(WRONG_USE, "REC_FINISH is reached without REC_START", "");
+    if (depth > 0) fail(WRONG_USE, "REC_FINISH stands within a spawn or call", "");
+    add_strand();
+    state = AFTER;
+    if (total == 0) fail(WRONG_USE, "nothing was counted: compile the program with -fsanitize-coverage=trace-pc", "");
+    write_trace();
+    free(records);
+}
