@@ -206,6 +206,27 @@ head -c 120 "$small" > "$folder/part"
 expect 'a part of a record' 1 '' "bad event 5: truncated$lf" "$folder/part" check
 expect 'figures of a part of a record' 1 '' "bad event 5: truncated$lf" "$folder/part" figures
 expect 'figures of no bytes' 1 '' "bad header: short$lf" /dev/null figures
+# The small trace ended early, after each number of bytes.
+for ((length = 0; length < 148; length++)); do
+    head -c $length "$small" > "$folder/begun"
+    told='bad header: short'
+    [ $length -lt 36 ] || told="bad event $(((length - 36) / 16)): truncated"
+    for command in check figures 'profile --parts 7 --workers 2'; do
+        expect "$command of the first $length bytes" 1 '' "$told$lf" "$folder/begun" $command
+    done
+done
+# Each of its bytes with each other value, and a recorded trace damaged by chance: the checker, the profiler on one thread
+# and the one by workers say the same. How many of the former are what was computed by another program.
+damage_tells() { # NAME LINE INPUT WORDS..: the printer tells so of the damaged trace
+    local name=$1 line=$2 input=$3
+    shift 3
+    "$printer" damage "$@" < "$input" > "$folder/out" 2> "$folder/err"
+    status=$?
+    judge "damage: $name" 0 "$line$lf" ''
+}
+damage_tells 'each byte' '7842 headers refused, 21170 with a bad event, 8728 well-formed, 0 of which not all say the same' "$small"
+damage_tells 'by chance' '* headers refused, * with a bad event, * well-formed, 0 of which not all say the same' \
+    "$top/examples/nqueens.sptrace" 1000 1
 { cat "$small" && printf '\0'; } > "$folder/more"
 expect 'one byte too many' 1 '' "bad header: trailing$lf" "$folder/more" check
 # A header that claims 2^28 events and has none: answered at once, in little memory.

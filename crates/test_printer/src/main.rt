@@ -1,11 +1,13 @@
 //! A program for tests: prints what the library says of the trace or traces on standard input, where no command of
 //! `spprof` does. Its words tell what: `text`, the trace as text; `marks PARTS WORKERS`, which events are on its path, as
 //! so many workers mark them in so many even parts; `orders PARTS`, how long its parts take in three orders; `turns PARTS`,
-//! how long its profile takes on one thread and, by turns with that, in so many parts with one worker; `reference`,
-//! what the reference profiler answers for each of many traces, held against the profiler on one thread and against
-//! workers, with `reference PARTS` in so many parts too.
+//! how long its profile takes on one thread and, by turns with that, in so many parts with one worker; `damage`, whether
+//! all say the same of it where one byte has another value, or with `damage TIMES SEED` of so many copies that are damaged
+//! by chance; `reference`, what the reference profiler answers for each of many traces, held against the profiler on one
+//! thread and against workers, with `reference PARTS` in so many parts too.
 #![tactic(auto)]
 
+mod damage;
 mod marks;
 mod orders;
 mod reference;
@@ -26,6 +28,8 @@ enum Task {
     Marks { parts: Parts, workers: Workers },
     Orders(Parts),
     Turns(Parts),
+    DamageEach,
+    DamageByChance { times: u32, seed: u32 },
     Reference(Option<u32>),
 }
 
@@ -44,6 +48,13 @@ fn asked(words: &[String]) -> Option<Task> {
         }),
         "orders" => Some(Task::Orders(Parts::new(number(words, 2)?)?)),
         "turns" => Some(Task::Turns(Parts::new(number(words, 2)?)?)),
+        "damage" => match words.get(2) {
+            None => Some(Task::DamageEach),
+            Some(_) => Some(Task::DamageByChance {
+                times: number(words, 2)?,
+                seed: number(words, 3)?,
+            }),
+        },
         "reference" => Some(Task::Reference(number(words, 2))),
         _ => None,
     }
@@ -69,6 +80,10 @@ fn main(rt: HostRuntime) -> io::Result<ExitCode> {
         )?,
         Task::Orders(parts) => orders::print(&rt, alloc, bytes.as_slice(), parts)?,
         Task::Turns(parts) => turns::print(&rt, alloc, bytes.as_slice(), parts)?,
+        Task::DamageEach => damage::print_each(&rt, alloc, bytes)?,
+        Task::DamageByChance { times, seed } => {
+            damage::print_by_chance(&rt, alloc, bytes.as_slice(), times, seed)?
+        }
         Task::Reference(parts) => reference::print(&rt, alloc, bytes.as_slice(), parts)?,
     };
     Ok(if is_printed {
