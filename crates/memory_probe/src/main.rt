@@ -6,6 +6,8 @@ ghost use Rattle.std.specs.Prelude.{◌≡◌};
 
 mod book;
 mod crew;
+mod parts;
+mod tables;
 
 use crew::Task;
 use spp_dag::Figures;
@@ -21,6 +23,8 @@ use spp_text::{PrintFault, TextFault, TextWhy, parse_text, print_text};
 use std::alloc::{AllocError, Global};
 use std::hash::{BuildHasherDefault, FoldHasher};
 use std::io;
+use std::sync::Wait;
+use std::thread::Threads;
 
 /// A trace with two events, the functions `main` and `f`, and the sites `A` and `B`.
 const TRACE: &[u8] = b"SPTRACE1\x00\x00\x00\x02\x00\x00\x00\x02\x00\x00\x00\x00\x00\x00\x00\x02\
@@ -264,42 +268,65 @@ fn of_reading(answer: Result<Vec<u8>, ReadFault>) -> Answer {
     }
 }
 
+/// Prints what a call answered.
+fn print(rt: &impl Print, call: &str, answer: Answer) -> io::Result<()> {
+    println!(rt; "{call}: {answer:?}")
+}
+
+/// Those over the bytes and the text of a trace, and over a source.
+fn print_traces(rt: &impl Print, alloc: Global) -> io::Result<()> {
+    print(rt, "open_trace", opened(alloc))?;
+    print(rt, "print_text", first(printed(alloc)))?;
+    print(rt, "parse_text", parsed(alloc))?;
+    print(rt, "parse_text, a fault", misparsed(alloc))?;
+    print(rt, "profile_serial", first(profiled(alloc)))?;
+    print(rt, "the reference's profile", first(referred(alloc)))?;
+    let all = read_all(alloc, &mut InSource::new(TRACE));
+    print(rt, "read_all", of_reading(all))?;
+    let within = read_within(alloc, &mut InSource::new(TRACE), 100, 2);
+    print(rt, "read_within", of_reading(within))
+}
+
+/// Those of tables, and of the texts that they are told in.
+fn print_tables(rt: &impl Print, alloc: Global) -> io::Result<()> {
+    print(rt, "Table::add", tables::added(alloc))?;
+    print(rt, "Table::merged", or_memory(tables::merged(alloc)))?;
+    print(rt, "Table::absorb", or_memory(tables::absorbed(alloc)))?;
+    print(rt, "Share::merge", or_memory(tables::shared(alloc)))?;
+    print(rt, "csv_text", first(summed(alloc)))?;
+    print(rt, "plain_text", first(reported(alloc)))?;
+    print(rt, "compare_text", first(compared(alloc)))?;
+    print(rt, "figures_text", told(alloc))
+}
+
+/// Those over parts of a trace.
+fn print_parts<R: Print + Threads + Wait + Sync>(rt: &R, alloc: Global) -> io::Result<()> {
+    for (call, cutting, task) in parts::CALLS {
+        print(rt, call, parts::asked(rt, alloc, cutting, task))?;
+    }
+    Ok(())
+}
+
+/// Those of a book, of a desk and of a crew.
+fn print_crews<R: Print + Threads + Wait + Sync>(rt: &R, alloc: Global) -> io::Result<()> {
+    print(rt, "a book", or_memory(book::filled(alloc)))?;
+    print(rt, "steps on a book", or_memory(book::stepped(alloc)))?;
+    print(rt, "a desk", or_memory(book::shared(rt, alloc)))?;
+    let figures = crew::asked(rt, alloc, Task::Figures);
+    print(rt, "figures by workers", figures)?;
+    let profile = crew::asked(rt, alloc, Task::Profile);
+    print(rt, "profile by workers", profile)?;
+    let marks = crew::asked(rt, alloc, Task::Marks);
+    print(rt, "marks by workers", marks)
+}
+
 fn main(rt: HostRuntime) -> io::Result<()> {
     let alloc = rt.alloc();
     for _ in 0..2 {
-        println!(rt; "open_trace: {:?}", opened(alloc))?;
-        println!(rt; "print_text: {:?}", first(printed(alloc)))?;
-        println!(rt; "parse_text: {:?}", parsed(alloc))?;
-        println!(rt; "parse_text, a fault: {:?}", misparsed(alloc))?;
-        println!(rt; "profile_serial: {:?}", first(profiled(alloc)))?;
-        println!(rt; "csv_text: {:?}", first(summed(alloc)))?;
-        println!(rt; "plain_text: {:?}", first(reported(alloc)))?;
-        println!(rt; "compare_text: {:?}", first(compared(alloc)))?;
-        println!(rt; "figures_text: {:?}", told(alloc))?;
-        println!(rt; "the reference's profile: {:?}", first(referred(alloc)))?;
-        println!(rt;
-            "read_all: {:?}",
-            of_reading(read_all(alloc, &mut InSource::new(TRACE)))
-        )?;
-        println!(rt;
-            "read_within: {:?}",
-            of_reading(read_within(alloc, &mut InSource::new(TRACE), 100, 2))
-        )?;
-        println!(rt; "a book: {:?}", or_memory(book::filled(alloc)))?;
-        println!(rt; "steps on a book: {:?}", or_memory(book::stepped(alloc)))?;
-        println!(rt; "a desk: {:?}", or_memory(book::shared(&rt, alloc)))?;
-        println!(rt;
-            "figures by workers: {:?}",
-            crew::asked(&rt, alloc, Task::Figures)
-        )?;
-        println!(rt;
-            "profile by workers: {:?}",
-            crew::asked(&rt, alloc, Task::Profile)
-        )?;
-        println!(rt;
-            "marks by workers: {:?}",
-            crew::asked(&rt, alloc, Task::Marks)
-        )?;
+        print_traces(&rt, alloc)?;
+        print_tables(&rt, alloc)?;
+        print_parts(&rt, alloc)?;
+        print_crews(&rt, alloc)?;
     }
     Ok(())
 }
