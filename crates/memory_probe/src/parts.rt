@@ -1,15 +1,23 @@
 //! The calls that cut a trace, and the three jobs of its parts: each of them done, joined and copied.
 
+ghost use Rattle.std.specs.Prelude.{List};
+ghost use Rattle.spp_event.specs.declared.records.Event.{Event as EventValue};
+ghost use Rattle.spp_frame.specs.Nesting.{AreEvents};
+ghost use Rattle.spp_jobs.specs.Choices.{AreChoicesOf};
+ghost use Rattle.spp_jobs.specs.Tables.{IsRun};
+ghost use Rattle.spp_stack.specs.Parts.{AreEntriesOf};
+
 use super::{Answer, trace_in};
 use spp_book::{Job, JoinRefused};
 use spp_crew::{OpenGate, survey, tabled};
 use spp_cut::{Cut, CutFault, Parts, cut_at, cut_even};
-use spp_dag::Figures;
+use spp_dag::{Choices, Figures};
 use spp_event::{Event, trace_of};
 use spp_frame::ProfileFault;
-use spp_jobs::{Survey, SurveyJob, TableJob, Tabled, entries_of};
+use spp_jobs::{PathJob, Pathed, Survey, SurveyJob, TableJob, Tabled, entries_of};
 use spp_maxplus::Burdens;
 use spp_path::{Under, settle};
+use spp_stack::Entries;
 use std::alloc::{AllocError, Global};
 use std::sync::Wait;
 use std::thread::Threads;
@@ -58,15 +66,18 @@ pub enum Task {
     Tables,
     /// Both paths, settled.
     Paths,
+    /// Their shares in the tables of both paths, and a copy of these.
+    PathTables,
 }
 
 /// The calls, by name.
-pub const CALLS: [(&str, Cutting, Task); 5] = [
+pub const CALLS: [(&str, Cutting, Task); 6] = [
     ("cut_even", Cutting::Even, Task::Parts),
     ("cut_at", Cutting::At, Task::Parts),
     ("summaries of parts", Cutting::At, Task::Summaries),
     ("tables of parts", Cutting::At, Task::Tables),
     ("settled paths", Cutting::At, Task::Paths),
+    ("path tables of parts", Cutting::At, Task::PathTables),
 ];
 
 /// Two contents that were joined.
@@ -189,6 +200,50 @@ fn settled<R: Threads + Wait + Sync>(
     Ok(if enters { Answer::Good } else { Answer::Other })
 }
 
+/// Whether this is told of both paths, each of which enters the child: a site has rows.
+fn is_pathed(told: &Pathed) -> bool {
+    told.path.row_count() > 0 && told.burdened_path.row_count() > 0
+}
+
+/// What is answered about the rows on both paths, where these are the choices of the parts.
+fn pathed(
+    alloc: Global,
+    cut: &Cut<'_, '_>,
+    stacks: &Entries,
+    choices: &[Choices],
+    burdens: Burdens,
+) -> Result<Answer, AllocError>
+    requires run { IsRun cut.now }
+    requires entries { AreEntriesOf cut.now burdens stacks.now }
+    requires choices { (es : List EventValue) → AreEvents cut.now.trace.records es → AreChoicesOf es burdens cut.now.parts choices.now }
+{
+    // For what they state.
+    let _parts = cut.parts();
+    let path = settle(alloc, stacks, choices, Under::Zero)?;
+    let burdened = settle(alloc, stacks, choices, Under::Burdens)?;
+    let job = PathJob::new(cut, stacks, burdens, &path, &burdened);
+    Ok(match joined_and_copied(alloc, &job)? {
+        Some((joined, copy)) if is_pathed(&joined.content) && is_pathed(&copy) => {
+            of_joined(&joined)
+        }
+        _ => Answer::Other,
+    })
+}
+
+fn counted_on_paths<R: Threads + Wait + Sync>(
+    rt: &R,
+    alloc: Global,
+    cut: &Cut<'_, '_>,
+) -> Result<Answer, ProfileFault> {
+    // For what they state.
+    let _parts = cut.parts();
+    let found = survey(rt, alloc, cut, 1, THREE, &OpenGate)?;
+    let stacks = entries_of(alloc, cut, &found.summaries)?;
+    let Tabled { choices, .. } = tabled(rt, alloc, cut, &stacks, 1, THREE, &OpenGate)?;
+    let choices = choices.into_vec();
+    Ok(pathed(alloc, cut, &stacks, &choices, THREE)?)
+}
+
 fn answer_of<R: Threads + Wait + Sync>(
     rt: &R,
     alloc: Global,
@@ -203,6 +258,7 @@ fn answer_of<R: Threads + Wait + Sync>(
         Task::Summaries => summarised(alloc, cut).map_err(ProfileFault::from),
         Task::Tables => counted(rt, alloc, cut),
         Task::Paths => settled(rt, alloc, cut),
+        Task::PathTables => counted_on_paths(rt, alloc, cut),
     };
     told.unwrap_or_else(of_fault)
 }
