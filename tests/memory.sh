@@ -131,13 +131,26 @@ printf 'func f\n\377' > "$folder/bytes"
 each_refused 'encode, bytes that are no text' 1 0 '' 'bad text line 2: word' "$folder/bytes" "$spprof" encode
 # The first run's bytes are let go before the second is read: the peak is that of the larger run, and not of both.
 awk 'BEGIN { print "func f"; for (n = 0; n < 4000000; n++) print "strand", n % 7 }' | "$spprof" encode > "$folder/long"
-peak_of() { # WORDS..: the program's peak memory in KiB
-    python3 - "$spprof" "$@" <<'PEAK'
-import os, resource, subprocess, sys
+peak_of() { # WORDS..: the peak memory in KiB of the program, which reads standard input
+    python3 -c 'import resource, subprocess, sys
 subprocess.run(sys.argv[1:], stdout=subprocess.DEVNULL, check=True)
-print(resource.getrusage(resource.RUSAGE_CHILDREN).ru_maxrss)
-PEAK
+print(resource.getrusage(resource.RUSAGE_CHILDREN).ru_maxrss)' "$spprof" "$@"
 }
+# An input takes at most 1.3 times its size, by name, where its length is known, and from a pipe. So much is used at most,
+# and where no more can be had, but for 10 MB that the program itself takes, nothing is refused.
+size=$(($(stat -c %s "$folder/long") / 1024))
+bound=$((size * 13 / 10))
+for words in check "check $folder/long"; do
+    peak=$(cat "$folder/long" | peak_of $words)
+    cat "$folder/long" | (ulimit -v $((bound + 10000)) && exec "$spprof" $words > "$folder/out" 2> "$folder/err")
+    status=$?
+    if [ "$peak" -lt "$bound" ] && [ $status -eq 0 ]; then
+        echo "memory: ${words%% *} of $size KiB takes $peak KiB, $([ "$words" = check ] && echo 'from a pipe' || echo 'by name')"
+        passed=$((passed + 1))
+    else
+        fails "$words of $size KiB takes $peak KiB, and ends with status $status where $bound KiB and little more can be had"
+    fi
+done
 one=$(peak_of profile "$folder/long")
 both=$(peak_of compare "$folder/long" "$folder/long")
 if [ "$both" -lt $((one + 20000)) ]; then
