@@ -130,14 +130,15 @@ each_refused 'encode, a bad text' 1 0 '' 'bad text line 3: count' "$folder/text"
 printf 'func f\n\377' > "$folder/bytes"
 each_refused 'encode, bytes that are no text' 1 0 '' 'bad text line 2: word' "$folder/bytes" "$spprof" encode
 # The first run's bytes are let go before the second is read: the peak is that of the larger run, and not of both.
-awk 'BEGIN { print "func f"; for (n = 0; n < 4000000; n++) print "strand", n % 7 }' | "$spprof" encode > "$folder/long"
+awk 'BEGIN { print "func f"; for (n = 0; n < 4300000; n++) print "strand", n % 7 }' | "$spprof" encode > "$folder/long"
 peak_of() { # WORDS..: the peak memory in KiB of the program, which reads standard input
     python3 -c 'import resource, subprocess, sys
 subprocess.run(sys.argv[1:], stdout=subprocess.DEVNULL, check=True)
 print(resource.getrusage(resource.RUSAGE_CHILDREN).ru_maxrss)' "$spprof" "$@"
 }
 # An input takes at most 1.3 times its size, by name, where its length is known, and from a pipe. So much is used at most,
-# and where no more can be had, but for 10 MB that the program itself takes, nothing is refused.
+# and where no more can be had, but for 10 MB that the program itself takes, nothing is refused. The size is a little more
+# than 2^26 bytes: room that doubles would be nearly twice that.
 size=$(($(stat -c %s "$folder/long") / 1024))
 bound=$((size * 13 / 10))
 for words in check "check $folder/long"; do
