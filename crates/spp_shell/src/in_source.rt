@@ -25,8 +25,8 @@ impl<R: Read> InSource<R> {
         InSource::with_hint(reader, None)
     }
 
-    /// A source over the reader that has not failed yet. The hint says how many bytes are likely to come, as the length of
-    /// a file does.
+    /// A source over the reader that has not failed yet. The hint says how many bytes are likely to come, as the
+    /// length of a file does.
     pub fn with_hint(reader: R, hint: Option<u64>) -> InSource<R>
         ensures reader { reader_of result ≡ reader }
         ensures failures { failures_of result ≡ 0 }

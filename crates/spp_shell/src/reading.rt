@@ -29,8 +29,8 @@ pub const INPUT_LIMIT: u64 = 1 << 33;
 /// The bytes that are read at a time, where so many come: enough that the calls of the system cost little.
 const PIECE: usize = 65536;
 
-/// Makes room for the bytes that are likely to come, but for no more than `most`, and for one piece more, so that the end is
-/// seen. Where memory for it is refused, none is made.
+/// Makes room for the bytes that are likely to come, but for no more than `most`, and for one piece more, so that the
+/// end is seen. Where memory for it is refused, none is made.
 fn make_first_room(bytes: &mut Vec<u8>, hint: Option<u64>, most: u64)
     ensures { bytes.new.items ≡ bytes.old.items }
 {
@@ -43,8 +43,8 @@ fn make_first_room(bytes: &mut Vec<u8>, hint: Option<u64>, most: u64)
     let _refused = bytes.reserve_exact(likely.saturating_add(PIECE));
 }
 
-/// Sees to it that there is room behind the first `filled` bytes. Where there is none it grows by a quarter, but by one piece
-/// at least.
+/// Sees to it that there is room behind the first `filled` bytes. Where there is none it grows by a quarter, but by
+/// one piece at least.
 fn make_room(bytes: &mut Vec<u8>, filled: usize) -> Result<(), AllocError>
     requires { filled ≤ length bytes.old.items }
     ensures room { OnOk result (filled < length bytes.new.items) }
@@ -79,10 +79,10 @@ fn pull_behind<S: Source>(
 /// All that the source gives up to its end, in at most `turns` reads and at most `most` bytes. An interrupted read
 /// is one of them.
 ///
-/// The time is linear in what is read. Room is made once, by the source's hint; without one, and past it, by a quarter of
-/// what was read: so there is at most a quarter and 65,536 bytes more than was read, and at most 65,536 bytes of that are
-/// written to. A hint changes no answer: none takes room for more than `most` bytes and 65,536, and where memory for that is
-/// refused, room is made as without one.
+/// The time is linear in what is read. Room is made once where the source's hint is right; without a hint, and past
+/// one, it grows by a quarter of what was read, and by 65,536 bytes at least. Of what is beyond the bytes read at
+/// most 65,536 are written to. A hint changes no answer: it makes room for at most `most` bytes and 65,536 more, and
+/// where memory for that is refused, room is made as without one.
 ///
 /// # Errors
 ///

@@ -20,8 +20,8 @@ pub fn refuse_input<E: Sink>(place: Place, err: &mut E) -> u8
     tell_trouble(err, Trouble::CannotOpen(place))
 }
 
-/// Tells that an input is longer than [`INPUT_LIMIT`](crate::INPUT_LIMIT), where that is known before it is read. Gives the
-/// exit status.
+/// Tells that an input is longer than [`INPUT_LIMIT`](crate::INPUT_LIMIT), where that is known before it is read.
+/// Gives the exit status.
 pub fn refuse_long_input<E: Sink>(place: Place, err: &mut E) -> u8
     ensures status { result ≡ DEVICE }
     ensures told { Told (taking_of E.took E.finished E.failures err.old err.new) (trouble_line (TooLong place)) }

@@ -336,8 +336,8 @@ fn a_reader_that_is_interrupted_is_read_on(rt: HostRuntime) -> Result<(), Fail> 
     Ok(())
 }
 
-/// What a source of the eight bytes of `TEXT` may say of their number: nothing, too little, the truth, too much, and more
-/// than there is memory for.
+/// What a source of the eight bytes of `TEXT` may say of their number: nothing, too little, the truth, too much, and
+/// more than there is memory for.
 const HINTS: &[Option<u64>] = &[
     None,
     Some(0),
