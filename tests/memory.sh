@@ -35,7 +35,8 @@ run() { # REQUEST START INPUT PROGRAM WORDS..
     timeout 60 env LD_PRELOAD="$folder/refuse.so" REFUSE_COUNT="$folder/count" REFUSE_AT="$request" REFUSE_START="$start" \
         "$@" < "$input" > "$folder/out" 2> "$folder/err"
     status=$?
-    read -r requests starts < <(od -An -t d8 "$folder/count" 2> "$folder/uncounted") || requests=0 starts=0
+    od -An -t d8 "$folder/count" > "$folder/counts" 2> "$folder/uncounted"
+    read -r requests starts < "$folder/counts" || requests=0 starts=0
 }
 
 # Whether the last run answered what is answered when nothing is refused.
