@@ -249,6 +249,34 @@ expect 'a bad file by name' 1 '' "bad event 5: truncated$lf" /dev/null check "$f
 expect 'a file that is not there' 3 '' "cannot open input$lf" "$small" check "$folder/nothing"
 expect 'a folder by name' 3 '' "cannot read input$lf" "$small" check "$folder"
 
+# Longer than an input may be: a named file is refused at once, before it is read, and so is each of two. These files take
+# no place on the disk.
+too_long="input too long$lf"
+truncate -s 9G "$folder/long" && truncate -s 8589934593 "$folder/longer" && truncate -s 8589934592 "$folder/longest"
+in_little() { # SECONDS NAME STATUS OUT ERR INPUT WORDS..: within so many seconds and 100 MB of memory
+    local seconds=$1 name=$2 wanted=$3 out=$4 err=$5 input=$6
+    shift 6
+    (ulimit -v 100000 && exec timeout "$seconds" "$spprof" "$@" < "$input" > "$folder/out" 2> "$folder/err")
+    status=$?
+    judge "$name" "$wanted" "$out" "$err"
+}
+for command in check figures profile encode; do
+    in_little 1 "$command of a file that is too long" 3 '' "$too_long" /dev/null $command "$folder/long"
+done
+in_little 1 'one byte more than an input may have' 3 '' "$too_long" /dev/null check "$folder/longer"
+in_little 1 'compare: a first file that is too long' 3 '' "before: $too_long" /dev/null compare "$folder/long" "$small"
+in_little 1 'compare: a second file that is too long' 3 '' "after: $too_long" /dev/null compare "$small" "$folder/long"
+in_little 1 'compare: two files that are too long' 3 '' "before: $too_long" /dev/null compare "$folder/long" "$folder/longer"
+in_little 1 'compare: a file that is too long and none' 3 '' "before: $too_long" /dev/null compare "$folder/long" "$folder/no"
+in_little 1 'compare: a bad file and one that is too long' 3 '' "after: $too_long" /dev/null compare "$top/README.md" "$folder/long"
+# A file of the greatest length is read, and so is an input that tells no length: here up to where memory ends.
+in_little 9 'a file as long as an input may be' 4 '' "out of memory$lf" /dev/null check "$folder/longest"
+in_little 9 'a device without an end by name' 4 '' "out of memory$lf" /dev/null check /dev/zero
+in_little 9 'an input without an end' 4 '' "out of memory$lf" /dev/zero check
+in_little 9 'an input from a file that is too long' 4 '' "out of memory$lf" "$folder/long" check
+# A file whose length the system tells as 0, though it has bytes.
+expect 'a file that tells no length' 1 '' "bad header: magic$lf" /dev/null check /proc/version
+
 expect 'a folder for input' 3 '' "cannot read input$lf" "$folder" check
 "$spprof" check <&- > "$folder/out" 2> "$folder/err"
 status=$?

@@ -1,5 +1,5 @@
 //! A source over one of std's readers.
-ghost use Rattle.std.specs.Prelude.{◌≡◌};
+ghost use Rattle.std.specs.Prelude.{◌≡◌, None};
 ghost use Rattle.spp_shell.specs.Reading.{KnownAnswer};
 
 use crate::source::{Source, SourceFault};
@@ -10,24 +10,39 @@ use std::io::{ErrorKind, Read};
 pub struct InSource<R: Read> {
     reader: R,
     failures: u64,
+    hint: Option<u64>,
 }
 
 impl<R: Read> InSource<R> {
-    ghost use Rattle.spp_shell.specs.InSources.{reader_of, failures_of};
+    ghost use Rattle.spp_shell.specs.InSources.{reader_of, failures_of, hint_of};
 
-    /// A source over the reader that has not failed yet.
+    /// A source over the reader that has not failed yet, and can't tell how many bytes will come.
     pub fn new(reader: R) -> InSource<R>
         ensures reader { reader_of result ≡ reader }
         ensures failures { failures_of result ≡ 0 }
+        ensures hint { hint_of result ≡ None }
+    {
+        InSource::with_hint(reader, None)
+    }
+
+    /// A source over the reader that has not failed yet. The hint says how many bytes are likely to come, as the
+    /// length of a file does.
+    pub fn with_hint(reader: R, hint: Option<u64>) -> InSource<R>
+        ensures reader { reader_of result ≡ reader }
+        ensures failures { failures_of result ≡ 0 }
+        ensures hint { hint_of result ≡ hint }
     {
         InSource {
             reader,
             failures: 0,
+            hint,
         }
     }
 }
 
 impl<R: Read> Source for InSource<R> {
+    ghost use Rattle.spp_shell.specs.InSources.{hint_of};
+
     ghost answered = { λ a o b. KnownAnswer (R.remaining a.reader) o (R.remaining b.reader) };
 
     ghost failures = { λ s. s.failures };
@@ -45,5 +60,12 @@ impl<R: Read> Source for InSource<R> {
 
     fn failures(&self) -> u64 {
         self.failures
+    }
+
+    /// The hint that the source was made with.
+    fn hint(&self) -> Option<u64>
+        ensures { result ≡ hint_of self.now }
+    {
+        self.hint
     }
 }

@@ -21,7 +21,7 @@ mod writing;
 
 pub use in_source::InSource;
 pub use place::Place;
-pub use reading::{ReadFault, read_all, read_within};
+pub use reading::{INPUT_LIMIT, ReadFault, read_all, read_within};
 pub use running::run;
 pub use source::{Source, SourceFault};
-pub use usage::{refuse_input, show_usage};
+pub use usage::{refuse_input, refuse_long_input, show_usage};

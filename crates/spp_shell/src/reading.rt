@@ -23,16 +23,37 @@ pub enum ReadFault {
     Memory,
 }
 
-/// The bytes by which the room for what is read grows: enough that the calls of the system cost little.
+/// The most bytes that an input of the program may have, and the most reads that may be made of it: 2^33.
+pub const INPUT_LIMIT: u64 = 1 << 33;
+
+/// The bytes that are read at a time, where so many come: enough that the calls of the system cost little.
 const PIECE: usize = 65536;
 
-/// Sees to it that there is room behind the first `filled` bytes.
+/// Makes room for the bytes that are likely to come, but for no more than `most`, and for one piece more, so that the
+/// end is seen. Where memory for it is refused, none is made.
+fn make_first_room(bytes: &mut Vec<u8>, hint: Option<u64>, most: u64)
+    ensures { bytes.new.items ≡ bytes.old.items }
+{
+    let Some(hint) = hint else {
+        return;
+    };
+    let Ok(likely) = usize::try_from(hint.min(most)) else {
+        return;
+    };
+    let _refused = bytes.reserve_exact(likely.saturating_add(PIECE));
+}
+
+/// Sees to it that there is room behind the first `filled` bytes. Where there is none it grows by a quarter, but by
+/// one piece at least.
 fn make_room(bytes: &mut Vec<u8>, filled: usize) -> Result<(), AllocError>
     requires { filled ≤ length bytes.old.items }
     ensures room { OnOk result (filled < length bytes.new.items) }
     ensures kept { OnOk result (take filled bytes.new.items ≡ take filled bytes.old.items) }
 {
     if filled == bytes.len() {
+        if bytes.capacity() < filled + PIECE {
+            bytes.reserve_exact(PIECE.max(filled / 4))?;
+        }
         bytes.resize(filled + PIECE, 0)?;
     }
     Ok(())
@@ -58,7 +79,10 @@ fn pull_behind<S: Source>(
 /// All that the source gives up to its end, in at most `turns` reads and at most `most` bytes. An interrupted read
 /// is one of them.
 ///
-/// The time is linear in what is read, and so is the memory.
+/// The time is linear in what is read. Room is made once where the source's hint is right; without a hint, and past
+/// one, it grows by a quarter of what was read, and by 65,536 bytes at least. Of what is beyond the bytes read at
+/// most 65,536 are written to. A hint changes no answer: it makes room for at most `most` bytes and 65,536 more, and
+/// where memory for that is refused, room is made as without one.
 ///
 /// # Errors
 ///
@@ -76,6 +100,7 @@ pub fn read_within<S: Source>(
     ensures refused { IfErr result (λ fault. ReadRefused S.answered S.failures most turns source.old fault source.new) }
 {
     let mut bytes: Vec<u8> = Vec::new(alloc);
+    make_first_room(&mut bytes, source.hint(), most);
     let mut filled = 0;
     for _ in 0..turns {
         let Ok(()) = make_room(&mut bytes, filled) else {
@@ -99,8 +124,8 @@ pub fn read_within<S: Source>(
     Err(ReadFault::TooLong)
 }
 
-/// All that the source gives up to its end, in at most 2^33 reads and at most 2^33 bytes: [`read_within`] at the
-/// limits of an input of the program.
+/// All that the source gives up to its end, in at most 2^33 reads and at most 2^33 bytes: [`read_within`] at
+/// [`INPUT_LIMIT`].
 ///
 /// # Errors
 ///
@@ -111,5 +136,5 @@ pub fn read_all<S: Source>(alloc: Global, source: &mut S) -> Result<Vec<u8>, Rea
     ensures same { OnOk result (S.failures source.new ≡ S.failures source.old) }
     ensures refused { IfErr result (λ fault. ReadRefused S.answered S.failures (2 ^ 33) (2 ^ 33) source.old fault source.new) }
 {
-    read_within(alloc, source, 1 << 33, 1 << 33)
+    read_within(alloc, source, INPUT_LIMIT, INPUT_LIMIT)
 }

@@ -33,4 +33,10 @@ pub trait Source {
     /// The number of failures so far; it stays at its greatest value.
     fn failures(&self) -> u64
         ensures { result ≡ failures self.now };
+
+    /// How many bytes are likely to come, where the source can tell before the first is read. It is advice, for making
+    /// room: fewer bytes may come, or more.
+    fn hint(&self) -> Option<u64> {
+        None
+    }
 }

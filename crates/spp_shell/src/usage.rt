@@ -3,7 +3,7 @@ ghost use Rattle.std.specs.Prelude.{◌≡◌};
 ghost use Rattle.spp_shell.specs.Devices.{taking_of, Told};
 ghost use Rattle.spp_shell.specs.Troubles.{trouble_line};
 ghost use Rattle.spp_shell.specs.Usage.{UsageEnds};
-ghost use Rattle.spp_shell.specs.declared.trouble.Trouble.TheVariants.{CannotOpen};
+ghost use Rattle.spp_shell.specs.declared.trouble.Trouble.TheVariants.{CannotOpen, TooLong};
 
 use crate::place::Place;
 use crate::status::{DEVICE, GOOD};
@@ -18,6 +18,15 @@ pub fn refuse_input<E: Sink>(place: Place, err: &mut E) -> u8
     ensures told { Told (taking_of E.took E.finished E.failures err.old err.new) (trouble_line (CannotOpen place)) }
 {
     tell_trouble(err, Trouble::CannotOpen(place))
+}
+
+/// Tells that an input is longer than [`INPUT_LIMIT`](crate::INPUT_LIMIT), where that is known before it is read.
+/// Gives the exit status.
+pub fn refuse_long_input<E: Sink>(place: Place, err: &mut E) -> u8
+    ensures status { result ≡ DEVICE }
+    ensures told { Told (taking_of E.took E.finished E.failures err.old err.new) (trouble_line (TooLong place)) }
+{
+    tell_trouble(err, Trouble::TooLong(place))
 }
 
 /// Shows help on `out`, or the text of a usage fault on `err`. Gives the exit status.

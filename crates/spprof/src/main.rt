@@ -5,8 +5,11 @@
 use spp_command_line::read_request;
 use spp_report::{OutSink, Sink};
 use spp_request::{Command, Request, UsageFault};
-use spp_shell::{InSource, Place, refuse_input, run, show_usage, status};
+use spp_shell::{
+    INPUT_LIMIT, InSource, Place, refuse_input, refuse_long_input, run, show_usage, status,
+};
 use std::alloc::Global;
+use std::fs::OpenFile;
 use std::io::ErrorKind;
 use std::process::ExitCode;
 use std::random::RandomSource;
@@ -36,6 +39,32 @@ fn refuse<O: Sink, E: Sink>(error: &io::Error, place: Place, out: &mut O, err: &
     }
 }
 
+/// How many bytes a file has, where it is a regular one and the system tells.
+fn length_of<F: OpenFile>(file: &F) -> Option<u64> {
+    match file.metadata() {
+        Ok(metadata) if metadata.is_file() => Some(metadata.len()),
+        _ => None,
+    }
+}
+
+/// The input of that name, opened; or how the run ends that can't be answered for it.
+fn open_or_refuse<R: Files, O: Sink, E: Sink>(
+    rt: &R,
+    path: &str,
+    place: Place,
+    out: &mut O,
+    err: &mut E,
+) -> Result<InSource<R::File>, u8> {
+    let file = match fs::open(rt, path) {
+        Ok(file) => file,
+        Err(e) => return Err(refuse(&e, place, out, err)),
+    };
+    match length_of(&file) {
+        Some(len) if len > INPUT_LIMIT => Err(refuse_long_input(place, err)),
+        hint => Ok(InSource::with_hint(file, hint)),
+    }
+}
+
 /// Answers a request over two files, of which both are opened before one is read. A request to compare has two: `clap`
 /// refuses words that name fewer.
 fn answer_both<R, O: Sink, E: Sink>(rt: &R, request: &Request, out: &mut O, err: &mut E) -> u8
@@ -45,13 +74,13 @@ where
     let (Some(before), Some(after)) = (request.files.first(), request.files.get(1)) else {
         return refuse_input(Place::Before, err);
     };
-    let mut first = match fs::open(rt, before.as_str()) {
-        Ok(file) => InSource::new(file),
-        Err(e) => return refuse(&e, Place::Before, out, err),
+    let mut first = match open_or_refuse(rt, before.as_str(), Place::Before, out, err) {
+        Ok(first) => first,
+        Err(ends) => return ends,
     };
-    let mut second = match fs::open(rt, after.as_str()) {
-        Ok(file) => InSource::new(file),
-        Err(e) => return refuse(&e, Place::After, out, err),
+    let mut second = match open_or_refuse(rt, after.as_str(), Place::After, out, err) {
+        Ok(second) => second,
+        Err(ends) => return ends,
     };
     run(rt, rt.alloc(), request, &mut first, &mut second, out, err)
 }
@@ -74,20 +103,17 @@ where
             err,
         );
     };
-    match fs::open(rt, path.as_str()) {
-        Ok(file) => {
-            let mut first = InSource::new(file);
-            run(
-                rt,
-                rt.alloc(),
-                request,
-                &mut first,
-                &mut no_second,
-                out,
-                err,
-            )
-        }
-        Err(e) => refuse(&e, Place::Only, out, err),
+    match open_or_refuse(rt, path.as_str(), Place::Only, out, err) {
+        Ok(mut first) => run(
+            rt,
+            rt.alloc(),
+            request,
+            &mut first,
+            &mut no_second,
+            out,
+            err,
+        ),
+        Err(ends) => ends,
     }
 }
 

@@ -113,6 +113,14 @@ impl Read for Stutter<'_> {
     }
 }
 
+/// A reader of these bytes, as the last one is.
+fn stuttering(bytes: &[u8]) -> Stutter<'_> {
+    Stutter {
+        bytes,
+        is_ready: true,
+    }
+}
+
 /// One of std's readers and writers that fails once, by an error that is no interruption; then it is at its end, or takes
 /// all.
 #[derive(Drop)]
@@ -319,14 +327,94 @@ fn what_fails_without_an_interruption_is_not_tried_again(rt: HostRuntime) {
 
 #[test]
 fn a_reader_that_is_interrupted_is_read_on(rt: HostRuntime) -> Result<(), Fail> {
-    let mut source = InSource::new(Stutter {
-        bytes: TEXT,
-        is_ready: true,
-    });
+    let mut source = InSource::new(stuttering(TEXT));
     let Ok(all) = read_all(rt.alloc(), &mut source) else {
         return Err("read".into());
     };
     assert_eq!(rt; all.as_slice(), TEXT);
     assert_eq!(rt; source.failures(), 0);
     Ok(())
+}
+
+/// What a source of the eight bytes of `TEXT` may say of their number: nothing, too little, the truth, too much, and
+/// more than there is memory for.
+const HINTS: &[Option<u64>] = &[
+    None,
+    Some(0),
+    Some(7),
+    Some(8),
+    Some(9),
+    Some(1_000_000),
+    Some(u64::MAX),
+];
+
+#[test]
+fn a_hint_changes_nothing_of_what_is_read(rt: HostRuntime) -> Result<(), Fail> {
+    for hint in HINTS {
+        let mut source = InSource::with_hint(TEXT, *hint);
+        assert_eq!(rt; source.hint(), *hint);
+        let Ok(all) = read_all(rt.alloc(), &mut source) else {
+            return Err("read".into());
+        };
+        assert_eq!(rt; all.as_slice(), TEXT, "hint {hint:?}");
+        let mut source = InSource::with_hint(stuttering(TEXT), *hint);
+        let Ok(all) = read_all(rt.alloc(), &mut source) else {
+            return Err("read byte by byte".into());
+        };
+        assert_eq!(rt; all.as_slice(), TEXT, "hint {hint:?}");
+    }
+    assert_eq!(rt; InSource::new(TEXT).hint(), None);
+    assert_eq!(rt; dripping(TEXT).hint(), None);
+    Ok(())
+}
+
+#[test]
+fn a_hint_changes_no_bound(rt: HostRuntime) {
+    for hint in HINTS {
+        for (most, wanted) in [
+            (0, Err(ReadFault::TooLong)),
+            (7, Err(ReadFault::TooLong)),
+            (8, Ok(8)),
+            (9, Ok(8)),
+            (u64::MAX, Ok(8)),
+        ] {
+            assert_eq!(rt;
+                read_len(rt.alloc(), &mut InSource::with_hint(TEXT, *hint), most, 100),
+                wanted,
+                "hint {hint:?} most {most}"
+            );
+        }
+    }
+}
+
+/// The room for what is read of so many bytes with this hint, or why not all are read.
+fn room_for(alloc: Global, count: u64, hint: Option<u64>) -> Result<usize, ReadFault> {
+    let mut source = InSource::with_hint(io::repeat(7).take(count), hint);
+    Ok(read_within(alloc, &mut source, 2_000_000, 2_000_000)?.capacity())
+}
+
+#[test]
+fn room_is_made_once_by_the_hint_or_grows_by_a_quarter(rt: HostRuntime) {
+    // What was hinted, and a piece, which is 65,536 bytes.
+    for hint in [1_000_000, 1_000_001, 2_000_000] {
+        assert_eq!(rt;
+            room_for(rt.alloc(), 1_000_000, Some(hint)),
+            Ok(usize::try_from(hint).unwrap_or(0).saturating_add(65536))
+        );
+    }
+    // Never more than is allowed, and a piece; and the piece alone where nothing comes.
+    assert_eq!(rt; room_for(rt.alloc(), 0, Some(u64::MAX)), Ok(2_065_536));
+    assert_eq!(rt; room_for(rt.alloc(), 0, Some(0)), Ok(65536));
+    assert_eq!(rt; room_for(rt.alloc(), 0, None), Ok(65536));
+    // Else at most a quarter and a piece more than was read.
+    for hint in [None, Some(0), Some(100)] {
+        let Ok(room) = room_for(rt.alloc(), 1_000_000, hint) else {
+            panic!(rt; "hint {hint:?}");
+        };
+        assert!(rt; 1_000_000 < room && room < 1_315_536, "{room}");
+    }
+    assert_eq!(rt;
+        room_for(rt.alloc(), 2_000_001, Some(1)),
+        Err(ReadFault::TooLong)
+    );
 }

@@ -4,7 +4,7 @@ use super::commands::{command_ends_with, request_for};
 use super::fakes::{Cup, dripping, empty_cup, failing, unread};
 use spp_report::Sink;
 use spp_request::{Command, Request, UsageFault};
-use spp_shell::{Place, refuse_input, run, show_usage, status};
+use spp_shell::{Place, refuse_input, refuse_long_input, run, show_usage, status};
 use std::alloc::{AllocError, Global};
 use std::random::RandomSource;
 use std::sync::Wait;
@@ -204,6 +204,19 @@ fn an_input_that_cannot_be_opened_is_told(rt: HostRuntime) {
     ] {
         let mut err = empty_cup(rt.alloc(), 100);
         assert_eq!(rt; refuse_input(place, &mut err), status::DEVICE);
+        assert_eq!(rt; err.taken.as_slice(), line.as_bytes());
+    }
+}
+
+#[test]
+fn an_input_that_is_too_long_is_told(rt: HostRuntime) {
+    for (place, line) in [
+        (Place::Only, "input too long\n"),
+        (Place::Before, "before: input too long\n"),
+        (Place::After, "after: input too long\n"),
+    ] {
+        let mut err = empty_cup(rt.alloc(), 100);
+        assert_eq!(rt; refuse_long_input(place, &mut err), status::DEVICE);
         assert_eq!(rt; err.taken.as_slice(), line.as_bytes());
     }
 }
