@@ -57,7 +57,7 @@ def main(spprof):
                 passed += 1
             else:
                 failed += 1
-                print(f"FAILED corpus: {name}, {' '.join(COMMANDS[int(number)])}: status {told[0]}, wanted {status}")
+                print(f"FAILED corpus: {name}, {' '.join(COMMANDS[int(number)])}: status {told[0]}, wanted {status}{'' if told[0] != int(status) else ', but another output'}")
     print(f"{passed} passed, {failed} failed")
     return failed != 0
 

@@ -5,7 +5,7 @@
 # leaves its share to the others.
 # Out of memory spprof ends with status 4, nothing on standard output and the line `out of memory`, and the printer, which
 # has the marks by workers, with status 1 and nothing on standard output. The probe calls the functions that allocate and
-# that commands stand on, those of a book and those of a crew, each twice: one answer at most becomes `Memory`, and no
+# that commands stand on, those of tables, of parts and their jobs, of a book and of a crew, each twice: one answer at most becomes `Memory`, and no
 # other changes.
 # usage: tests/memory.sh SPPROF PROBE TEST_PRINTER
 set -u
@@ -130,19 +130,19 @@ printf 'func f\nsync\nsync 1 2 3 4 5\n' > "$folder/text"
 each_refused 'encode, a bad text' 1 0 '' 'bad text line 3: count' "$folder/text" "$spprof" encode
 printf 'func f\n\377' > "$folder/bytes"
 each_refused 'encode, bytes that are no text' 1 0 '' 'bad text line 2: word' "$folder/bytes" "$spprof" encode
-# The first run's bytes are let go before the second is read: the peak is that of the larger run, and not of both.
+# An input of 69 MB, for the peaks below.
 awk 'BEGIN { print "func f"; for (n = 0; n < 4300000; n++) print "strand", n % 7 }' | "$spprof" encode > "$folder/long"
 peak_of() { # WORDS..: the peak memory in KiB of the program, which reads standard input
     python3 -c 'import resource, subprocess, sys
 subprocess.run(sys.argv[1:], stdout=subprocess.DEVNULL, check=True)
 print(resource.getrusage(resource.RUSAGE_CHILDREN).ru_maxrss)' "$spprof" "$@"
 }
-# An input takes at most 1.3 times its size, by name, where its length is known, and from a pipe. So much is used at most,
-# and where no more can be had, but for 10 MB that the program itself takes, nothing is refused. The size is a little more
-# than 2^26 bytes: room that doubles would be nearly twice that.
+# `check` takes at most 1.3 times the input's size from a pipe, and 1.1 times by name, where its length is known. So much is used
+# at most, and where no more can be had, but for 10 MB that the program itself takes, nothing is refused. The size is a
+# little more than 2^26 bytes: room that doubles would be nearly twice that, and room that isn't made once passes 1.1.
 size=$(($(stat -c %s "$folder/long") / 1024))
-bound=$((size * 13 / 10))
 for words in check "check $folder/long"; do
+    [ "$words" = check ] && bound=$((size * 13 / 10)) || bound=$((size * 11 / 10))
     peak=$(cat "$folder/long" | peak_of $words)
     cat "$folder/long" | (ulimit -v $((bound + 10000)) && exec "$spprof" $words > "$folder/out" 2> "$folder/err")
     status=$?
@@ -153,6 +153,7 @@ for words in check "check $folder/long"; do
         fails "$words of $size KiB takes $peak KiB, and ends with status $status where $bound KiB and little more can be had"
     fi
 done
+# The first run's bytes are let go before the second is read: the peak is that of the larger run, and not of both.
 one=$(peak_of profile "$folder/long")
 both=$(peak_of compare "$folder/long" "$folder/long")
 if [ "$both" -lt $((one + 20000)) ]; then

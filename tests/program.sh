@@ -201,11 +201,7 @@ for parts in 1 16 65536; do
         "work 0${lf}span 0${lf}burdened 0${lf}parallelism -${lf}burdened parallelism -$lf" '' "$folder/empty" figures --parts=$parts
 done
 
-expect 'no bytes' 1 '' "bad header: short$lf" /dev/null check
 head -c 120 "$small" > "$folder/part"
-expect 'a part of a record' 1 '' "bad event 5: truncated$lf" "$folder/part" check
-expect 'figures of a part of a record' 1 '' "bad event 5: truncated$lf" "$folder/part" figures
-expect 'figures of no bytes' 1 '' "bad header: short$lf" /dev/null figures
 # The small trace ended early, after each number of bytes.
 for ((length = 0; length < 148; length++)); do
     head -c $length "$small" > "$folder/begun"
@@ -216,7 +212,7 @@ for ((length = 0; length < 148; length++)); do
     done
 done
 # Each of its bytes with each other value, and a recorded trace damaged by chance: the checker, the profiler on one thread
-# and the one by workers say the same. How many of the former are what was computed by another program.
+# and the one by workers say the same. The counts of the first test were computed by another program.
 damage_tells() { # NAME LINE INPUT WORDS..: the printer tells so of the damaged trace
     local name=$1 line=$2 input=$3
     shift 3
@@ -225,7 +221,7 @@ damage_tells() { # NAME LINE INPUT WORDS..: the printer tells so of the damaged 
     judge "damage: $name" 0 "$line$lf" ''
 }
 damage_tells 'each byte' '7842 headers refused, 21170 with a bad event, 8728 well-formed, 0 of which not all say the same' "$small"
-damage_tells 'by chance' '* headers refused, * with a bad event, * well-formed, 0 of which not all say the same' \
+damage_tells 'by chance' '* headers refused, [1-9]* with a bad event, [1-9]* well-formed, 0 of which not all say the same' \
     "$top/examples/nqueens.sptrace" 1000 1
 { cat "$small" && printf '\0'; } > "$folder/more"
 expect 'one byte too many' 1 '' "bad header: trailing$lf" "$folder/more" check
@@ -249,7 +245,7 @@ expect 'a bad file by name' 1 '' "bad event 5: truncated$lf" /dev/null check "$f
 expect 'a file that is not there' 3 '' "cannot open input$lf" "$small" check "$folder/nothing"
 expect 'a folder by name' 3 '' "cannot read input$lf" "$small" check "$folder"
 
-# Longer than an input may be: a named file is refused at once, before it is read, and so is each of two. These files take
+# Longer than an input may be: a named regular file is refused at once, before it is read, and so is each of two. These files take
 # no place on the disk.
 too_long="input too long$lf"
 truncate -s 9G "$folder/long" && truncate -s 8589934593 "$folder/longer" && truncate -s 8589934592 "$folder/longest"

@@ -45,7 +45,7 @@ def with_counters(kit):
 def main():
     runtimes = glob.glob("/usr/lib/afl/afl-compiler-rt-64.o")
     if not runtimes:
-        sys.exit("tests/fuzz/build.py: AFL++ isn't installed")
+        sys.exit("tests/fuzz/build.py: afl-compiler-rt-64.o isn't where Debian's afl++ has it, in /usr/lib/afl")
     rt = toolchain()
     os.makedirs(OUT, exist_ok=True)
     crate = rt.rtlib.crates_below(f"{TOP}/crates/spprof")[-1]

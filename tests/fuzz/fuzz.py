@@ -1,16 +1,18 @@
 #!/usr/bin/env python3
-"""Feeds the program bytes that are nearly traces or texts, in search of a crash, a hang or a status that there isn't.
+"""Feeds the program bytes that are nearly traces or texts, in search of a crash, a hang or a status that it doesn't have.
 
 usage: tests/fuzz/fuzz.py MINUTES [FOLDER]
 
-With AFL++ (Debian's package afl++) each command runs for its share of the minutes, as tests/fuzz/build.py builds it, and
-what AFL++ keeps is then run with every command as ./spprof builds it. Without AFL++ this script changes the seeds by
-chance itself, for as long. A finding is a run that a signal ends, one that takes over 10 seconds, one with a status
-outside 0 to 4, and one whose commands don't say the same of a trace: of a trace that `check` takes the work that it tells
-is that of `figures` and `profile`, in any parts, and of another all tell the line of fault that `check` tells.
+With AFL++ (Debian's package afl++) each command runs for its share of the minutes, as tests/fuzz/build.py builds it.
+AFL++ looks for crashes and hangs in every run. What it keeps is then run with every command as ./spprof builds it, and
+there the status, and whether the commands agree, are looked at too. Without AFL++ this script changes the seeds by chance
+itself, for as long, and looks at all of that in every run.
 
-The inputs that were kept lie in FOLDER, tests/fuzz/out/found by default. Ends with what was found, and with status 1 where
-that is anything."""
+A finding is a run that a signal ends, that takes over 10 seconds or has a status outside 0 to 4, or commands that disagree.
+They agree where `check`, `figures` (5 parts) and `profile` (3 parts) print the same work or the same line of fault.
+
+The inputs that were kept lie in FOLDER, which mustn't be there yet; by default in tests/fuzz/out/found, which is emptied.
+Ends with what was found, and with status 1 where that is anything."""
 import glob
 import os
 import random
@@ -22,6 +24,7 @@ import time
 HERE = os.path.dirname(os.path.realpath(__file__))
 TOP = os.path.dirname(os.path.dirname(HERE))
 OUT = os.path.join(HERE, "out")
+FOUND = os.path.join(OUT, "found")
 SPPROF = os.path.join(TOP, "crates/spprof/out/spprof")
 SMALL = os.path.join(TOP, "examples/small.sptrace")
 
@@ -155,7 +158,10 @@ def by_coverage(minutes, folder):
 
 
 def main(minutes, folder):
-    shutil.rmtree(folder, ignore_errors=True)
+    if folder == FOUND:
+        shutil.rmtree(folder, ignore_errors=True)
+    elif os.path.exists(folder):
+        sys.exit(f"{folder} is there already")
     os.makedirs(folder)
     subprocess.run([os.path.join(TOP, "spprof"), "--help"], stdout=subprocess.DEVNULL, check=True)
     if shutil.which("afl-fuzz"):
@@ -171,4 +177,4 @@ def main(minutes, folder):
 if __name__ == "__main__":
     if len(sys.argv) not in (2, 3):
         sys.exit(__doc__)
-    sys.exit(main(float(sys.argv[1]), sys.argv[2] if len(sys.argv) == 3 else os.path.join(OUT, "found")))
+    sys.exit(main(float(sys.argv[1]), sys.argv[2] if len(sys.argv) == 3 else FOUND))

@@ -44,7 +44,7 @@ pub record Giving : Type 1 where
   -- it was not used at all
   pub Untouched : Type 0
 
-module _ {S : Type 0} (answered : S → Option (List ℕ) → S → Type 0) (failures : S → ℕ) (old new : S) where
+module _ {S : Type 0} (answered : S → Option (List ℕ) → S → Type 0) (failed : S → S → Type 0) (failures : S → ℕ) (old new : S) where
   abbrev GaveWithin : List ℕ → Type 0
   GaveWithin bytes = (length bytes ≤ 2 ^ 33) × GaveAll answered (2 ^ 33) old bytes new × (failures new ≡ failures old)
 
@@ -52,7 +52,7 @@ module _ {S : Type 0} (answered : S → Option (List ℕ) → S → Type 0) (fai
   abbrev pub giving_of : Giving
   giving_of = record {
     Gave = GaveWithin;
-    Refused = λ fault. ReadRefused answered failures (2 ^ 33) (2 ^ 33) old fault new;
+    Refused = λ fault. ReadRefused answered failed failures (2 ^ 33) (2 ^ 33) old fault new;
     Within = ReadWithin answered (2 ^ 33) (2 ^ 33) old new ⊎ ((bytes : List ℕ) × GaveWithin bytes);
     Untouched = new ≡ old;
   }

@@ -53,9 +53,9 @@ fn run_of<R: Threads + Wait + Sync, H: BuildHasher + Drop, S: Source>(
     input: &mut S,
     place: Place,
 ) -> Result<Run<H>, Refusal>
-    ensures told { IfOk result (λ run. (bytes : List ℕ) × (giving_of S.answered S.failures input.old input.new).Gave bytes × IsGoodTrace bytes × IsToldOf request.now.burdens bytes (told run)) }
+    ensures told { IfOk result (λ run. (bytes : List ℕ) × (giving_of S.answered S.failed S.failures input.old input.new).Gave bytes × IsGoodTrace bytes × IsToldOf request.now.burdens bytes (told run)) }
     ensures small { IfOk result (λ run. (told run).figures.work < 2 ^ 120) }
-    ensures refused { IfErr result (IsInputRefused (giving_of S.answered S.failures input.old input.new) place (TellsFaultAt place)) }
+    ensures refused { IfErr result (IsInputRefused (giving_of S.answered S.failed S.failures input.old input.new) place (TellsFaultAt place)) }
 {
     let bytes = read_or_refuse(alloc, input, place)?;
     match told_or_refuse(rt, alloc, hasher, request, bytes.as_slice()) {
@@ -74,8 +74,8 @@ fn compare_by<R: Threads + Wait + Sync, H: BuildHasher + Copy + Drop, S: Source,
     first: &mut S,
     second: &mut T,
 ) -> Result<Vec<u8>, Refusal>
-    ensures text { IfOk result (λ text. (inputs : List (List ℕ)) × WasRead (inputs_of (giving_of S.answered S.failures first.old first.new) (giving_of T.answered T.failures second.old second.new)) inputs × IsCompareText request.now.burdens inputs text.items) }
-    ensures refused { IfErr result (IsRefusedBy (inputs_of (giving_of S.answered S.failures first.old first.new) (giving_of T.answered T.failures second.old second.new)) Before IsCompareLine) }
+    ensures text { IfOk result (λ text. (inputs : List (List ℕ)) × WasRead (inputs_of (giving_of S.answered S.failed S.failures first.old first.new) (giving_of T.answered T.failed T.failures second.old second.new)) inputs × IsCompareText request.now.burdens inputs text.items) }
+    ensures refused { IfErr result (IsRefusedBy (inputs_of (giving_of S.answered S.failed S.failures first.old first.new) (giving_of T.answered T.failed T.failures second.old second.new)) Before IsCompareLine) }
 {
     let before = run_of(rt, alloc, hasher, request, first, Place::Before)?;
     let after = run_of(rt, alloc, hasher, request, second, Place::After)?;
@@ -91,8 +91,8 @@ pub(crate) fn answer_compare<R: Threads + Wait + Sync + RandomSource, S: Source,
     first: &mut S,
     second: &mut T,
 ) -> Result<Vec<u8>, Refusal>
-    ensures text { IfOk result (λ text. (inputs : List (List ℕ)) × WasRead (inputs_of (giving_of S.answered S.failures first.old first.new) (giving_of T.answered T.failures second.old second.new)) inputs × IsCompareText request.now.burdens inputs text.items) }
-    ensures refused { IfErr result (IsRefusedBy (inputs_of (giving_of S.answered S.failures first.old first.new) (giving_of T.answered T.failures second.old second.new)) Before IsCompareLine) }
+    ensures text { IfOk result (λ text. (inputs : List (List ℕ)) × WasRead (inputs_of (giving_of S.answered S.failed S.failures first.old first.new) (giving_of T.answered T.failed T.failures second.old second.new)) inputs × IsCompareText request.now.burdens inputs text.items) }
+    ensures refused { IfErr result (IsRefusedBy (inputs_of (giving_of S.answered S.failed S.failures first.old first.new) (giving_of T.answered T.failed T.failures second.old second.new)) Before IsCompareLine) }
 {
     match RandomState::new(rt) {
         Ok(hasher) => compare_by(rt, alloc, hasher, request, first, second),

@@ -1,4 +1,5 @@
 //! A source over one of std's readers.
+ghost use Rattle.std.specs.Io.KnownBytes.{Keeps};
 ghost use Rattle.std.specs.Prelude.{◌≡◌, None};
 ghost use Rattle.spp_shell.specs.Reading.{KnownAnswer};
 
@@ -44,6 +45,9 @@ impl<R: Read> Source for InSource<R> {
     ghost use Rattle.spp_shell.specs.InSources.{hint_of};
 
     ghost answered = { λ a o b. KnownAnswer (R.remaining a.reader) o (R.remaining b.reader) };
+
+    // A read that failed took nothing.
+    ghost failed = { λ a b. Keeps (R.remaining a.reader) (R.remaining b.reader) };
 
     ghost failures = { λ s. s.failures };
 

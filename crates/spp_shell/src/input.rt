@@ -16,8 +16,8 @@ pub(crate) fn read_or_refuse<S: Source>(
     input: &mut S,
     place: Place,
 ) -> Result<Vec<u8>, Refusal>
-    ensures read { IfOk result (λ bytes. (giving_of S.answered S.failures input.old input.new).Gave bytes.items) }
-    ensures refused { IfErr result (IsInputRefused (giving_of S.answered S.failures input.old input.new) place NoLine) }
+    ensures read { IfOk result (λ bytes. (giving_of S.answered S.failed S.failures input.old input.new).Gave bytes.items) }
+    ensures refused { IfErr result (IsInputRefused (giving_of S.answered S.failed S.failures input.old input.new) place NoLine) }
 {
     match read_all(alloc, input) {
         Ok(bytes) => Ok(bytes),

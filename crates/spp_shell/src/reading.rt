@@ -71,6 +71,7 @@ fn pull_behind<S: Source>(
     ensures room { length bytes.new.items ≡ length bytes.old.items }
     ensures answered { IfOk result (λ o. S.answered source.old (option_map (λ n. take n (drop filled bytes.new.items)) o) source.new) }
     ensures same { OnOk result (S.failures source.new ≡ S.failures source.old) }
+    ensures failed { OnErr result (S.failed source.old source.new) }
     ensures raised { OnErr result (Raised (S.failures source.old) (S.failures source.new)) }
 {
     source.pull(&mut bytes[filled..])
@@ -81,12 +82,12 @@ fn pull_behind<S: Source>(
 ///
 /// The time is linear in what is read. Room is made once where the source's hint is right; without a hint, and past
 /// one, it grows by a quarter of what was read, and by 65,536 bytes at least. Of what is beyond the bytes read at
-/// most 65,536 are written to. A hint changes no answer: it makes room for at most `most` bytes and 65,536 more, and
-/// where memory for that is refused, room is made as without one.
+/// most 65,536 are written to. A hint changes no answer but want of memory: it makes room for at most `most` bytes
+/// and 65,536 more, and where memory for that is refused, room is made as without one.
 ///
 /// # Errors
 ///
-/// `Device` where the source failed, `TooLong` where a bound was passed, `Memory` where an allocation failed. What
+/// `Device` where the source failed, at the last read that was made, `TooLong` where a bound was passed, `Memory` where an allocation failed. What
 /// was read until then is lost.
 pub fn read_within<S: Source>(
     alloc: Global,
@@ -97,7 +98,7 @@ pub fn read_within<S: Source>(
     ensures all { IfOk result (λ bytes. GaveAll S.answered turns source.old bytes.items source.new) }
     ensures within { IfOk result (λ bytes. length bytes.items ≤ most) }
     ensures same { OnOk result (S.failures source.new ≡ S.failures source.old) }
-    ensures refused { IfErr result (λ fault. ReadRefused S.answered S.failures most turns source.old fault source.new) }
+    ensures refused { IfErr result (λ fault. ReadRefused S.answered S.failed S.failures most turns source.old fault source.new) }
 {
     let mut bytes: Vec<u8> = Vec::new(alloc);
     make_first_room(&mut bytes, source.hint(), most);
@@ -134,7 +135,7 @@ pub fn read_all<S: Source>(alloc: Global, source: &mut S) -> Result<Vec<u8>, Rea
     ensures all { IfOk result (λ bytes. GaveAll S.answered (2 ^ 33) source.old bytes.items source.new) }
     ensures within { IfOk result (λ bytes. length bytes.items ≤ 2 ^ 33) }
     ensures same { OnOk result (S.failures source.new ≡ S.failures source.old) }
-    ensures refused { IfErr result (λ fault. ReadRefused S.answered S.failures (2 ^ 33) (2 ^ 33) source.old fault source.new) }
+    ensures refused { IfErr result (λ fault. ReadRefused S.answered S.failed S.failures (2 ^ 33) (2 ^ 33) source.old fault source.new) }
 {
     read_within(alloc, source, INPUT_LIMIT, INPUT_LIMIT)
 }

@@ -33,8 +33,8 @@ fn answer<R: Threads + Wait + Sync + RandomSource, S: Source, T: Source>(
     first: &mut S,
     second: &mut T,
 ) -> Result<Vec<u8>, Refusal>
-    ensures text { IfOk result (λ text. (inputs : List (List ℕ)) × WasRead (inputs_of (giving_of S.answered S.failures first.old first.new) (giving_of T.answered T.failures second.old second.new)) inputs × text_for request.now.command request.now.burdens request.now.csv inputs text.items) }
-    ensures refused { IfErr result (IsRefusedBy (inputs_of (giving_of S.answered S.failures first.old first.new) (giving_of T.answered T.failures second.old second.new)) (first_place request.now.command) (line_for request.now.command)) }
+    ensures text { IfOk result (λ text. (inputs : List (List ℕ)) × WasRead (inputs_of (giving_of S.answered S.failed S.failures first.old first.new) (giving_of T.answered T.failed T.failures second.old second.new)) inputs × text_for request.now.command request.now.burdens request.now.csv inputs text.items) }
+    ensures refused { IfErr result (IsRefusedBy (inputs_of (giving_of S.answered S.failed S.failures first.old first.new) (giving_of T.answered T.failed T.failures second.old second.new)) (first_place request.now.command) (line_for request.now.command)) }
 {
     match request.command {
         Command::Check => {
@@ -79,7 +79,7 @@ pub fn run<R: Threads + Wait + Sync + RandomSource, S: Source, T: Source, O: Sin
     out: &mut O,
     err: &mut E,
 ) -> u8
-    ensures ends { RunEnds (devices_of (inputs_of (giving_of S.answered S.failures first.old first.new) (giving_of T.answered T.failures second.old second.new)) (taking_of O.took O.finished O.failures out.old out.new) (taking_of E.took E.finished E.failures err.old err.new)) request.now result }
+    ensures ends { RunEnds (devices_of (inputs_of (giving_of S.answered S.failed S.failures first.old first.new) (giving_of T.answered T.failed T.failures second.old second.new)) (taking_of O.took O.finished O.failures out.old out.new) (taking_of E.took E.finished E.failures err.old err.new)) request.now result }
 {
     match answer(rt, alloc, request, first, second) {
         Ok(text) => write_answer(text.as_slice(), out, err),

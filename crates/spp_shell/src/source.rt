@@ -15,6 +15,9 @@ pub trait Source {
     // One read from the first state to the second: the bytes that it gave (none: its end), or that it was interrupted.
     ghost answered: { Self → Option (List ℕ) → Self → Type 0 };
 
+    // One read from the first state to the second, at which it failed.
+    ghost failed: { Self → Self → Type 0 };
+
     // Its failures so far.
     ghost failures: { Self → ℕ };
 
@@ -28,6 +31,7 @@ pub trait Source {
         ensures within { IfOk result (λ o. IfSome o (λ n. n ≤ length buf.new)) }
         ensures answered { 0 < length buf.old → IfOk result (λ o. answered self.old (option_map (λ n. take n buf.new) o) self.new) }
         ensures same { OnOk result (failures self.new ≡ failures self.old) }
+        ensures failed { OnErr result (failed self.old self.new) }
         ensures raised { OnErr result (Raised (failures self.old) (failures self.new)) };
 
     /// The number of failures so far; it stays at its greatest value.

@@ -205,6 +205,7 @@ fn a_source_that_fails_is_a_device_fault(rt: HostRuntime) {
             "at {fails_at}"
         );
         assert_eq!(rt; source.failures(), 1);
+        assert_eq!(rt; source.reads, fails_at + 1);
     }
 }
 

@@ -1,4 +1,5 @@
 //! Sources and sinks in memory.
+ghost use Rattle.std.specs.Io.KnownBytes.{Keeps};
 ghost use Rattle.std.specs.Prelude.{◌≡◌, None, Some, IsTrue};
 ghost use Rattle.spp_shell.specs.Reading.{KnownAnswer};
 ghost use Rattle.program_tests.specs.Fakes.{Grows, grows_nothing, grows_both};
@@ -18,6 +19,8 @@ pub struct Drip<'a> {
 
 impl Source for Drip<'_> {
     ghost answered = { λ a o b. KnownAnswer (Some a.bytes.now) o (Some b.bytes.now) };
+
+    ghost failed = { λ a b. Keeps (Some a.bytes.now) (Some b.bytes.now) };
 
     ghost failures = { λ s. s.failures };
 
@@ -68,6 +71,8 @@ pub struct Busy;
 
 impl Source for Busy {
     ghost answered = { λ a o b. o ≡ None };
+
+    ghost failed = { λ a b. ⊥ };
 
     ghost failures = { λ s. 0 };
 

@@ -10,64 +10,64 @@ use Rattle.spp_shell.proofs.running.answer.Goals as goal
 
 pub returns-in_ok-bytes-in-Check-clause-text : goal.returns-in_ok-bytes-in-Check-clause-text
 returns-in_ok-bytes-in-Check-clause-text g c =
-    let first : Giving = giving_of g.S.Source.answered g.S.Source.failures c.args.first.now c.read_or_refuse.new.input in
-    let second : Giving = giving_of g.T.Source.answered g.T.Source.failures c.args.second.now c.args.second.now in
+    let first : Giving = giving_of g.S.Source.answered g.S.Source.failed g.S.Source.failures c.args.first.now c.read_or_refuse.new.input in
+    let second : Giving = giving_of g.T.Source.answered g.T.Source.failed g.T.Source.failures c.args.second.now c.args.second.now in
     let bytes = c.in_ok-bytes-in-Check.bytes.items in
     let gave = c.in_ok-bytes-in-Check.ensures.read in
     rw c.in-Check.is (answered_first (λ text. text.items) first second bytes gave refl IsCheckText c.answer_check.result (rw c.as_slice.ensures.value at c.answer_check.ensures.text))
 
 pub returns-in_ok-bytes-in-Check-clause-refused : goal.returns-in_ok-bytes-in-Check-clause-refused
 returns-in_ok-bytes-in-Check-clause-refused g c =
-    let first : Giving = giving_of g.S.Source.answered g.S.Source.failures c.args.first.now c.read_or_refuse.new.input in
-    let second : Giving = giving_of g.T.Source.answered g.T.Source.failures c.args.second.now c.args.second.now in
+    let first : Giving = giving_of g.S.Source.answered g.S.Source.failed g.S.Source.failures c.args.first.now c.read_or_refuse.new.input in
+    let second : Giving = giving_of g.T.Source.answered g.T.Source.failed g.T.Source.failures c.args.second.now c.args.second.now in
     let bytes = c.in_ok-bytes-in-Check.bytes.items in
     let gave = c.in_ok-bytes-in-Check.ensures.read in
     rw c.in-Check.is (told_first (λ text. text.items) first second bytes gave refl Only IsCheckLine c.answer_check.result (inr (bytes, gave)) (rw c.as_slice.ensures.value at c.answer_check.ensures.line))
 
 pub returns-in_ok-bytes-in-Figures-clause-text : goal.returns-in_ok-bytes-in-Figures-clause-text
 returns-in_ok-bytes-in-Figures-clause-text g c =
-    let first : Giving = giving_of g.S.Source.answered g.S.Source.failures c.args.first.now c.read_or_refuse-in-Figures.new.input in
-    let second : Giving = giving_of g.T.Source.answered g.T.Source.failures c.args.second.now c.args.second.now in
+    let first : Giving = giving_of g.S.Source.answered g.S.Source.failed g.S.Source.failures c.args.first.now c.read_or_refuse-in-Figures.new.input in
+    let second : Giving = giving_of g.T.Source.answered g.T.Source.failed g.T.Source.failures c.args.second.now c.args.second.now in
     let bytes = c.in_ok-bytes-in-Figures.bytes.items in
     let gave = c.in_ok-bytes-in-Figures.ensures.read in
     rw c.in-Figures.is (answered_first (λ text. text.items) first second bytes gave refl (IsFiguresText c.args.request.now.burdens) c.answer_figures.result (rw c.as_slice-in-Figures.ensures.value at c.answer_figures.ensures.text))
 
 pub returns-in_ok-bytes-in-Figures-clause-refused : goal.returns-in_ok-bytes-in-Figures-clause-refused
 returns-in_ok-bytes-in-Figures-clause-refused g c =
-    let first : Giving = giving_of g.S.Source.answered g.S.Source.failures c.args.first.now c.read_or_refuse-in-Figures.new.input in
-    let second : Giving = giving_of g.T.Source.answered g.T.Source.failures c.args.second.now c.args.second.now in
+    let first : Giving = giving_of g.S.Source.answered g.S.Source.failed g.S.Source.failures c.args.first.now c.read_or_refuse-in-Figures.new.input in
+    let second : Giving = giving_of g.T.Source.answered g.T.Source.failed g.T.Source.failures c.args.second.now c.args.second.now in
     let bytes = c.in_ok-bytes-in-Figures.bytes.items in
     let gave = c.in_ok-bytes-in-Figures.ensures.read in
     rw c.in-Figures.is (told_first (λ text. text.items) first second bytes gave refl Only IsCheckLine c.answer_figures.result (inr (bytes, gave)) (rw c.as_slice-in-Figures.ensures.value at c.answer_figures.ensures.line))
 
 pub returns-in_ok-bytes-in-Profile-clause-text : goal.returns-in_ok-bytes-in-Profile-clause-text
 returns-in_ok-bytes-in-Profile-clause-text g c =
-    let first : Giving = giving_of g.S.Source.answered g.S.Source.failures c.args.first.now c.read_or_refuse-in-Profile.new.input in
-    let second : Giving = giving_of g.T.Source.answered g.T.Source.failures c.args.second.now c.args.second.now in
+    let first : Giving = giving_of g.S.Source.answered g.S.Source.failed g.S.Source.failures c.args.first.now c.read_or_refuse-in-Profile.new.input in
+    let second : Giving = giving_of g.T.Source.answered g.T.Source.failed g.T.Source.failures c.args.second.now c.args.second.now in
     let bytes = c.in_ok-bytes-in-Profile.bytes.items in
     let gave = c.in_ok-bytes-in-Profile.ensures.read in
     rw c.in-Profile.is (answered_first (λ text. text.items) first second bytes gave refl (IsProfileText c.args.request.now.burdens c.args.request.now.csv) c.answer_profile.result (rw c.as_slice-in-Profile.ensures.value at c.answer_profile.ensures.text))
 
 pub returns-in_ok-bytes-in-Profile-clause-refused : goal.returns-in_ok-bytes-in-Profile-clause-refused
 returns-in_ok-bytes-in-Profile-clause-refused g c =
-    let first : Giving = giving_of g.S.Source.answered g.S.Source.failures c.args.first.now c.read_or_refuse-in-Profile.new.input in
-    let second : Giving = giving_of g.T.Source.answered g.T.Source.failures c.args.second.now c.args.second.now in
+    let first : Giving = giving_of g.S.Source.answered g.S.Source.failed g.S.Source.failures c.args.first.now c.read_or_refuse-in-Profile.new.input in
+    let second : Giving = giving_of g.T.Source.answered g.T.Source.failed g.T.Source.failures c.args.second.now c.args.second.now in
     let bytes = c.in_ok-bytes-in-Profile.bytes.items in
     let gave = c.in_ok-bytes-in-Profile.ensures.read in
     rw c.in-Profile.is (told_first (λ text. text.items) first second bytes gave refl Only IsCheckLine c.answer_profile.result (inr (bytes, gave)) (rw c.as_slice-in-Profile.ensures.value at c.answer_profile.ensures.line))
 
 pub returns-in_ok-bytes-in-Encode-clause-text : goal.returns-in_ok-bytes-in-Encode-clause-text
 returns-in_ok-bytes-in-Encode-clause-text g c =
-    let first : Giving = giving_of g.S.Source.answered g.S.Source.failures c.args.first.now c.read_or_refuse-in-Encode.new.input in
-    let second : Giving = giving_of g.T.Source.answered g.T.Source.failures c.args.second.now c.args.second.now in
+    let first : Giving = giving_of g.S.Source.answered g.S.Source.failed g.S.Source.failures c.args.first.now c.read_or_refuse-in-Encode.new.input in
+    let second : Giving = giving_of g.T.Source.answered g.T.Source.failed g.T.Source.failures c.args.second.now c.args.second.now in
     let bytes = c.in_ok-bytes-in-Encode.bytes.items in
     let gave = c.in_ok-bytes-in-Encode.ensures.read in
     rw c.in-Encode.is (answered_first (λ text. text.items) first second bytes gave refl IsEncodeText c.answer_encode.result (rw c.as_slice-in-Encode.ensures.value at c.answer_encode.ensures.text))
 
 pub returns-in_ok-bytes-in-Encode-clause-refused : goal.returns-in_ok-bytes-in-Encode-clause-refused
 returns-in_ok-bytes-in-Encode-clause-refused g c =
-    let first : Giving = giving_of g.S.Source.answered g.S.Source.failures c.args.first.now c.read_or_refuse-in-Encode.new.input in
-    let second : Giving = giving_of g.T.Source.answered g.T.Source.failures c.args.second.now c.args.second.now in
+    let first : Giving = giving_of g.S.Source.answered g.S.Source.failed g.S.Source.failures c.args.first.now c.read_or_refuse-in-Encode.new.input in
+    let second : Giving = giving_of g.T.Source.answered g.T.Source.failed g.T.Source.failures c.args.second.now c.args.second.now in
     let bytes = c.in_ok-bytes-in-Encode.bytes.items in
     let gave = c.in_ok-bytes-in-Encode.ensures.read in
     rw c.in-Encode.is (told_first (λ text. text.items) first second bytes gave refl Only IsEncodeLine c.answer_encode.result (inr (bytes, gave)) (rw c.as_slice-in-Encode.ensures.value at c.answer_encode.ensures.line))
