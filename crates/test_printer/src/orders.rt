@@ -74,6 +74,24 @@ fn milliseconds<R: Clock, J: Job>(rt: &R, alloc: Global, job: &J, order: Order) 
     Some(start.elapsed(rt).ok()?.as_millis())
 }
 
+/// The milliseconds in which the parts are done in this order and what came of each is kept, where none are joined: less
+/// than any book can take that comes to hold most of them apart.
+fn milliseconds_apart<R: Clock, J: Job>(
+    rt: &R,
+    alloc: Global,
+    job: &J,
+    order: Order,
+) -> Option<u128> {
+    let start = Instant::now(rt).ok()?;
+    let parts = job.parts();
+    let mut contents = Vec::new(alloc);
+    for place in 0..parts {
+        let content = job.run(alloc, part_at(order, place, parts)).ok()?;
+        contents.push(content).ok()?;
+    }
+    Some(start.elapsed(rt).ok()?.as_millis())
+}
+
 /// Prints these for each order, behind the name of the job. Whether there were any.
 fn print_job<R: Clock + Print, J: Job>(
     rt: &R,
@@ -88,6 +106,12 @@ fn print_job<R: Clock + Print, J: Job>(
         return Ok(false);
     };
     println!(rt; "{name}: rising {rising} ms, falling {falling} ms, shuffled {shuffled} ms")?;
+    let rising = milliseconds_apart(rt, alloc, job, Order::Rising);
+    let shuffled = milliseconds_apart(rt, alloc, job, Order::Shuffled);
+    let (Some(rising), Some(shuffled)) = (rising, shuffled) else {
+        return Ok(false);
+    };
+    println!(rt; "{name} without joins: rising {rising} ms, shuffled {shuffled} ms")?;
     Ok(true)
 }
 
