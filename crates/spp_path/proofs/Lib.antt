@@ -32,7 +32,7 @@ pub mod Beginning
 pub mod Lifted
 pub mod PartPass
 pub mod Ending
-pub mod BothPass
+pub mod AlongPath
 pub mod Staying
 pub mod Counting
 pub mod Alike

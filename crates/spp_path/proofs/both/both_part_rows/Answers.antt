@@ -2,7 +2,7 @@ use Rattle.std.proofs.Common.{ℕ, ◌+◌, refl, sym, subst, ◌∙◌}
 use Rattle.spp_site.specs.Table.{Sums}
 use Rattle.spp_path.specs.Parts.{IsPathShare}
 use Rattle.spp_path.specs.Settled.{entered_in}
-use Rattle.spp_path.proofs.BothPass.{Reads, known, some_event}
+use Rattle.spp_path.proofs.AlongPath.{Reads, known, some_event}
 use Rattle.spp_path.proofs.PartPass.{ok_more}
 use Rattle.spp_path.proofs.Placed.{placed_goes}
 use Rattle.spp_path.proofs.Staying.{beside_share}

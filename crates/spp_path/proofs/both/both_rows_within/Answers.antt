@@ -3,9 +3,11 @@ use Rattle.spp_event.specs.declared.records.Event.{Event}
 use Rattle.spp_event.specs.declared.records.Event.TheVariants.{Strand, Call, Spawn, Ret, Sync}
 use Rattle.spp_event.specs.Records.{IsEventOf}
 use Rattle.spp_event.specs.Recordings.{record_at}
+use Rattle.spp_path.specs.declared.trail.Trail.{Trail}
+use Rattle.spp_path.specs.Outside.{IsBegun}
 use Rattle.spp_path.specs.Rows.{told, IsRead}
 use Rattle.spp_path.specs.Spans.{spans}
-use Rattle.spp_path.proofs.BothPass.{Reads, IsIn, in_part, spans_told, path_told, spans_begun, path_begun, some_event, has_open, can_run, spans_on, is_open, can_count, has_room, strand_on, sync_on, call_on, spawn_on, open_then, spans_can_return, spans_return, can_return, return_on, fits_open, sites_below, share_is}
+use Rattle.spp_path.proofs.AlongPath.{Reads, IsIn, trail_of, in_part, spans_told, path_told, spans_begun, path_begun, some_event, has_open, can_run, spans_on, is_open, can_count, has_room, strand_on, sync_on, call_on, spawn_on, open_then, spans_can_return, spans_return, can_return, return_on, fits_open, sites_below, share_is}
 use Rattle.spp_path.proofs.Events.{SpawnDone}
 use Rattle.spp_path.proofs.PartPass.{read_at}
 use Rattle.spp_path.proofs.Reaching.{outside_below}
@@ -43,12 +45,14 @@ loop-k-init c =
           start refl refl;
       one =
           path_told
-          (path_begun known c.args.live c.args.entered.now c.requires.goes c.new.result c.new.ensures c.below-outside_path.result (told c.in_ok-rows.rows) c.in_ok-rows.ensures
+          (path_begun known c.args.live.entry (trail_of c.args.live) c.args.entered.now c.requires.goes c.below-outside_path.result (told c.in_ok-rows.rows)
+          (λ f fs h. subst (λ (trail : Trail). IsBegun f fs c.args.live.entry.work trail (told c.in_ok-rows.rows)) c.new.ensures (c.in_ok-rows.ensures f fs h))
           (λ f fs h. outside_below c.below-outside_path.result fs (c.below-outside_path.ensures.some f fs h) (c.below-outside_path.ensures.none f fs h)))
           start refl refl c.new-left.ensures;
       other =
           path_told
-          (path_begun known c.args.other_live c.args.other_entered.now c.requires.other_goes c.new-2.result c.new-2.ensures c.below-other_outside.result (told c.in_ok-other_rows.other_rows) c.in_ok-other_rows.ensures
+          (path_begun known c.args.other_live.entry (trail_of c.args.other_live) c.args.other_entered.now c.requires.other_goes c.below-other_outside.result (told c.in_ok-other_rows.other_rows)
+          (λ f fs h. subst (λ (trail : Trail). IsBegun f fs c.args.other_live.entry.work trail (told c.in_ok-other_rows.other_rows)) c.new-2.ensures (c.in_ok-other_rows.ensures f fs h))
           (λ f fs h. outside_below c.below-other_outside.result fs (c.below-other_outside.ensures.some f fs h) (c.below-other_outside.ensures.none f fs h)))
           start refl refl c.new-other_left.ensures;
     }

@@ -1,5 +1,5 @@
--- A pass over a part on one of two paths, which share the weights of the open frames: what each call of the pass needs, and
--- what stands after each event.
+-- A pass over a part along a path: what each call of the pass needs, and what stands after each event. The weights of the
+-- open frames don't depend on the path, so two paths share them.
 use Rattle.std.proofs.Common.{◌≡◌, ℕ, suc, ◌+◌, ◌<◌, ◌≤◌, List, [], ◌∷◌, ◌++◌, length, Option, refl, sym, ap, subst, ◌∙◌, arith}
 use Rattle.std.specs.Prelude.{IsOk}
 use Rattle.spp_event.specs.declared.records.Event.{Event}
@@ -52,9 +52,13 @@ pub record PathSoFar (part : PartOf) (all : StackOf) (P : List Event → Burdens
   pub rows : (eb : Burdens) → HasEntry part.trace eb part.first all → RowsAt part.trace eb part.first P i outside t
   pub left : Left part.trace P (part.first + part.count) i xs
 
--- so goes a path that enters that frame as the innermost
-abbrev pub Way : PartOf → StackOf → LiveFrame → List ℕ → List Event → Burdens → Type 0
-Way part all live spawns = Goes part.first (part.first + part.count) all live.entry (record { skipped = live.skipped; running = live.running }) spawns
+-- so goes the path in the part
+abbrev pub Way : PartOf → StackOf → StackOf → Trail → List ℕ → List Event → Burdens → Type 0
+Way part all live trail spawns = Goes part.first (part.first + part.count) all live trail spawns
+
+-- and so where it enters that frame as the innermost
+abbrev pub trail_of : LiveFrame → Trail
+trail_of live = record { skipped = live.skipped; running = live.running }
 
 -- the event of the part with the number k, where the part begins at n
 pub in_part : (part : PartOf) (n k : ℕ) → n ≡ part.first → k < part.count → IsIn part (n + k)
@@ -94,17 +98,13 @@ module _ {part : PartOf} {all : StackOf} (r : Reads part all) where
       → ((f : EntryFrame) (fs : List EntryFrame) → HasFrames all (f ∷ fs) → IsOutside outside fs) → SpansSoFar part all part.first outside s
   spans_begun outside s begun out = record { at = λ eb stands. begun_spans part.trace known eb part.first begins all stands outside s begun out }
 
-  pub path_begun : (live : LiveFrame) (spawns : List ℕ) → (b : Burdens) × IsRight part.trace (Way part all live spawns) b → (trail : Trail) → trail ≡ record { skipped = live.skipped; running = live.running }
-      → (outside : Option StackOf) (t : Told) → ((f : EntryFrame) (fs : List EntryFrame) → HasFrames live.entry (f ∷ fs) → IsBegun f fs live.entry.work trail t)
-      → ((f : EntryFrame) (fs : List EntryFrame) → HasFrames live.entry (f ∷ fs) → IsOutside outside fs) → PathSoFar part all (Way part all live spawns) part.first outside t spawns
-  path_begun live spawns goes trail same outside t begun out =
-      let told : Trail = record { skipped = live.skipped; running = live.running } in
-      record {
-        rows = λ eb stands.
-            begun_rows part.trace known eb part.first begins all stands end live.entry told spawns goes.0 goes.1 outside t
-            (λ f fs h. subst (λ (r : Trail). IsBegun f fs live.entry.work r t) same (begun f fs h)) out;
-        left = λ es are bd p. p.spawns_are;
-      }
+  pub path_begun : (live : StackOf) (trail : Trail) (spawns : List ℕ) → (b : Burdens) × IsRight part.trace (Way part all live trail spawns) b → (outside : Option StackOf) (t : Told)
+      → ((f : EntryFrame) (fs : List EntryFrame) → HasFrames live (f ∷ fs) → IsBegun f fs live.work trail t)
+      → ((f : EntryFrame) (fs : List EntryFrame) → HasFrames live (f ∷ fs) → IsOutside outside fs) → PathSoFar part all (Way part all live trail spawns) part.first outside t spawns
+  path_begun live trail spawns goes outside t begun out = record {
+    rows = λ eb stands. begun_rows part.trace known eb part.first begins all stands end live trail spawns goes.0 goes.1 outside t begun out;
+    left = λ es are bd p. p.spawns_are;
+  }
 
   -- ---- an event
 
