@@ -15,7 +15,7 @@ ghost use Rattle.spp_jobs.specs.Tables.{IsRun};
 use spp_book::{Job, JoinRefused};
 use spp_cut::Cut;
 use spp_maxplus::Burdens;
-use spp_path::{Settled, part_rows};
+use spp_path::{Settled, both_part_rows, part_rows};
 use spp_site::Share;
 use spp_stack::Entries;
 use std::alloc::{AllocError, Global};
@@ -124,17 +124,22 @@ impl<'c, 't, 'a> Job for PathJob<'c, 't, 'a> {
         (part.first(), part.count())
     }
 
-    /// Time and memory are those of [`part_rows`], once for both paths where they go alike in the part, else for each.
+    /// Where the paths go alike in the part, time and memory are those of [`part_rows`], once for both. Else they are those
+    /// of [`both_part_rows`]: where both paths come to the part its events are read once for both.
     fn run(&self, alloc: Global, number: u32) -> Result<Pathed, AllocError> {
         self.cut.trace().keeps_limits();
         let at = number as usize;
         let part = &self.cut.parts()[at];
-        let path = part_rows(alloc, part, self.stacks.entry(at), self.path)?;
-        let burdened_path = if self.path.goes_alike(self.burdened, at) {
-            Share::copy(alloc, &path)?
-        } else {
-            part_rows(alloc, part, self.stacks.entry(at), self.burdened)?
-        };
+        let entry = self.stacks.entry(at);
+        if self.path.goes_alike(self.burdened, at) {
+            let path = part_rows(alloc, part, entry, self.path)?;
+            let burdened_path = Share::copy(alloc, &path)?;
+            return Ok(Pathed {
+                path,
+                burdened_path,
+            });
+        }
+        let (path, burdened_path) = both_part_rows(alloc, part, entry, self.path, self.burdened)?;
         Ok(Pathed {
             path,
             burdened_path,

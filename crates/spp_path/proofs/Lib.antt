@@ -32,6 +32,7 @@ pub mod Beginning
 pub mod Lifted
 pub mod PartPass
 pub mod Ending
+pub mod AlongPath
 pub mod Staying
 pub mod Counting
 pub mod Alike

@@ -10,6 +10,7 @@
 //! which events of a part are on the path.
 #![tactic(auto)]
 
+mod both;
 mod entered;
 mod flags;
 mod marking;
@@ -22,6 +23,7 @@ mod spans;
 mod trail;
 mod whole;
 
+pub use both::both_part_rows;
 pub use flags::{Flag, Flags};
 pub use marking::mark_part;
 pub use part::part_rows;

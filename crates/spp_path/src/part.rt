@@ -67,7 +67,7 @@ pub fn part_rows(
 /// Whether the path stays away from the part: `skipped` frames are open within the innermost one that it enters where the
 /// part begins, and the part doesn't return out of all of them. The events are read up to the return that does, each in
 /// constant time and without memory.
-fn stays_beside(part: &Part<'_, '_>, skipped: u32) -> bool
+pub(crate) fn stays_beside(part: &Part<'_, '_>, skipped: u32) -> bool
     requires { (k : ℕ) → k < part.now.count → IsOk (record_at part.now.trace.records (part.now.first + k)) }
     ensures { IsTrue result ↔ StaysBeside part.now skipped }
 {

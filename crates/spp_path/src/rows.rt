@@ -188,6 +188,7 @@ impl PathRows {
     }
 
     /// Comes to the innermost of the frames outside, if one alone has been come to; gives those that are left outside.
+    #[inline(always)]
     pub(crate) fn reach<'e>(
         &mut self,
         outside: Option<Entry<'e>>,

@@ -105,6 +105,7 @@ impl OpenSpans {
     }
 
     /// Comes to the innermost of the frames outside, if one alone has been come to; gives those that are left outside.
+    #[inline(always)]
     pub(crate) fn reach<'e>(
         &mut self,
         outside: Option<Entry<'e>>,

@@ -1,412 +1,179 @@
-use Rattle.std.proofs.Common.{◌≡◌, ℕ, suc, ◌+◌, ◌<◌, ◌≤◌, List, ◌++◌, length, Option, refl, sym, ap, subst, ◌∙◌, arith}
+use Rattle.std.proofs.Common.{◌≡◌, ℕ, suc, ◌+◌, length, Ok, refl, ap, subst, ◌∙◌, arith}
 use Rattle.spp_event.specs.declared.records.Event.{Event}
 use Rattle.spp_event.specs.declared.records.Event.TheVariants.{Strand, Call, Spawn, Ret, Sync}
-use Rattle.spp_event.specs.Recordings.{Recording}
-use Rattle.spp_maxplus.specs.declared.state.Burdens.{Burdens}
+use Rattle.spp_event.specs.Records.{IsEventOf}
+use Rattle.spp_event.specs.Recordings.{record_at}
 use Rattle.spp_site.specs.Table.{Sums}
-use Rattle.spp_stack.specs.Chain.{StackOf}
-use Rattle.spp_path.specs.declared.rows.PathRows.{PathRows}
-use Rattle.spp_path.specs.declared.spans.OpenSpan.{OpenSpan}
-use Rattle.spp_path.specs.declared.spans.OpenSpans.{OpenSpans}
-use Rattle.spp_path.specs.Outside.{entered_spans}
-use Rattle.spp_path.specs.Parts.{IsPathShare}
-use Rattle.spp_path.specs.Rows.{Told, told}
-use Rattle.spp_path.specs.Spans.{spans, return_spans}
-use Rattle.spp_path.proofs.Ending.{can_suspend, are_sites, suspended}
+use Rattle.spp_path.specs.Rows.{told, IsRead}
+use Rattle.spp_path.specs.Spans.{spans}
+use Rattle.spp_path.proofs.AlongPath.{Reads, IsIn, in_part, spans_told, path_told, spans_begun, path_begun, some_event, has_open, can_run, spans_on, is_open, can_count, has_room, strand_on, sync_on, call_on, spawn_on, open_then, spans_can_return, spans_return, can_return, return_on, fits_open, sites_below, share_is}
 use Rattle.spp_path.proofs.Events.{SpawnDone}
-use Rattle.spp_path.proofs.Lifted.{top_same}
-use Rattle.spp_path.proofs.OpenWeights.{top_close}
-use Rattle.spp_path.proofs.PartPass.{RowsAt, SpansAt, Goes, known_in, read_at, some_read, ok_more, begun_spans, begun_rows, spans_run, spans_next, spans_reached, spans_close, rows_add, rows_skip, rows_strand, rows_sync, rows_call, rows_spawn, rows_reached, rows_can_return, rows_return}
-use Rattle.spp_path.proofs.PathPass.{Left, next_left, next_taken}
+use Rattle.spp_path.proofs.PartPass.{read_at, ok_more}
 use Rattle.spp_path.proofs.Reaching.{outside_below}
-use Rattle.spp_path.proofs.Tops.{top_is}
 use Rattle.spp_path.proofs.part.rows_within.Goals as goal
-use Rattle.spp_path.proofs.part.rows_within.Goals.{in-Strand, in-Call+in_ok-open-in-Call+in_ok-call-in-Call, in-Spawn+in_ok-open-in-Spawn+in_ok-spawn-in-Spawn, in-Ret+in_ok-outside-in-Ret+in_ok-outside_path-in-Ret+in_ok-ret-in-Ret, in-Sync}
+use Rattle.spp_path.proofs.part.rows_within.Goals.{After-keeps_limits, After-known_event, in-Strand, in-Call+in_ok-open-in-Call+in_ok-call-in-Call, in-Spawn+in_ok-open-in-Spawn+in_ok-spawn-in-Spawn, in-Ret+in_ok-outside-in-Ret+in_ok-outside_path-in-Ret+in_ok-ret-in-Ret, in-Sync}
+
+-- what is known of the part
+reads : (c : After-keeps_limits) → Reads c.args.part.now c.args.entry
+reads c = record { stands = c.requires.stands; limits = c.keeps_limits.ensures.limits; events = c.keeps_limits.ensures.events; within = c.keeps_limits.ensures.within }
+
+-- and of the event that is read
+module _ (c : After-known_event) where
+  r : Reads c.args.part.now c.args.entry
+  r = record { stands = c.requires.stands; limits = c.keeps_limits.ensures.limits; events = c.keeps_limits.ensures.events; within = c.keeps_limits.ensures.within }
+
+  abbrev at : ℕ
+  at = c.first-first.result + c.loop-k.k
+
+  d : IsIn c.args.part.now at
+  d = in_part c.args.part.now c.first-first.result c.loop-k.k c.first-first.ensures (omega (arith, c.count-k-end.ensures, c.loop-k-test.true))
+
+  read : (e : Event) → record_at c.args.part.now.trace.records (c.args.part.now.first + c.loop-k.k) ≡ Ok e → IsEventOf (length c.args.part.now.trace.sites) (length c.args.part.now.trace.funcs) e
+      → IsRead c.args.part.now.trace at e
+  read e said within = read_at c.args.part.now.trace c.args.part.now.first c.first-first.result c.loop-k.k e c.first-first.ensures said within
 
 pub loop-k-init : goal.loop-k-init
 loop-k-init c =
-    let trace : Recording = c.args.part.now.trace in
-    let first : ℕ = c.args.part.now.first in
-    let end : ℕ = first + c.args.part.now.count in
-    let eb = c.requires.stands.0 in
-    let stands = c.requires.stands.1 in
-    let known = known_in trace eb first c.args.entry stands c.keeps_limits.ensures.limits c.keeps_limits.ensures.events in
-    let G : List Event → Burdens → Type 0 = Goes first end c.args.entry c.args.live c.args.trail c.args.entered.now in
-    let b = c.requires.goes.0 in
-    let right = c.requires.goes.1 in
-    let within : first ≤ length trace.records = omega (arith, c.keeps_limits.ensures.within) in
-    let start : first ≡ c.first-first.result + 0 = omega (arith, c.first-first.ensures) in
-    let out : Option StackOf = c.below-outside.result in
-    let out_path : Option StackOf = c.below-outside_path.result in
-    let t : Told = told c.in_ok-rows.rows in
-    let s : List OpenSpan = spans c.in_ok-spans.spans in
+    let known = reads (goal.at.loop-k-init c).After-keeps_limits in
+    let start : c.args.part.now.first ≡ c.first-first.result + 0 = omega (arith, c.first-first.ensures) in
     record {
-      rows = λ eb stands.
-          subst (λ (k : ℕ). RowsAt trace eb first G k out_path t) start
-          (begun_rows trace (known_in trace eb first c.args.entry stands c.keeps_limits.ensures.limits c.keeps_limits.ensures.events) eb first within c.args.entry stands end c.args.live c.args.trail c.args.entered.now b right out_path t c.in_ok-rows.ensures
-          (λ f fs h. outside_below out_path fs (c.below-outside_path.ensures.some f fs h) (c.below-outside_path.ensures.none f fs h)));
-      weights = λ eb stands.
-          subst (λ (k : ℕ). SpansAt trace eb k out s) start
-          (begun_spans trace (known_in trace eb first c.args.entry stands c.keeps_limits.ensures.limits c.keeps_limits.ensures.events) eb first within c.args.entry stands out s c.in_ok-spans.ensures
-          (λ f fs h. outside_below out fs (c.below-outside.ensures.some f fs h) (c.below-outside.ensures.none f fs h)));
-      left = subst (λ (k : ℕ). Left trace G end k c.new-entered.result) start (subst (λ (xs : List ℕ). Left trace G end first xs) (sym c.new-entered.ensures) (λ es are bd p. p.spawns_are));
+      weights =
+          spans_told
+          (spans_begun known c.below-outside.result (spans c.in_ok-spans.spans) c.in_ok-spans.ensures
+          (λ f fs h. outside_below c.below-outside.result fs (c.below-outside.ensures.some f fs h) (c.below-outside.ensures.none f fs h)))
+          start refl refl;
+      path =
+          path_told
+          (path_begun known c.args.live c.args.trail c.args.entered.now c.requires.goes c.below-outside_path.result (told c.in_ok-rows.rows) c.in_ok-rows.ensures
+          (λ f fs h. outside_below c.below-outside_path.result fs (c.below-outside_path.ensures.some f fs h) (c.below-outside_path.ensures.none f fs h)))
+          start refl refl c.new-entered.ensures;
     }
 
 pub known_event-requires-clause-good : goal.known_event-requires-clause-good
-known_event-requires-clause-good c =
-    let trace : Recording = c.args.part.now.trace in
-    let first : ℕ = c.args.part.now.first in
-    let end : ℕ = first + c.args.part.now.count in
-    let eb = c.requires.stands.0 in
-    let stands = c.requires.stands.1 in
-    let known = known_in trace eb first c.args.entry stands c.keeps_limits.ensures.limits c.keeps_limits.ensures.events in
-    let G : List Event → Burdens → Type 0 = Goes first end c.args.entry c.args.live c.args.trail c.args.entered.now in
-    let b = c.requires.goes.0 in
-    let right = c.requires.goes.1 in
-    some_read trace known (first + c.loop-k.k) (omega (arith, c.count-k-end.ensures, c.keeps_limits.ensures.within, c.loop-k-test.true))
+known_event-requires-clause-good c = some_event (reads (goal.at.known_event-requires-clause-good c).After-keeps_limits) c.loop-k.k (omega (arith, c.count-k-end.ensures, c.loop-k-test.true))
 
 pub strand-requires : goal.strand-requires
 strand-requires c =
-    let trace : Recording = c.args.part.now.trace in
-    let first : ℕ = c.args.part.now.first in
-    let end : ℕ = first + c.args.part.now.count in
-    let eb = c.requires.stands.0 in
-    let stands = c.requires.stands.1 in
-    let known = known_in trace eb first c.args.entry stands c.keeps_limits.ensures.limits c.keeps_limits.ensures.events in
-    let G : List Event → Burdens → Type 0 = Goes first end c.args.entry c.args.live c.args.trail c.args.entered.now in
-    let b = c.requires.goes.0 in
-    let right = c.requires.goes.1 in
-    let at : ℕ = c.first-first.result + c.loop-k.k in
-    let t : Told = told c.loop-k.rows in
-    let s : List OpenSpan = spans c.loop-k.spans in
-    let from : first ≤ at = omega (arith, c.first-first.ensures) in
-    let lt : at < length trace.records = omega (arith, c.first-first.ensures, c.count-k-end.ensures, c.keeps_limits.ensures.within, c.loop-k-test.true) in
-    let rows = c.loop-k.invariant.rows eb stands in
-    let weights = c.loop-k.invariant.weights eb stands in
-    spans_run trace known eb at lt c.loop-k.outside s weights c.in-Strand.count (read_at trace first c.first-first.result c.loop-k.k (Strand c.in-Strand.count) c.first-first.ensures c.in-Strand.ensures.said c.in-Strand.ensures.within)
+    let h = (goal.at.strand-requires c).After-known_event in
+    can_run (r h) (d h) h.loop-k.invariant.weights c.in-Strand.count (read h (Strand c.in-Strand.count) c.in-Strand.ensures.said c.in-Strand.ensures.within)
 
 pub strand-requires-in-Strand-clause-open : goal.strand-requires-in-Strand-clause-open
 strand-requires-in-Strand-clause-open c =
-    (c.loop-k.invariant.rows c.requires.stands.0 c.requires.stands.1).some
+    let h = (goal.at.strand-requires-in-Strand-clause-open c).After-known_event in
+    is_open (r h) (d h) h.loop-k.invariant.path h.requires.goes
 
 pub strand-requires-in-Strand-clause-fits : goal.strand-requires-in-Strand-clause-fits
 strand-requires-in-Strand-clause-fits c =
-    let trace : Recording = c.args.part.now.trace in
-    let first : ℕ = c.args.part.now.first in
-    let end : ℕ = first + c.args.part.now.count in
-    let eb = c.requires.stands.0 in
-    let stands = c.requires.stands.1 in
-    let known = known_in trace eb first c.args.entry stands c.keeps_limits.ensures.limits c.keeps_limits.ensures.events in
-    let G : List Event → Burdens → Type 0 = Goes first end c.args.entry c.args.live c.args.trail c.args.entered.now in
-    let b = c.requires.goes.0 in
-    let right = c.requires.goes.1 in
-    let at : ℕ = c.first-first.result + c.loop-k.k in
-    let t : Told = told c.loop-k.rows in
-    let s : List OpenSpan = spans c.loop-k.spans in
-    let from : first ≤ at = omega (arith, c.first-first.ensures) in
-    let lt : at < length trace.records = omega (arith, c.first-first.ensures, c.count-k-end.ensures, c.keeps_limits.ensures.within, c.loop-k-test.true) in
-    let rows = c.loop-k.invariant.rows eb stands in
-    let weights = c.loop-k.invariant.weights eb stands in
-    rows_add trace known eb first G b right at from lt c.loop-k.outside_path t rows c.in-Strand.count (read_at trace first c.first-first.result c.loop-k.k (Strand c.in-Strand.count) c.first-first.ensures c.in-Strand.ensures.said c.in-Strand.ensures.within)
+    let h = (goal.at.strand-requires-in-Strand-clause-fits c).After-known_event in
+    can_count (r h) (d h) h.loop-k.invariant.path h.requires.goes c.in-Strand.count (read h (Strand c.in-Strand.count) c.in-Strand.ensures.said c.in-Strand.ensures.within)
 
 pub call-requires-clause-open : goal.call-requires-clause-open
 call-requires-clause-open c =
-    (c.loop-k.invariant.rows c.requires.stands.0 c.requires.stands.1).some
+    let h = (goal.at.call-requires-clause-open c).After-known_event in
+    is_open (r h) (d h) h.loop-k.invariant.path h.requires.goes
 
 pub call-requires-clause-room : goal.call-requires-clause-room
 call-requires-clause-room c =
-    let trace : Recording = c.args.part.now.trace in
-    let first : ℕ = c.args.part.now.first in
-    let end : ℕ = first + c.args.part.now.count in
-    let eb = c.requires.stands.0 in
-    let stands = c.requires.stands.1 in
-    let known = known_in trace eb first c.args.entry stands c.keeps_limits.ensures.limits c.keeps_limits.ensures.events in
-    let G : List Event → Burdens → Type 0 = Goes first end c.args.entry c.args.live c.args.trail c.args.entered.now in
-    let b = c.requires.goes.0 in
-    let right = c.requires.goes.1 in
-    let at : ℕ = c.first-first.result + c.loop-k.k in
-    let t : Told = told c.loop-k.rows in
-    let s : List OpenSpan = spans c.loop-k.spans in
-    let from : first ≤ at = omega (arith, c.first-first.ensures) in
-    let lt : at < length trace.records = omega (arith, c.first-first.ensures, c.count-k-end.ensures, c.keeps_limits.ensures.within, c.loop-k-test.true) in
-    let rows = c.loop-k.invariant.rows eb stands in
-    let weights = c.loop-k.invariant.weights eb stands in
-    rows_skip trace known eb first G b right at from lt c.loop-k.outside_path t rows
+    let h = (goal.at.call-requires-clause-room c).After-known_event in
+    has_room (r h) (d h) h.loop-k.invariant.path h.requires.goes
 
 pub spawn-requires-clause-open : goal.spawn-requires-clause-open
 spawn-requires-clause-open c =
-    (c.loop-k.invariant.rows c.requires.stands.0 c.requires.stands.1).some
+    let h = (goal.at.spawn-requires-clause-open c).After-known_event in
+    is_open (r h) (d h) h.loop-k.invariant.path h.requires.goes
 
 pub spawn-requires-clause-room : goal.spawn-requires-clause-room
 spawn-requires-clause-room c =
-    let trace : Recording = c.args.part.now.trace in
-    let first : ℕ = c.args.part.now.first in
-    let end : ℕ = first + c.args.part.now.count in
-    let eb = c.requires.stands.0 in
-    let stands = c.requires.stands.1 in
-    let known = known_in trace eb first c.args.entry stands c.keeps_limits.ensures.limits c.keeps_limits.ensures.events in
-    let G : List Event → Burdens → Type 0 = Goes first end c.args.entry c.args.live c.args.trail c.args.entered.now in
-    let b = c.requires.goes.0 in
-    let right = c.requires.goes.1 in
-    let at : ℕ = c.first-first.result + c.loop-k.k in
-    let t : Told = told c.loop-k.rows in
-    let s : List OpenSpan = spans c.loop-k.spans in
-    let from : first ≤ at = omega (arith, c.first-first.ensures) in
-    let lt : at < length trace.records = omega (arith, c.first-first.ensures, c.count-k-end.ensures, c.keeps_limits.ensures.within, c.loop-k-test.true) in
-    let rows = c.loop-k.invariant.rows eb stands in
-    let weights = c.loop-k.invariant.weights eb stands in
-    rows_skip trace known eb first G b right at from lt c.loop-k.outside_path t rows
+    let h = (goal.at.spawn-requires-clause-room c).After-known_event in
+    has_room (r h) (d h) h.loop-k.invariant.path h.requires.goes
 
 pub reach-requires : goal.reach-requires
 reach-requires c =
-    (c.loop-k.invariant.weights c.requires.stands.0 c.requires.stands.1).some
+    let h = (goal.at.reach-requires c).After-known_event in
+    has_open (r h) (d h) h.loop-k.invariant.weights
 
 pub reach-requires-in-Ret : goal.reach-requires-in-Ret
 reach-requires-in-Ret c =
-    (c.loop-k.invariant.rows c.requires.stands.0 c.requires.stands.1).some
+    let h = (goal.at.reach-requires-in-Ret c).After-known_event in
+    is_open (r h) (d h) h.loop-k.invariant.path h.requires.goes
 
 pub innermost-span-requires : goal.innermost-span-requires
 innermost-span-requires c =
-    let trace : Recording = c.args.part.now.trace in
-    let first : ℕ = c.args.part.now.first in
-    let end : ℕ = first + c.args.part.now.count in
-    let eb = c.requires.stands.0 in
-    let stands = c.requires.stands.1 in
-    let known = known_in trace eb first c.args.entry stands c.keeps_limits.ensures.limits c.keeps_limits.ensures.events in
-    let G : List Event → Burdens → Type 0 = Goes first end c.args.entry c.args.live c.args.trail c.args.entered.now in
-    let b = c.requires.goes.0 in
-    let right = c.requires.goes.1 in
-    let at : ℕ = c.first-first.result + c.loop-k.k in
-    let t : Told = told c.loop-k.rows in
-    let s : List OpenSpan = spans c.loop-k.spans in
-    let from : first ≤ at = omega (arith, c.first-first.ensures) in
-    let lt : at < length trace.records = omega (arith, c.first-first.ensures, c.count-k-end.ensures, c.keeps_limits.ensures.within, c.loop-k-test.true) in
-    let rows = c.loop-k.invariant.rows eb stands in
-    let weights = c.loop-k.invariant.weights eb stands in
-    let told_ret = read_at trace first c.first-first.result c.loop-k.k Ret c.first-first.ensures c.in-Ret.ensures.said c.in-Ret.ensures.within in
-    let left : Option StackOf = c.in_ok-outside-in-Ret.outside in
-    let come : List OpenSpan = spans c.reach.new.self in
-    let ready = spans_reached trace known eb at lt c.loop-k.outside s weights told_ret left come c.in_ok-outside-in-Ret.ensures in
-    ready.here.some
+    let h = (goal.at.innermost-span-requires c).After-known_event in
+    open_then (r h) (d h) h.loop-k.invariant.weights (read h Ret c.in-Ret.ensures.said c.in-Ret.ensures.within) c.in_ok-outside-in-Ret.outside (spans c.reach.new.self) c.in_ok-outside-in-Ret.ensures
 
 pub ret-requires : goal.ret-requires
 ret-requires c =
-    let trace : Recording = c.args.part.now.trace in
-    let first : ℕ = c.args.part.now.first in
-    let end : ℕ = first + c.args.part.now.count in
-    let eb = c.requires.stands.0 in
-    let stands = c.requires.stands.1 in
-    let known = known_in trace eb first c.args.entry stands c.keeps_limits.ensures.limits c.keeps_limits.ensures.events in
-    let G : List Event → Burdens → Type 0 = Goes first end c.args.entry c.args.live c.args.trail c.args.entered.now in
-    let b = c.requires.goes.0 in
-    let right = c.requires.goes.1 in
-    let at : ℕ = c.first-first.result + c.loop-k.k in
-    let t : Told = told c.loop-k.rows in
-    let s : List OpenSpan = spans c.loop-k.spans in
-    let from : first ≤ at = omega (arith, c.first-first.ensures) in
-    let lt : at < length trace.records = omega (arith, c.first-first.ensures, c.count-k-end.ensures, c.keeps_limits.ensures.within, c.loop-k-test.true) in
-    let rows = c.loop-k.invariant.rows eb stands in
-    let weights = c.loop-k.invariant.weights eb stands in
-    let told_ret = read_at trace first c.first-first.result c.loop-k.k Ret c.first-first.ensures c.in-Ret.ensures.said c.in-Ret.ensures.within in
-    let left : Option StackOf = c.in_ok-outside-in-Ret.outside in
-    let come : List OpenSpan = spans c.reach.new.self in
-    let ready = spans_reached trace known eb at lt c.loop-k.outside s weights told_ret left come c.in_ok-outside-in-Ret.ensures in
-    let v : ℕ = c.innermost-span.result in
-    let is : v ≡ top_close come = top_is v come c.innermost-span.ensures in
-    spans_close trace known eb at lt left come ready.here told_ret ready.two v is
+    let h = (goal.at.ret-requires c).After-known_event in
+    spans_can_return (r h) (d h) h.loop-k.invariant.weights (read h Ret c.in-Ret.ensures.said c.in-Ret.ensures.within) c.in_ok-outside-in-Ret.outside (spans c.reach.new.self) c.in_ok-outside-in-Ret.ensures c.innermost-span.result c.innermost-span.ensures
 
 pub ret-requires-in-Ret : goal.ret-requires-in-Ret
 ret-requires-in-Ret c =
-    let trace : Recording = c.args.part.now.trace in
-    let first : ℕ = c.args.part.now.first in
-    let end : ℕ = first + c.args.part.now.count in
-    let eb = c.requires.stands.0 in
-    let stands = c.requires.stands.1 in
-    let known = known_in trace eb first c.args.entry stands c.keeps_limits.ensures.limits c.keeps_limits.ensures.events in
-    let G : List Event → Burdens → Type 0 = Goes first end c.args.entry c.args.live c.args.trail c.args.entered.now in
-    let b = c.requires.goes.0 in
-    let right = c.requires.goes.1 in
-    let at : ℕ = c.first-first.result + c.loop-k.k in
-    let t : Told = told c.loop-k.rows in
-    let s : List OpenSpan = spans c.loop-k.spans in
-    let from : first ≤ at = omega (arith, c.first-first.ensures) in
-    let lt : at < length trace.records = omega (arith, c.first-first.ensures, c.count-k-end.ensures, c.keeps_limits.ensures.within, c.loop-k-test.true) in
-    let rows = c.loop-k.invariant.rows eb stands in
-    let weights = c.loop-k.invariant.weights eb stands in
-    let told_ret = read_at trace first c.first-first.result c.loop-k.k Ret c.first-first.ensures c.in-Ret.ensures.said c.in-Ret.ensures.within in
-    let left : Option StackOf = c.in_ok-outside-in-Ret.outside in
-    let come : List OpenSpan = spans c.reach.new.self in
-    let ready = spans_reached trace known eb at lt c.loop-k.outside s weights told_ret left come c.in_ok-outside-in-Ret.ensures in
-    let v : ℕ = c.innermost-span.result in
-    let is : v ≡ top_close come = top_is v come c.innermost-span.ensures in
-    let all : List OpenSpan = come ++ entered_spans ready.here.gs in
-    let left_path : Option StackOf = c.in_ok-outside_path-in-Ret.outside_path in
-    let u : Told = told c.reach-in-Ret.new.self in
-    let ready_rows = rows_reached trace known eb first G b right at from lt c.loop-k.outside_path t rows all ready.here.weighed told_ret left_path u c.in_ok-outside_path-in-Ret.ensures.reached c.in_ok-outside_path-in-Ret.ensures.others in
-    let is_all : v ≡ top_close all = is ∙ sym (top_same (entered_spans ready.here.gs) come ready.here.some) in
-    rows_can_return trace known eb first G b right at from lt left_path u ready_rows.here all ready.here.weighed told_ret ready_rows.two v is_all
+    let h = (goal.at.ret-requires-in-Ret c).After-known_event in
+    can_return (r h) (d h) h.loop-k.invariant.weights (read h Ret c.in-Ret.ensures.said c.in-Ret.ensures.within) c.in_ok-outside-in-Ret.outside (spans c.reach.new.self) c.in_ok-outside-in-Ret.ensures c.innermost-span.result c.innermost-span.ensures h.loop-k.invariant.path h.requires.goes c.in_ok-outside_path-in-Ret.outside_path (told c.reach-in-Ret.new.self) c.in_ok-outside_path-in-Ret.ensures.reached c.in_ok-outside_path-in-Ret.ensures.others
 
 pub sync-requires : goal.sync-requires
 sync-requires c =
-    (c.loop-k.invariant.weights c.requires.stands.0 c.requires.stands.1).some
+    let h = (goal.at.sync-requires c).After-known_event in
+    has_open (r h) (d h) h.loop-k.invariant.weights
 
 pub loop-k-preserved : goal.loop-k-preserved
 loop-k-preserved c =
-    let trace : Recording = c.args.part.now.trace in
-    let first : ℕ = c.args.part.now.first in
-    let end : ℕ = first + c.args.part.now.count in
-    let eb = c.requires.stands.0 in
-    let stands = c.requires.stands.1 in
-    let known = known_in trace eb first c.args.entry stands c.keeps_limits.ensures.limits c.keeps_limits.ensures.events in
-    let G : List Event → Burdens → Type 0 = Goes first end c.args.entry c.args.live c.args.trail c.args.entered.now in
-    let b = c.requires.goes.0 in
-    let right = c.requires.goes.1 in
-    let at : ℕ = c.first-first.result + c.loop-k.k in
-    let t : Told = told c.loop-k.rows in
-    let s : List OpenSpan = spans c.loop-k.spans in
-    let from : first ≤ at = omega (arith, c.first-first.ensures) in
-    let lt : at < length trace.records = omega (arith, c.first-first.ensures, c.count-k-end.ensures, c.keeps_limits.ensures.within, c.loop-k-test.true) in
-    let rows = c.loop-k.invariant.rows eb stands in
-    let weights = c.loop-k.invariant.weights eb stands in
-    let out : Option StackOf = c.loop-k.outside in
-    let out_path : Option StackOf = c.loop-k.outside_path in
-    let xs : List ℕ = c.loop-k.entered in
-    let inside : at < end = omega (arith, c.first-first.ensures, c.count-k-end.ensures, c.loop-k-test.true) in
-    let read = λ (e : Event). read_at trace first c.first-first.result c.loop-k.k e c.first-first.ensures in
-    let further : suc at ≡ c.first-first.result + (c.loop-k.k + 1) = omega arith in
-    let lefts = λ (new : List ℕ) (is : c.match-known_event.entered ≡ new) (k : Left trace G end (suc at) new).
-    subst (λ (n : ℕ). Left trace G end n c.match-known_event.entered) further (subst (λ (x : List ℕ). Left trace G end (suc at) x) (sym is) k) in
+    let h = (goal.at.loop-k-preserved c).After-known_event in
+    let further : suc (at h) ≡ c.first-first.result + (c.loop-k.k + 1) = omega arith in
+    let now = c.match-known_event in
     record {
-      rows = λ eb stands.
-          let known_now = known_in trace eb first c.args.entry stands c.keeps_limits.ensures.limits c.keeps_limits.ensures.events in
-          let rows_now = c.loop-k.invariant.rows eb stands in
-          let weights_now = c.loop-k.invariant.weights eb stands in
-          let moved = λ (o : Option StackOf) (new : PathRows) (o_is : c.match-known_event.outside_path ≡ o) (is : c.match-known_event.rows ≡ new) (k : RowsAt trace eb first G (suc at) o (told new)).
-          subst (λ (n : ℕ). RowsAt trace eb first G n c.match-known_event.outside_path (told c.match-known_event.rows)) further
-          (subst (λ (p : Option StackOf). RowsAt trace eb first G (suc at) p (told c.match-known_event.rows)) (sym o_is) (subst (λ (x : PathRows). RowsAt trace eb first G (suc at) o (told x)) (sym is) k)) in
-          elim c.match-known_event.branch [
-            | in-Strand w ↦
-                moved out_path w.strand-in-Strand.new.self w.outside_path-is w.rows-is
-                (rows_strand trace known_now eb first G b right at from lt out_path t rows_now w.in-Strand.count (told w.strand-in-Strand.new.self) (read (Strand w.in-Strand.count) w.in-Strand.ensures.said w.in-Strand.ensures.within)
-                (w.strand-in-Strand.ensures.on_path, w.strand-in-Strand.ensures.beside))
-            | in-Call+in_ok-open-in-Call+in_ok-call-in-Call w ↦
-                moved out_path w.call.new.self w.outside_path-is w.rows-is
-                (rows_call trace known_now eb first G b right at from lt out_path t rows_now w.in-Call.site w.in-Call.func (told w.call.new.self) (read (Call w.in-Call.site w.in-Call.func) w.in-Call.ensures.said w.in-Call.ensures.within)
-                (w.in_ok-call-in-Call.ensures.enters, w.in_ok-call-in-Call.ensures.skips))
-            | in-Spawn+in_ok-open-in-Spawn+in_ok-spawn-in-Spawn w ↦
-                moved out_path w.spawn.new.self w.outside_path-is w.rows-is
-                (rows_spawn trace known_now eb first G b right at from lt out_path t rows_now w.in-Spawn.site w.in-Spawn.func (told w.spawn.new.self) (read (Spawn w.in-Spawn.site w.in-Spawn.func) w.in-Spawn.ensures.said w.in-Spawn.ensures.within) end xs inside c.loop-k.invariant.left
-                (subst (λ q. SpawnDone q w.in-Spawn.site w.in-Spawn.func t (told w.spawn.new.self)) w.takes.ensures.is (w.in_ok-spawn-in-Spawn.ensures.enters, w.in_ok-spawn-in-Spawn.ensures.skips)))
-            | in-Ret+in_ok-outside-in-Ret+in_ok-outside_path-in-Ret+in_ok-ret-in-Ret w ↦
-                let told_ret = read_at trace first c.first-first.result c.loop-k.k Ret c.first-first.ensures w.in-Ret.ensures.said w.in-Ret.ensures.within in
-                let left : Option StackOf = w.in_ok-outside-in-Ret.outside in
-                let come : List OpenSpan = spans w.reach.new.self in
-                let ready = spans_reached trace known_now eb at lt c.loop-k.outside s weights_now told_ret left come w.in_ok-outside-in-Ret.ensures in
-                let v : ℕ = w.innermost-span.result in
-                let is : v ≡ top_close come = top_is v come w.innermost-span.ensures in
-                let all : List OpenSpan = come ++ entered_spans ready.here.gs in
-                let left_path : Option StackOf = w.in_ok-outside_path-in-Ret.outside_path in
-                let u : Told = told w.reach-in-Ret.new.self in
-                let ready_rows = rows_reached trace known_now eb first G b right at from lt c.loop-k.outside_path t rows_now all ready.here.weighed told_ret left_path u w.in_ok-outside_path-in-Ret.ensures.reached w.in_ok-outside_path-in-Ret.ensures.others in
-                let is_all : v ≡ top_close all = is ∙ sym (top_same (entered_spans ready.here.gs) come ready.here.some) in
-                moved left_path w.ret-in-Ret.new.self w.outside_path-is w.rows-is
-                (rows_return trace known_now eb first G b right at from lt left_path u ready_rows.here all ready.here.weighed told_ret ready_rows.two v is_all (told w.ret-in-Ret.new.self)
-                (w.in_ok-ret-in-Ret.ensures.returned, w.in_ok-ret-in-Ret.ensures.skipped))
-            | in-Sync w ↦
-                moved out_path w.sync-in-Sync.new.self w.outside_path-is w.rows-is
-                (rows_sync trace known_now eb first G b right at from lt out_path t rows_now (told w.sync-in-Sync.new.self) (read Sync w.in-Sync.ensures.said w.in-Sync.ensures.within) (w.sync-in-Sync.ensures.waited, w.sync-in-Sync.ensures.skipped))
-          ];
-      weights = λ eb stands.
-          let known_now = known_in trace eb first c.args.entry stands c.keeps_limits.ensures.limits c.keeps_limits.ensures.events in
-          let weights_now = c.loop-k.invariant.weights eb stands in
-          let moved = λ (o : Option StackOf) (new : OpenSpans) (o_is : c.match-known_event.outside ≡ o) (is : c.match-known_event.spans ≡ new) (k : SpansAt trace eb (suc at) o (spans new)).
-          subst (λ (n : ℕ). SpansAt trace eb n c.match-known_event.outside (spans c.match-known_event.spans)) further
-          (subst (λ (p : Option StackOf). SpansAt trace eb (suc at) p (spans c.match-known_event.spans)) (sym o_is) (subst (λ (x : OpenSpans). SpansAt trace eb (suc at) o (spans x)) (sym is) k)) in
-          elim c.match-known_event.branch [
-            | in-Strand w ↦
-                moved out w.strand.new.self w.outside-is w.spans-is
-                (spans_next trace known_now eb at lt out s weights_now (Strand w.in-Strand.count) (spans w.strand.new.self) (read (Strand w.in-Strand.count) w.in-Strand.ensures.said w.in-Strand.ensures.within) (λ e. cc) w.strand.ensures)
-            | in-Call+in_ok-open-in-Call+in_ok-call-in-Call w ↦
-                moved out w.open.new.self w.outside-is w.spans-is
-                (spans_next trace known_now eb at lt out s weights_now (Call w.in-Call.site w.in-Call.func) (spans w.open.new.self) (read (Call w.in-Call.site w.in-Call.func) w.in-Call.ensures.said w.in-Call.ensures.within) (λ e. cc) w.in_ok-open-in-Call.ensures)
-            | in-Spawn+in_ok-open-in-Spawn+in_ok-spawn-in-Spawn w ↦
-                moved out w.open-in-Spawn.new.self w.outside-is w.spans-is
-                (spans_next trace known_now eb at lt out s weights_now (Spawn w.in-Spawn.site w.in-Spawn.func) (spans w.open-in-Spawn.new.self) (read (Spawn w.in-Spawn.site w.in-Spawn.func) w.in-Spawn.ensures.said w.in-Spawn.ensures.within) (λ e. cc) w.in_ok-open-in-Spawn.ensures)
-            | in-Ret+in_ok-outside-in-Ret+in_ok-outside_path-in-Ret+in_ok-ret-in-Ret w ↦
-                let told_ret = read_at trace first c.first-first.result c.loop-k.k Ret c.first-first.ensures w.in-Ret.ensures.said w.in-Ret.ensures.within in
-                let left : Option StackOf = w.in_ok-outside-in-Ret.outside in
-                let come : List OpenSpan = spans w.reach.new.self in
-                let ready = spans_reached trace known_now eb at lt c.loop-k.outside s weights_now told_ret left come w.in_ok-outside-in-Ret.ensures in
-                let v : ℕ = w.innermost-span.result in
-                let is : v ≡ top_close come = top_is v come w.innermost-span.ensures in
-                moved left w.ret.new.self w.outside-is w.spans-is
-                (spans_next trace known_now eb at lt left come ready.here Ret (spans w.ret.new.self) told_ret (λ _. ready.two) (w.ret.ensures ∙ ap (λ n. return_spans n come) is))
-            | in-Sync w ↦
-                moved out w.sync.new.self w.outside-is w.spans-is
-                (spans_next trace known_now eb at lt out s weights_now Sync (spans w.sync.new.self) (read Sync w.in-Sync.ensures.said w.in-Sync.ensures.within) (λ e. cc) w.sync.ensures)
-          ];
-      left = elim c.match-known_event.branch [
-        | in-Strand w ↦ lefts xs w.entered-is (next_left trace G end at xs c.loop-k.invariant.left (Strand w.in-Strand.count) lt (read (Strand w.in-Strand.count) w.in-Strand.ensures.said w.in-Strand.ensures.within) refl)
+      weights = elim c.match-known_event.branch [
+        | in-Strand w ↦
+            spans_told (spans_on (r h) (d h) h.loop-k.invariant.weights (Strand w.in-Strand.count) (spans w.strand.new.self) (read h (Strand w.in-Strand.count) w.in-Strand.ensures.said w.in-Strand.ensures.within) (λ e. cc) w.strand.ensures)
+            further w.outside-is (ap (λ x. spans x) w.spans-is)
         | in-Call+in_ok-open-in-Call+in_ok-call-in-Call w ↦
-            lefts xs w.entered-is
-            (next_left trace G end at xs c.loop-k.invariant.left (Call w.in-Call.site w.in-Call.func) lt (read (Call w.in-Call.site w.in-Call.func) w.in-Call.ensures.said w.in-Call.ensures.within) refl)
+            spans_told (spans_on (r h) (d h) h.loop-k.invariant.weights (Call w.in-Call.site w.in-Call.func) (spans w.open.new.self) (read h (Call w.in-Call.site w.in-Call.func) w.in-Call.ensures.said w.in-Call.ensures.within) (λ e. cc) w.in_ok-open-in-Call.ensures)
+            further w.outside-is (ap (λ x. spans x) w.spans-is)
         | in-Spawn+in_ok-open-in-Spawn+in_ok-spawn-in-Spawn w ↦
-            lefts w.takes.new.self w.entered-is
-            (subst (λ (ys : List ℕ). Left trace G end (suc at) ys) (sym w.takes.ensures.left) (next_taken trace G end at xs c.loop-k.invariant.left inside))
-        | in-Ret+in_ok-outside-in-Ret+in_ok-outside_path-in-Ret+in_ok-ret-in-Ret w ↦ lefts xs w.entered-is (next_left trace G end at xs c.loop-k.invariant.left Ret lt (read Ret w.in-Ret.ensures.said w.in-Ret.ensures.within) refl)
-        | in-Sync w ↦ lefts xs w.entered-is (next_left trace G end at xs c.loop-k.invariant.left Sync lt (read Sync w.in-Sync.ensures.said w.in-Sync.ensures.within) refl)
+            spans_told (spans_on (r h) (d h) h.loop-k.invariant.weights (Spawn w.in-Spawn.site w.in-Spawn.func) (spans w.open-in-Spawn.new.self) (read h (Spawn w.in-Spawn.site w.in-Spawn.func) w.in-Spawn.ensures.said w.in-Spawn.ensures.within) (λ e. cc) w.in_ok-open-in-Spawn.ensures)
+            further w.outside-is (ap (λ x. spans x) w.spans-is)
+        | in-Ret+in_ok-outside-in-Ret+in_ok-outside_path-in-Ret+in_ok-ret-in-Ret w ↦
+            spans_told (spans_return (r h) (d h) h.loop-k.invariant.weights (read h Ret w.in-Ret.ensures.said w.in-Ret.ensures.within) w.in_ok-outside-in-Ret.outside (spans w.reach.new.self) w.in_ok-outside-in-Ret.ensures w.innermost-span.result w.innermost-span.ensures (spans w.ret.new.self) w.ret.ensures)
+            further w.outside-is (ap (λ x. spans x) w.spans-is)
+        | in-Sync w ↦
+            spans_told (spans_on (r h) (d h) h.loop-k.invariant.weights Sync (spans w.sync.new.self) (read h Sync w.in-Sync.ensures.said w.in-Sync.ensures.within) (λ e. cc) w.sync.ensures)
+            further w.outside-is (ap (λ x. spans x) w.spans-is)
+      ];
+      path = elim c.match-known_event.branch [
+        | in-Strand w ↦
+            path_told (strand_on (r h) (d h) h.loop-k.invariant.path h.requires.goes w.in-Strand.count (told w.strand-in-Strand.new.self) (read h (Strand w.in-Strand.count) w.in-Strand.ensures.said w.in-Strand.ensures.within) (w.strand-in-Strand.ensures.on_path, w.strand-in-Strand.ensures.beside))
+            further w.outside_path-is (ap (λ x. told x) w.rows-is) w.entered-is
+        | in-Call+in_ok-open-in-Call+in_ok-call-in-Call w ↦
+            path_told (call_on (r h) (d h) h.loop-k.invariant.path h.requires.goes w.in-Call.site w.in-Call.func (told w.call.new.self) (read h (Call w.in-Call.site w.in-Call.func) w.in-Call.ensures.said w.in-Call.ensures.within) (w.in_ok-call-in-Call.ensures.enters, w.in_ok-call-in-Call.ensures.skips))
+            further w.outside_path-is (ap (λ x. told x) w.rows-is) w.entered-is
+        | in-Spawn+in_ok-open-in-Spawn+in_ok-spawn-in-Spawn w ↦
+            path_told (spawn_on (r h) (d h) h.loop-k.invariant.path h.requires.goes w.in-Spawn.site w.in-Spawn.func (told w.spawn.new.self) (read h (Spawn w.in-Spawn.site w.in-Spawn.func) w.in-Spawn.ensures.said w.in-Spawn.ensures.within)
+            (subst (λ q. SpawnDone q w.in-Spawn.site w.in-Spawn.func (told c.loop-k.rows) (told w.spawn.new.self)) w.takes.ensures.is (w.in_ok-spawn-in-Spawn.ensures.enters, w.in_ok-spawn-in-Spawn.ensures.skips)))
+            further w.outside_path-is (ap (λ x. told x) w.rows-is) (w.entered-is ∙ w.takes.ensures.left)
+        | in-Ret+in_ok-outside-in-Ret+in_ok-outside_path-in-Ret+in_ok-ret-in-Ret w ↦
+            path_told (return_on (r h) (d h) h.loop-k.invariant.weights (read h Ret w.in-Ret.ensures.said w.in-Ret.ensures.within) w.in_ok-outside-in-Ret.outside (spans w.reach.new.self) w.in_ok-outside-in-Ret.ensures w.innermost-span.result w.innermost-span.ensures h.loop-k.invariant.path h.requires.goes w.in_ok-outside_path-in-Ret.outside_path (told w.reach-in-Ret.new.self) w.in_ok-outside_path-in-Ret.ensures.reached w.in_ok-outside_path-in-Ret.ensures.others (told w.ret-in-Ret.new.self) (w.in_ok-ret-in-Ret.ensures.returned, w.in_ok-ret-in-Ret.ensures.skipped))
+            further w.outside_path-is (ap (λ x. told x) w.rows-is) w.entered-is
+        | in-Sync w ↦
+            path_told (sync_on (r h) (d h) h.loop-k.invariant.path h.requires.goes (told w.sync-in-Sync.new.self) (read h Sync w.in-Sync.ensures.said w.in-Sync.ensures.within) (w.sync-in-Sync.ensures.waited, w.sync-in-Sync.ensures.skipped))
+            further w.outside_path-is (ap (λ x. told x) w.rows-is) w.entered-is
       ];
     }
 
 pub suspend-requires-clause-fits : goal.suspend-requires-clause-fits
 suspend-requires-clause-fits c =
-    let trace : Recording = c.args.part.now.trace in
-    let first : ℕ = c.args.part.now.first in
-    let end : ℕ = first + c.args.part.now.count in
-    let eb = c.requires.stands.0 in
-    let stands = c.requires.stands.1 in
-    let known = known_in trace eb first c.args.entry stands c.keeps_limits.ensures.limits c.keeps_limits.ensures.events in
-    let G : List Event → Burdens → Type 0 = Goes first end c.args.entry c.args.live c.args.trail c.args.entered.now in
-    let b = c.requires.goes.0 in
-    let right = c.requires.goes.1 in
-    let at : ℕ = c.first-first.result + c.loop-k.k in
-    let upto : at ≤ length trace.records = omega (arith, c.first-first.ensures, c.count-k-end.ensures, c.keeps_limits.ensures.within, c.loop-k.auto.k-end) in
-    let rows = c.loop-k.invariant.rows eb stands in
-    can_suspend trace known eb first G b right at upto c.loop-k.outside_path (told c.loop-k.rows) rows
+    let known = reads (goal.at.suspend-requires-clause-fits c).After-keeps_limits in
+    let last : c.first-first.result + c.loop-k.k ≡ c.args.part.now.first + c.args.part.now.count = omega (arith, c.first-first.ensures, c.count-k-end.ensures, c.loop-k.auto.k-end, c.loop-k-test.false) in
+    fits_open known c.loop-k.invariant.path c.requires.goes last
 
 pub suspend-requires-clause-sites : goal.suspend-requires-clause-sites
 suspend-requires-clause-sites c =
-    let trace : Recording = c.args.part.now.trace in
-    let first : ℕ = c.args.part.now.first in
-    let end : ℕ = first + c.args.part.now.count in
-    let eb = c.requires.stands.0 in
-    let stands = c.requires.stands.1 in
-    let known = known_in trace eb first c.args.entry stands c.keeps_limits.ensures.limits c.keeps_limits.ensures.events in
-    let G : List Event → Burdens → Type 0 = Goes first end c.args.entry c.args.live c.args.trail c.args.entered.now in
-    let b = c.requires.goes.0 in
-    let right = c.requires.goes.1 in
-    let at : ℕ = c.first-first.result + c.loop-k.k in
-    let upto : at ≤ length trace.records = omega (arith, c.first-first.ensures, c.count-k-end.ensures, c.keeps_limits.ensures.within, c.loop-k.auto.k-end) in
-    let rows = c.loop-k.invariant.rows eb stands in
-    are_sites trace known eb first G b right at upto c.loop-k.outside_path (told c.loop-k.rows) rows
+    let known = reads (goal.at.suspend-requires-clause-sites c).After-keeps_limits in
+    let last : c.first-first.result + c.loop-k.k ≡ c.args.part.now.first + c.args.part.now.count = omega (arith, c.first-first.ensures, c.count-k-end.ensures, c.loop-k.auto.k-end, c.loop-k-test.false) in
+    sites_below known c.loop-k.invariant.path c.requires.goes last
 
 pub returns : goal.returns
 returns c =
-    let trace : Recording = c.args.part.now.trace in
-    let first : ℕ = c.args.part.now.first in
-    let end : ℕ = first + c.args.part.now.count in
-    let eb = c.requires.stands.0 in
-    let stands = c.requires.stands.1 in
-    let known = known_in trace eb first c.args.entry stands c.keeps_limits.ensures.limits c.keeps_limits.ensures.events in
-    let G : List Event → Burdens → Type 0 = Goes first end c.args.entry c.args.live c.args.trail c.args.entered.now in
-    let b = c.requires.goes.0 in
-    let right = c.requires.goes.1 in
-    let at : ℕ = c.first-first.result + c.loop-k.k in
-    let upto : at ≤ length trace.records = omega (arith, c.first-first.ensures, c.count-k-end.ensures, c.keeps_limits.ensures.within, c.loop-k.auto.k-end) in
-    let rows = c.loop-k.invariant.rows eb stands in
-    let last : at ≡ end = omega (arith, c.first-first.ensures, c.count-k-end.ensures, c.loop-k.auto.k-end, c.loop-k-test.false) in
-    ok_more _ _ c.suspend.result
-    (λ (p : Sums) h bd goes es are.
-    subst (λ (k : ℕ). IsPathShare es bd trace.root first k p) last
-    (suspended trace known eb first G b right at upto c.loop-k.outside_path (told c.loop-k.rows) rows p h bd goes es are))
-    c.suspend.ensures
+    let known = reads (goal.at.returns c).After-keeps_limits in
+    let last : c.first-first.result + c.loop-k.k ≡ c.args.part.now.first + c.args.part.now.count = omega (arith, c.first-first.ensures, c.count-k-end.ensures, c.loop-k.auto.k-end, c.loop-k-test.false) in
+    ok_more _ _ c.suspend.result (λ (q : Sums) h bd right es are. share_is known c.loop-k.invariant.path c.requires.goes last q h bd right es are) c.suspend.ensures
