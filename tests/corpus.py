@@ -23,6 +23,7 @@ COMMANDS = [
     ["profile", "--csv", "--burden", "7", "--join-burden", "2", "--parts", "3", "@"],
     ["compare", "--burden", "1", "--parts", "2", "@", SMALL],
     ["compare", "--burden", "1", SMALL, "@"],
+    ["migrate", "@"],
 ]
 
 # How long a run may take, in seconds.

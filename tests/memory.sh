@@ -130,6 +130,10 @@ printf 'func f\nsync\nsync 1 2 3 4 5\n' > "$folder/text"
 each_refused 'encode, a bad text' 1 0 '' 'bad text line 3: count' "$folder/text" "$spprof" encode
 printf 'func f\n\377' > "$folder/bytes"
 each_refused 'encode, bytes that are no text' 1 0 '' 'bad text line 2: word' "$folder/bytes" "$spprof" encode
+each_refused 'migrate, a recorded trace' 0 0 'SPTRACE2*' '' "$examples/nqueens.sptrace" "$spprof" migrate
+each_refused 'migrate, a bad event' 1 0 '' 'bad event 4: tag' "$folder/tag" "$spprof" migrate
+each_refused 'check, version 2' 0 0 'work 32744' '' "$examples/nqueens.compact" "$spprof" check
+each_refused 'profile, version 2' 0 10 'work 32744*' '' "$examples/nqueens.compact" "$spprof" profile
 # An input of 69 MB, for the peaks below.
 awk 'BEGIN { print "func f"; for (n = 0; n < 4300000; n++) print "strand", n % 7 }' | "$spprof" encode > "$folder/long"
 peak_of() { # WORDS..: the peak memory in KiB of the program, which reads standard input

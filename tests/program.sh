@@ -85,6 +85,25 @@ for trace in cilksort fib nqueens; do
         done
     done
 done
+# The same traces in version 2, which another program wrote: `migrate` writes just these bytes from either version, and the
+# answers are the same.
+for trace in small cilksort fib nqueens; do
+    for version in sptrace compact; do
+        "$spprof" migrate "$top/examples/$trace.$version" > "$folder/out" 2> "$folder/err"
+        status=$?
+        cmp -s "$folder/out" "$top/examples/$trace.compact" || status=125
+        : > "$folder/out"
+        judge "migrate of $trace.$version" 0 '' ''
+    done
+    for words in check figures 'figures --parts 7 --workers 2' profile 'profile --csv --parts 20 --workers 64' 'profile --parts 1 --workers 1'; do
+        "$spprof" $words "$top/examples/$trace.sptrace" > "$folder/old" 2> "$folder/err"
+        "$spprof" $words "$top/examples/$trace.compact" > "$folder/out" 2>> "$folder/err"
+        status=$?
+        cmp -s "$folder/out" "$folder/old" || status=125
+        : > "$folder/out"
+        judge "$words of $trace in version 2" 0 '' ''
+    done
+done
 # The sample of README.md.
 sed -n '/^    \$ .*profile --burden 100 /,/^\*The first/p' "$top/README.md" | sed -e '1d' -e '/^\*/d' -e 's/^    //' | sed '$d' > "$folder/sample"
 "$spprof" profile --burden 100 "$top/examples/nqueens.sptrace" > "$folder/out" 2> "$folder/err"
@@ -114,6 +133,9 @@ for shared in '' '--parts 1 --workers 1' '--parts 7 --workers=2' '--parts 65536 
     compare_gives "fib and nqueens $shared" fib_nqueens "$top/examples/fib.sptrace" "$top/examples/nqueens.sptrace" $shared
     compare_gives "cilksort twice $shared" cilksort_twice $shared "$top/examples/cilksort.sptrace" "$top/examples/cilksort.sptrace"
 done
+for versions in 'sptrace compact' 'compact sptrace' 'compact compact'; do
+    compare_gives "fib and nqueens as $versions" fib_nqueens "$top/examples/fib.${versions% *}" "$top/examples/nqueens.${versions#* }"
+done
 compare_gives 'with burdens' fib_nqueens_burdened --burden 100 --join-burden 7 "$top/examples/fib.sptrace" "$top/examples/nqueens.sptrace"
 # The story of README.md, of two recorded runs.
 record=$top/examples/record
@@ -130,6 +152,10 @@ if command -v gcc > /dev/null; then
     status=$?
     judge 'the recorder' 0 '*' ''
     expect 'two recorded runs' 0 'work *' '' /dev/null compare "$folder/record/out/before.sptrace" "$folder/record/out/after.sptrace"
+    SPPROF_VERSION=2 SPPROF_TRACE="$folder/record/out/compact" "$folder/record/out/mergesort" before > "$folder/out" 2> "$folder/err"
+    "$spprof" migrate "$folder/record/out/before.sptrace" 2>> "$folder/err" | cmp -s - "$folder/record/out/compact"
+    status=$?
+    judge 'the recorder, version 2' 0 '*' ''
 fi
 mkfifo "$folder/before" "$folder/after"
 feed() { # FILE PIPE SECONDS: writes the file to the pipe, that long after both ends of it are open
@@ -220,9 +246,28 @@ damage_tells() { # NAME LINE INPUT WORDS..: the printer tells so of the damaged 
     status=$?
     judge "damage: $name" 0 "$line$lf" ''
 }
-damage_tells 'each byte' '7842 headers refused, 21170 with a bad event, 8728 well-formed, 0 of which not all say the same' "$small"
-damage_tells 'by chance' '* headers refused, [1-9]* with a bad event, [1-9]* well-formed, 0 of which not all say the same' \
+damage_tells 'each byte' '7841 headers refused, 21171 with a bad event, 8728 well-formed, 0 on which they differ' "$small"
+damage_tells 'each byte in version 2' '8609 headers refused, 3067 with a bad event, 819 well-formed, 0 on which they differ' \
+    "$top/examples/small.compact"
+damage_tells 'by chance' '* headers refused, [1-9]* with a bad event, [1-9]* well-formed, 0 on which they differ' \
     "$top/examples/nqueens.sptrace" 1000 1
+# Version 2, cut off after so many bytes of its body.
+cut_off() { # BYTES EVENT FAULT
+    head -c $((36 + $1)) "$top/examples/small.compact" > "$folder/short"
+    expect "version 2, $1 bytes of its body" 1 '' "bad event $2: $3$lf" "$folder/short" check
+}
+for bytes_event in 0:0 2:1 5:2 7:3 8:4 10:5 11:6; do cut_off ${bytes_event%:*} ${bytes_event#*:} truncated; done
+for bytes_event in 1:0 3:1 4:1 6:2 9:4 12:6; do cut_off ${bytes_event%:*} ${bytes_event#*:} operand; done
+# One bad item of 16 MB with 63 events behind it, in more parts than events.
+{ head -c 20 "$top/examples/small.compact"; printf '\0\0\0\100'; head -c 36 "$top/examples/small.compact" | tail -c 12
+    printf '\200'; head -c 16000000 /dev/zero; head -c 63 /dev/zero | tr '\0' '\203'; } > "$folder/item"
+for command in check 'figures --parts 65536' 'profile --parts 65536 --workers 2'; do
+    timeout 30 "$spprof" $command < "$folder/item" > "$folder/out" 2> "$folder/err"
+    status=$?
+    judge "a bad item of 16 MB, $command" 1 '' "bad event 0: operand$lf"
+done
+{ cat "$top/examples/small.compact" && printf '\204'; } > "$folder/more"
+expect 'an item too many' 1 '' "bad header: trailing$lf" "$folder/more" check
 { cat "$small" && printf '\0'; } > "$folder/more"
 expect 'one byte too many' 1 '' "bad header: trailing$lf" "$folder/more" check
 # A header that claims 2^28 events and has none: answered at once, in little memory.
@@ -409,7 +454,7 @@ for word in --version -V; do
     expect "$word" 0 "spprof 0.1.0$lf" '' /dev/null $word
 done
 shown help 0 help
-for command in check figures profile compare encode; do
+for command in check figures profile compare encode migrate; do
     shown help_of_$command 0 $command --help
     shown help_of_$command 0 $command -h
     shown help_of_$command 0 help $command

@@ -6,7 +6,7 @@
 #include <stdlib.h>
 #include <string.h>
 
-/* What a trace of version 1 can hold. */
+/* What a trace can hold: an event is a record of 16 bytes, or in version 2 an item of at most 13. */
 enum { RECORD_BYTES = 16, HEAD_BYTES = 24, MOST_NAME_BYTES = 200, MOST_NAMES = 65536, MOST_EVENTS = 1 << 28 };
 enum tag { STRAND, CALL, SPAWN, RETURN, SYNC };
 
@@ -19,8 +19,9 @@ struct names {
 };
 static struct names functions, sites;
 
-static unsigned char *records; /* as they will stand in the file */
-static size_t events, room;
+static unsigned char *body; /* the events, as they will stand in the file */
+static size_t events, used, room;
+static int compact; /* they stand there as items, of version 2 */
 static uint64_t blocks, total; /* run since the last event, and before it */
 static uint64_t depth;         /* of open frames, without the root */
 static enum { BEFORE, RECORDING, AFTER } state;
@@ -51,21 +52,46 @@ static void put_word(unsigned char *at, uint32_t word) {
 }
 
 static void grow(void) {
-    size_t more = room == 0 ? 4096 : 2 * room;
-    unsigned char *larger = more > SIZE_MAX / RECORD_BYTES ? NULL : realloc(records, more * RECORD_BYTES);
+    size_t more = room == 0 ? 1 << 16 : 2 * room;
+    unsigned char *larger = more < room ? NULL : realloc(body, more);
     if (!larger) fail(NO_MEMORY, "out of memory", "");
-    records = larger;
+    body = larger;
     room = more;
 }
 
-static void add(enum tag tag, uint32_t first, uint32_t second) {
-    if (events == MOST_EVENTS) fail(WRONG_USE, "more than 2^28 events", "");
-    if (events == room) grow();
-    unsigned char *at = records + RECORD_BYTES * events++;
+/* A record of version 1. Returns how many bytes it has. */
+static size_t put_record(unsigned char *at, enum tag tag, uint32_t first, uint32_t second) {
     put_word(at, (uint32_t)tag << 24);
     put_word(at + 4, tag == STRAND ? 0 : first);
     put_word(at + 8, tag == STRAND ? first : second);
     put_word(at + 12, tag == STRAND ? second : 0);
+    return RECORD_BYTES;
+}
+
+/* A number of version 2: digits of base 64, the highest first, and 64 added to the last. Returns how many there are. */
+static size_t put_number(unsigned char *at, uint64_t number) {
+    size_t digits = 1;
+    while (digits < 11 && number >> (6 * digits) != 0) digits++;
+    for (size_t i = 0; i < digits; i++) at[i] = (number >> (6 * (digits - 1 - i))) & 63;
+    at[digits - 1] += 64;
+    return digits;
+}
+
+/* An item of version 2. Returns how many bytes it has. */
+static size_t put_item(unsigned char *at, enum tag tag, uint32_t first, uint32_t second) {
+    size_t bytes = 1;
+    at[0] = (unsigned char)(128 + tag);
+    if (tag == STRAND) return bytes + put_number(at + bytes, (uint64_t)first << 32 | second);
+    if (tag == RETURN || tag == SYNC) return bytes;
+    bytes += put_number(at + bytes, first);
+    return bytes + put_number(at + bytes, second);
+}
+
+static void add(enum tag tag, uint32_t first, uint32_t second) {
+    if (events == MOST_EVENTS) fail(WRONG_USE, "more than 2^28 events", "");
+    if (room - used < RECORD_BYTES) grow();
+    used += compact ? put_item(body + used, tag, first, second) : put_record(body + used, tag, first, second);
+    events++;
 }
 
 /* Adds the blocks since the last event as a strand, if there were any. */
@@ -122,6 +148,8 @@ void rec_start(const char *function) {
     if (state != BEFORE) fail(WRONG_USE, "REC_START is reached twice", "");
     file_name = getenv("SPPROF_TRACE");
     if (!file_name || !*file_name) file_name = "spprof.sptrace";
+    const char *version = getenv("SPPROF_VERSION");
+    compact = version && strcmp(version, "2") == 0;
     file = fopen(file_name, "wb");
     if (!file) fail_to_write();
     number_of(&functions, function);
@@ -140,13 +168,14 @@ static void write_names(const struct names *names) {
 
 static void write_trace(void) {
     unsigned char head[HEAD_BYTES] = "SPTRACE1"; /* the root's function is number 0 */
+    head[7] = compact ? '2' : '1';
     put_word(head + 8, functions.count);
     put_word(head + 12, sites.count);
     put_word(head + 20, (uint32_t)events);
     fwrite(head, 1, HEAD_BYTES, file);
     write_names(&functions);
     write_names(&sites);
-    fwrite(records, RECORD_BYTES, events, file);
+    fwrite(body, 1, used, file);
     int has_failed = ferror(file);
     if (fclose(file) != 0 || has_failed) fail_to_write();
 }
@@ -158,5 +187,5 @@ void rec_finish(void) {
     state = AFTER;
     if (total == 0) fail(WRONG_USE, "nothing was counted: compile the program with -fsanitize-coverage=trace-pc", "");
     write_trace();
-    free(records);
+    free(body);
 }

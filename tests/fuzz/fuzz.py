@@ -35,6 +35,7 @@ COMMANDS = {
     "figures": ["figures", "--parts", "5", "--workers", "2", "@@"],
     "profile": ["profile", "--parts", "3", "--workers", "2", "@@"],
     "compare": ["compare", "--parts", "2", "--workers", "1", "@@", SMALL],
+    "migrate": ["migrate", "@@"],
 }
 
 # No input is longer: the corpus is to be many small ones.
@@ -45,17 +46,17 @@ MOST_SECONDS = 10
 
 def seeds():
     """Beginnings of the examples, and the small ones whole."""
-    for path in sorted(glob.glob(f"{TOP}/examples/*.sptrace") + glob.glob(f"{TOP}/examples/*.txt") + glob.glob(f"{TOP}/tests/corpus/*")):
+    for path in sorted(glob.glob(f"{TOP}/examples/*.sptrace") + glob.glob(f"{TOP}/examples/*.compact") + glob.glob(f"{TOP}/examples/*.txt") + glob.glob(f"{TOP}/tests/corpus/*")):
         with open(path, "rb") as file:
             data = file.read()
         if not path.endswith("answers.txt"):
             yield data[:MOST_BYTES]
 
 
-def run(words):
+def run(words, data=b""):
     """The status, output and messages of a run; none where it takes too long."""
     try:
-        ran = subprocess.run([SPPROF, *words], stdin=subprocess.DEVNULL, capture_output=True, timeout=MOST_SECONDS)
+        ran = subprocess.run([SPPROF, *words], input=data, capture_output=True, timeout=MOST_SECONDS)
     except subprocess.TimeoutExpired:
         return None
     return ran.returncode, ran.stdout, ran.stderr
@@ -76,6 +77,8 @@ def findings(path):
             return f"{name} and check don't say the same"
     if told["compare"][0] != status or (err and told["compare"][2] != b"before: " + err):
         return "compare and check don't say the same"
+    if told["migrate"][0] == 0 and run(["check"], told["migrate"][1]) != told["check"]:
+        return "check doesn't say the same of what migrate wrote"
     return None
 
 

@@ -84,7 +84,7 @@ fn has_marks<R: Threads + Wait + Sync>(
 }
 
 /// Whether all crews answer the call rightly.
-fn all_answer<R: Threads + Wait + Sync>(
+pub(crate) fn all_answer<R: Threads + Wait + Sync>(
     rt: &R,
     alloc: Global,
     cut: &Cut<'_, '_>,
@@ -104,8 +104,8 @@ fn all_answer<R: Threads + Wait + Sync>(
     true
 }
 
-/// Whether all crews answer the call rightly where the run is in parts of one event, and in 1, 2, 3 and 7 even parts; none
-/// where an allocation failed.
+/// Whether all crews answer the call rightly where the run is in parts of one event, and in 1, 2, 3 and 7 even parts;
+/// none where an allocation failed.
 fn is_answered<R: Threads + Wait + Sync>(
     rt: &R,
     alloc: Global,
@@ -149,8 +149,8 @@ fn the_events_on_the_path_are_marked(rt: HostRuntime) -> Result<(), Fail> {
     Ok(())
 }
 
-/// Whether all crews answer the call rightly for a thousand frames within one another, opened by that event, in parts of
-/// one event; none where an allocation failed.
+/// Whether all crews answer the call rightly for a thousand frames within one another, opened by that event, in parts
+/// of one event; none where an allocation failed.
 fn deep_run_is_answered<R: Threads + Wait + Sync>(
     rt: &R,
     alloc: Global,

@@ -10,6 +10,8 @@ mod calls;
 #[cfg(test)]
 mod choices;
 #[cfg(test)]
+mod compact;
+#[cfg(test)]
 mod counting;
 #[cfg(test)]
 mod faults;

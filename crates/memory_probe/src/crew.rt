@@ -1,11 +1,10 @@
 //! The calls of a crew: two workers share the parts of a trace.
 
-use super::{Answer, trace_in};
+use super::{Answer, of_fault, trace_in};
 use spp_crew::{OpenGate, figures, marks, profile};
 use spp_cut::{Cut, Parts, cut_even};
 use spp_dag::Figures;
 use spp_event::{Event, trace_of};
-use spp_frame::ProfileFault;
 use spp_maxplus::Burdens;
 use std::alloc::Global;
 use std::sync::Wait;
@@ -45,14 +44,6 @@ pub enum Task {
     Marks,
 }
 
-/// What a call answers that failed.
-fn of_fault(fault: ProfileFault) -> Answer {
-    match fault {
-        ProfileFault::Memory => Answer::Memory,
-        ProfileFault::Bad(_) => Answer::Other,
-    }
-}
-
 fn good_if(is_right: bool) -> Answer {
     if is_right {
         Answer::Good
@@ -68,8 +59,8 @@ fn measured<R: Threads + Wait + Sync>(rt: &R, alloc: Global, cut: &Cut<'_, '_>) 
     }
 }
 
-/// The path without burdens goes through the first child, which has 4 instructions, and that under them through the second,
-/// which has 2.
+/// The path without burdens goes through the first child, which has 4 instructions, and that under them through the
+/// second, which has 2.
 fn profiled<R: Threads + Wait + Sync>(rt: &R, alloc: Global, cut: &Cut<'_, '_>) -> Answer {
     match profile(rt, alloc, cut, WORKERS, Burdens::equal(3), &OpenGate) {
         Ok(profile) => good_if(

@@ -1,10 +1,11 @@
-//! Calls the functions that allocate and that commands stand on, those of a book and those of a crew, each twice, and prints
-//! what they answer: for the test that refuses one request for memory after the other.
+//! Calls the functions that allocate and that commands stand on, those of a book and those of a crew, each twice, and
+//! prints what they answer: for the test that refuses one request for memory after the other.
 #![tactic(auto)]
 
 ghost use Rattle.std.specs.Prelude.{◌≡◌};
 
 mod book;
+mod compact;
 mod crew;
 mod parts;
 mod tables;
@@ -115,13 +116,21 @@ fn first(answer: Result<Answer, Answer>) -> Answer {
     }
 }
 
+/// What a call answers that failed.
+fn of_fault(fault: ProfileFault) -> Answer {
+    match fault {
+        ProfileFault::Memory => Answer::Memory,
+        ProfileFault::Bad(_) => Answer::Other,
+    }
+}
+
 /// The answer of a call, or want of memory.
 fn or_memory(answer: Result<Answer, AllocError>) -> Answer {
     answer.unwrap_or(Answer::Memory)
 }
 
-fn opened(alloc: Global) -> Answer {
-    match open_trace(alloc, TRACE) {
+fn opened(alloc: Global, bytes: &[u8]) -> Answer {
+    match open_trace(alloc, bytes) {
         Ok(trace) if check(&trace) == Ok(17) => Answer::Good,
         Err(HeaderFault::Memory) => Answer::Memory,
         _ => Answer::Other,
@@ -275,7 +284,7 @@ fn print(rt: &impl Print, call: &str, answer: Answer) -> io::Result<()> {
 
 /// Those over the bytes and the text of a trace, and over a source.
 fn print_traces(rt: &impl Print, alloc: Global) -> io::Result<()> {
-    print(rt, "open_trace", opened(alloc))?;
+    print(rt, "open_trace", opened(alloc, TRACE))?;
     print(rt, "print_text", first(printed(alloc)))?;
     print(rt, "parse_text", parsed(alloc))?;
     print(rt, "parse_text, a fault", misparsed(alloc))?;
@@ -285,6 +294,14 @@ fn print_traces(rt: &impl Print, alloc: Global) -> io::Result<()> {
     print(rt, "read_all", of_reading(all))?;
     let within = read_within(alloc, &mut InSource::new(TRACE), 100, 2);
     print(rt, "read_within", of_reading(within))
+}
+
+/// Those over a trace of version 2.
+fn print_compact(rt: &impl Print, alloc: Global) -> io::Result<()> {
+    print(rt, "open_trace, version 2", opened(alloc, compact::SMALL))?;
+    print(rt, "migrate", first(compact::written(alloc)))?;
+    print(rt, "compact_of", compact::spelled(alloc))?;
+    print(rt, "cut_bytes", first(compact::cut(alloc)))
 }
 
 /// Those of tables, and of the texts that they are told in.
@@ -324,6 +341,7 @@ fn main(rt: HostRuntime) -> io::Result<()> {
     let alloc = rt.alloc();
     for _ in 0..2 {
         print_traces(&rt, alloc)?;
+        print_compact(&rt, alloc)?;
         print_tables(&rt, alloc)?;
         print_parts(&rt, alloc)?;
         print_crews(&rt, alloc)?;

@@ -7,7 +7,7 @@ ghost use Rattle.spp_jobs.specs.Choices.{AreChoicesOf};
 ghost use Rattle.spp_jobs.specs.Tables.{IsRun};
 ghost use Rattle.spp_stack.specs.Parts.{AreEntriesOf};
 
-use super::{Answer, trace_in};
+use super::{Answer, of_fault, trace_in};
 use spp_book::{Job, JoinRefused};
 use spp_crew::{OpenGate, survey, tabled};
 use spp_cut::{Cut, CutFault, Parts, cut_at, cut_even};
@@ -156,14 +156,6 @@ fn is_tabled(told: &Tabled) -> bool {
         None => false,
     };
     returns && told.choices.len() == 2 && told.share.row_count() > 0
-}
-
-/// What a call answers that failed.
-fn of_fault(fault: ProfileFault) -> Answer {
-    match fault {
-        ProfileFault::Memory => Answer::Memory,
-        ProfileFault::Bad(_) => Answer::Other,
-    }
 }
 
 fn counted<R: Threads + Wait + Sync>(

@@ -6,4 +6,5 @@ mod devices;
 mod encodes;
 mod fakes;
 mod figures;
+mod migrates;
 mod runs;

@@ -15,7 +15,7 @@ use Rattle.clap.specs.declared.parser.matches.SubCommand.{SubCommand}
 use Rattle.clap.specs.declared.parser.matches.ArgMatches.TheViews.{out-SubCommand}
 use Rattle.clap.proofs.OnLiterals.{clap_on_literals}
 use Rattle.spp_request.specs.declared.request.Command.{Command}
-use Rattle.spp_request.specs.declared.request.Command.TheVariants.{Check, Figures, Profile, Compare, Encode}
+use Rattle.spp_request.specs.declared.request.Command.TheVariants.{Check, Figures, Profile, Compare, Encode, Migrate}
 use Rattle.spp_request.specs.declared.request.UsageFault.{UsageFault}
 use Rattle.spp_request.specs.declared.request.UsageFault.TheVariants.{Shown, Memory}
 use Rattle.spp_command_line.specs.Spprof.{spprof}
@@ -77,7 +77,8 @@ entered_is_command (Some p) name rows e = elim (found_has_name (λ s. answers_to
   | inr (inr (inl is)) ↦ (Profile, sym is)
   | inr (inr (inr (inl is))) ↦ (Compare, sym is)
   | inr (inr (inr (inr (inl is)))) ↦ (Encode, sym is)
-  | inr (inr (inr (inr (inr none)))) ↦ absurd none
+  | inr (inr (inr (inr (inr (inl is))))) ↦ (Migrate, sym is)
+  | inr (inr (inr (inr (inr (inr none))))) ↦ absurd none
 ]
 
 pub command_named : (words : List Text) (name : Text) (rows : List Row)

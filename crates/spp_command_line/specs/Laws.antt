@@ -7,7 +7,7 @@ use Rattle.clap.specs.Faults.{fault_of}
 use Rattle.clap.specs.declared.error.kind.ErrorKind.{ErrorKind}
 use Rattle.clap.specs.declared.error.kind.ErrorKind.TheVariants.{DisplayHelp, DisplayVersion, MissingRequiredArgument, MissingSubcommand, UnknownArgument, ValueValidation}
 use Rattle.spp_request.specs.declared.request.Command.{Command}
-use Rattle.spp_request.specs.declared.request.Command.TheVariants.{Check, Figures, Profile, Compare, Encode}
+use Rattle.spp_request.specs.declared.request.Command.TheVariants.{Check, Figures, Profile, Compare, Encode, Migrate}
 use Rattle.spp_request.specs.declared.request.Request.{Request}
 use Rattle.spp_maxplus.specs.declared.state.Burdens.{Burdens}
 use Rattle.spp_maxplus.specs.State.{equal}
@@ -32,6 +32,7 @@ name_of Figures = codes "figures"
 name_of Profile = codes "profile"
 name_of Compare = codes "compare"
 name_of Encode = codes "encode"
+name_of Migrate = codes "migrate"
 
 -- all commands but `compare` are over one input
 abbrev pub IsOverOne : Command → Type 0

@@ -68,6 +68,7 @@ commands = over_file (codes "check") []
     ∷ over_file (codes "profile") (burden_rule ∷ join_burden_rule ∷ parts_rule ∷ workers_rule ∷ csv_rule ∷ [])
     ∷ over_both (codes "compare") (burden_rule ∷ join_burden_rule ∷ parts_rule ∷ workers_rule ∷ [])
     ∷ over_file (codes "encode") []
+    ∷ over_file (codes "migrate") []
     ∷ []
 
 -- the command line: --version beside --help, one of the commands is wanted, and no word `help` is one

@@ -10,7 +10,7 @@ use Rattle.clap.specs.declared.error.kind.ErrorKind.{ErrorKind}
 use Rattle.clap.specs.declared.error.kind.ErrorKind.TheVariants.{DisplayHelp, DisplayVersion}
 use Rattle.spp_maxplus.specs.declared.state.Burdens.{Burdens}
 use Rattle.spp_request.specs.declared.request.Command.{Command}
-use Rattle.spp_request.specs.declared.request.Command.TheVariants.{Check, Figures, Profile, Compare, Encode}
+use Rattle.spp_request.specs.declared.request.Command.TheVariants.{Check, Figures, Profile, Compare, Encode, Migrate}
 use Rattle.spp_request.specs.declared.request.Request.{Request}
 use Rattle.spp_request.specs.declared.request.UsageFault.{UsageFault}
 use Rattle.spp_request.specs.declared.request.UsageFault.TheVariants.{Shown, Memory}
@@ -41,6 +41,7 @@ IsNamed name Figures = name ≡ codes "figures"
 IsNamed name Profile = name ≡ codes "profile"
 IsNamed name Compare = name ≡ codes "compare"
 IsNamed name Encode = name ≡ codes "encode"
+IsNamed name Migrate = name ≡ codes "migrate"
 
 -- the file of a command over one input: none where no file is named, or `-`
 abbrev pub path_of : Option (List ℕ) → List (List ℕ)

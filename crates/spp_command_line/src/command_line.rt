@@ -37,7 +37,8 @@ Exit status:
 /// The help for the file of a command over a trace.
 const THE_TRACE: &str = "The trace; without it, or as -, standard input is read";
 
-/// A command over one input: its name, what it is about, the help for its file, and an example to stand behind its help.
+/// A command over one input: its name, what it is about, the help for its file, and an example to stand behind its
+/// help.
 fn command_over<'a>(
     alloc: Global,
     name: &'a str,
@@ -190,7 +191,8 @@ fn profile<'a>(alloc: Global) -> Result<Command<'a>, AllocError>
     .arg(csv(alloc))
 }
 
-/// A command over two files, both of which must be named: the trace of a run before a change, and that of a run after it.
+/// A command over two files, both of which must be named: the trace of a run before a change, and that of a run after
+/// it.
 fn command_over_both<'a>(
     alloc: Global,
     name: &'a str,
@@ -239,6 +241,21 @@ fn encode<'a>(alloc: Global) -> Result<Command<'a>, AllocError>
     )
 }
 
+fn migrate<'a>(alloc: Global) -> Result<Command<'a>, AllocError>
+    ensures { IfOk result (IsAt (over_file (codes "migrate") [])) }
+{
+    command_over(
+        alloc,
+        "migrate",
+        "Convert a trace to version 2 of the format, which is compact",
+        THE_TRACE,
+        "Example:
+  spprof migrate run.trace > run.compact
+
+'spprof help' lists the exit statuses",
+    )
+}
+
 /// The whole command line. It lives as long as the words that it is to read.
 pub(crate) fn command_line<'a>(alloc: Global) -> Result<Command<'a>, AllocError>
     ensures { IfOk result (λ c. app_of c ≡ spprof) }
@@ -253,5 +270,6 @@ pub(crate) fn command_line<'a>(alloc: Global) -> Result<Command<'a>, AllocError>
         .subcommand(figures(alloc)?)?
         .subcommand(profile(alloc)?)?
         .subcommand(compare(alloc)?)?
-        .subcommand(encode(alloc)?)
+        .subcommand(encode(alloc)?)?
+        .subcommand(migrate(alloc)?)
 }

@@ -43,6 +43,7 @@ fn command_of(name: &str) -> Option<Command>
         "profile" => Some(Command::Profile),
         "compare" => Some(Command::Compare),
         "encode" => Some(Command::Encode),
+        "migrate" => Some(Command::Migrate),
         _ => None,
     }
 }

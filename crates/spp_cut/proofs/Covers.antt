@@ -8,7 +8,6 @@ use Rattle.std.proofs.Math.Seq.{get_or-append_seam}
 use Rattle.std.proofs.lemmas.List.{get_or_append_left}
 use Rattle.spp_event.specs.Recordings.{Recording}
 use Rattle.spp_cut.specs.Parts.{PartOf, part_of, Cover}
-use Rattle.spp_cut.specs.Cuts.{AreGoodTo}
 
 pub cover_more : (t : Recording) (number from mid end : ℕ) (ps : List PartOf) → Cover t number from ps mid → mid ≤ end
     → Cover t number from (ps ++ part_of t (number + length ps) mid (end - mid) ∷ []) end
@@ -53,29 +52,6 @@ first_more t n first d f ps qs len is h more k p lt = elim (cases_eq k n) [
       ap (λ l. (get_or l k p).first) more
       ∙ ap (λ (x : PartOf). x.first) (get_or_append_left ps (part_of t n first d ∷ []) p k (omega arith))
       ∙ h k p (omega arith)
-]
-
--- a good cut isn't below where the part before it begins, and the last isn't behind the end
-pub next_above : (events n first : ℕ) (cuts : List ℕ) → AreGoodTo events cuts (length cuts) → n < length cuts
-    → (n ≡ 0 → first ≡ 0) → (0 < n → first ≡ get_or cuts (n - 1) 0) → first ≤ get_or cuts n 0
-next_above events n first cuts good lt start last = elim (cases_eq n 0) [
-  | inl e ↦ let z = start e in omega arith
-  | inr e ↦
-      let pos : 0 < n = omega arith in
-      let l : first ≡ get_or cuts (n - 1) 0 = last pos in
-      let up : get_or cuts (n - 1) 0 < get_or cuts n 0 = (good n lt).1 pos in
-      omega arith
-]
-
-pub last_within : (events n first : ℕ) (cuts : List ℕ) → AreGoodTo events cuts (length cuts) → n ≤ length cuts
-    → (n ≡ 0 → first ≡ 0) → (0 < n → first ≡ get_or cuts (n - 1) 0) → first ≤ events
-last_within events n first cuts good le start last = elim (cases_eq n 0) [
-  | inl e ↦ let z = start e in omega arith
-  | inr e ↦
-      let pos : 0 < n = omega arith in
-      let l : first ≡ get_or cuts (n - 1) 0 = last pos in
-      let in_range : get_or cuts (n - 1) 0 ≤ events = (good (n - 1) (omega arith)).0 in
-      omega arith
 ]
 
 -- even steps rise, and the last is the end

@@ -1,3 +1,4 @@
 pub mod Covers
 pub mod Whole
 pub mod Halves
+pub mod Orders

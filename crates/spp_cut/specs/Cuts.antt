@@ -1,7 +1,9 @@
 -- Where a trace is cut, and which cuts are refused.
-use Rattle.std.specs.Prelude.{◌≡◌, ℕ, ◌-◌, ◌*◌, ◌/◌, ◌<◌, ◌≤◌, List, ◌∷◌, length, map, slice_index_or}
+use Rattle.std.specs.Prelude.{◌≡◌, ℕ, ◌-◌, ◌*◌, ◌/◌, ◌<◌, ◌≤◌, List, [], ◌∷◌, length, map, take, slice_index_or}
 use Rattle.spp_cut.specs.declared.cutting.CutFault.{CutFault}
 use Rattle.spp_cut.specs.declared.cutting.CutFault.TheVariants.{TooMany, OutOfRange, NotRising, Memory}
+use Rattle.spp_event.specs.Items.{items}
+use Rattle.spp_event.specs.Recordings.{Recording}
 use Rattle.spp_cut.specs.Parts.{PartOf}
 
 -- n parts, of which part k begins at the k-th of n even steps through the events, rounded down
@@ -12,6 +14,15 @@ AreEven events n ps = (length ps ≡ n)
 -- the first part begins at 0, and the next ones at the cuts
 abbrev pub BeginAt : List ℕ → List PartOf → Type 0
 BeginAt cuts ps = map (λ p. p.first) ps ≡ 0 ∷ cuts
+
+-- the positions don't fall from one to the next: the first isn't below `from`, and the last isn't above `end`
+abbrev pub AreInOrder : ℕ → List ℕ → ℕ → Type 0
+AreInOrder from [] end = from ≤ end
+AreInOrder from (cut ∷ cuts) end = (from ≤ cut) × AreInOrder cut cuts end
+
+-- how many events of a trace in version 2 come before that byte of its body: as many as have an item that begins before it
+abbrev pub events_before : Recording → ℕ → ℕ
+events_before t offset = length (items (take offset t.body))
 
 -- the cut at that place is in the range, and above the one before it
 abbrev pub IsInRange : ℕ → List ℕ → ℕ → Type 0

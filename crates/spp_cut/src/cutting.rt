@@ -2,7 +2,7 @@
 
 ghost use Rattle.std.specs.Prelude.{◌≡◌, ◌-◌, ◌<◌, ◌≤◌, ◌∷◌, ◌++◌, [], flat_map, length, IfOk, IfErr, OnOk, Some};
 ghost use Rattle.spp_cut.specs.Parts.{IsCut, HasFewParts, part_of, events_in, records_in};
-ghost use Rattle.spp_cut.specs.Cuts.{AreEven, BeginAt, AreGoodTo, IsCutFault};
+ghost use Rattle.spp_cut.specs.Cuts.{AreEven, AreInOrder, BeginAt, AreGoodTo, IsCutFault};
 ghost use Rattle.spp_cut.specs.Texts.{cut_fault_text};
 ghost use Rattle.spp_cut.specs.declared.cutting.CutFault.TheVariants.{Memory as MemoryFault};
 
@@ -15,7 +15,7 @@ use std::marker::Model;
 use thiserror::Error;
 
 /// The most cuts: one less than the most parts.
-const MOST_CUTS: usize = 65535;
+pub(crate) const MOST_CUTS: usize = 65535;
 
 /// A trace, and 1 to 65,536 parts of it that hold its events in order, each once.
 #[derive(Drop)]
@@ -62,7 +62,7 @@ impl<'t, 'a> Cut<'t, 'a> {
 pub enum CutFault {
     /// There are more than 65,535 cuts.
     TooMany,
-    /// The cut at this place in the list is above the number of events; all before it are good.
+    /// The cut at this place in the list is above the number of events, or of bytes; all before it are good.
     OutOfRange {
         /// The place.
         index: u32,
@@ -168,6 +168,30 @@ fn check_cuts(events: u32, cuts: &[u32]) -> Result<(), CutFault>
     Ok(())
 }
 
+/// The parts of a trace that begin at its first event and at these positions, in time and memory linear in their
+/// number.
+pub(crate) fn parts_at<'t, 'a>(
+    alloc: Global,
+    trace: &'t Trace<'a>,
+    positions: &[u32],
+) -> Result<Cut<'t, 'a>, AllocError>
+    requires few { length positions.now ≤ 65535 }
+    requires in_order { AreInOrder 0 positions.now (length trace.now.records) }
+    ensures trace { IfOk result (λ c. c.trace ≡ trace.now) }
+    ensures cut { IfOk result IsCut }
+    ensures begins { IfOk result (λ c. BeginAt positions.now c.parts) }
+{
+    let events = trace.count();
+    let mut parts = Vec::with_capacity(alloc, positions.len() + 1)?;
+    let mut first = 0;
+    for (number, end) in positions.iter().enumerate() {
+        push_part(&mut parts, trace, number as u32, first, *end)?;
+        first = *end;
+    }
+    push_part(&mut parts, trace, positions.len() as u32, first, events)?;
+    Ok(Cut { trace, parts })
+}
+
 /// Cuts a trace at these positions, each 0 to the number of events and above the one before it: n cuts make n + 1
 /// parts. It takes time and memory linear in the number of cuts.
 ///
@@ -187,14 +211,6 @@ pub fn cut_at<'t, 'a>(
     ensures begins { IfOk result (λ c. BeginAt cuts.now c.parts) }
     ensures fault { IfErr result (λ f. IsCutFault (length trace.now.records) cuts.now f) }
 {
-    let events = trace.count();
-    check_cuts(events, cuts)?;
-    let mut parts = Vec::with_capacity(alloc, cuts.len() + 1)?;
-    let mut first = 0;
-    for (number, cut) in cuts.iter().enumerate() {
-        push_part(&mut parts, trace, number as u32, first, *cut)?;
-        first = *cut;
-    }
-    push_part(&mut parts, trace, cuts.len() as u32, first, events)?;
-    Ok(Cut { trace, parts })
+    check_cuts(trace.count(), cuts)?;
+    Ok(parts_at(alloc, trace, cuts)?)
 }

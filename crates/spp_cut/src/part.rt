@@ -2,9 +2,10 @@
 
 ghost use Rattle.std.specs.Prelude.{◌≡◌, ◌+◌, ◌<◌, ◌≤◌, length, IfOk, IsOk, Ok};
 ghost use Rattle.spp_event.specs.Records.{IsEventOf};
+ghost use Rattle.spp_event.specs.Readers.{Stands};
 ghost use Rattle.spp_event.specs.Recordings.{InLimits, AreEventsOf, record_at};
 
-use spp_event::{Event, EventFault, Trace};
+use spp_event::{Event, EventFault, Events, Reader, Trace};
 use std::marker::Model;
 
 /// A run of events of one trace, which it borrows: some events from a position on.
@@ -74,11 +75,12 @@ impl<'t, 'a> Part<'t, 'a> {
         self.count
     }
 
-    /// The event at `k` among its events, as its trace has it at that position. It takes no memory and a constant time.
+    /// The event at `k` among its events, as its trace has it at that position. It takes no memory, and the time of
+    /// [`Trace::event_at`]: to read events in order, take [`Part::events`].
     ///
     /// # Errors
     ///
-    /// The first fault of the record, in the order of [`EventFault`].
+    /// The first fault of its bytes, in the order of [`EventFault`].
     #[inline(always)]
     pub fn event_at(&self, k: u32) -> Result<Event, EventFault>
         requires { k < self.now.count }
@@ -88,15 +90,43 @@ impl<'t, 'a> Part<'t, 'a> {
         self.trace.event_at(self.first + k)
     }
 
-    /// The event at `k` among its events, where one is known to stand: what its tag and its numbers say. It leaves out
-    /// the tests that [`Part::event_at`] makes.
+    /// What reads its events in order. In a trace of version 2 it walks over 63 items at most to the first, also where
+    /// it has no events.
     #[inline(always)]
-    pub fn known_event(&self, k: u32) -> Event
+    pub fn events(&self) -> Events
+        ensures { Stands result self.now.trace self.now.first }
+    {
+        Events::from(self.trace, self.first)
+    }
+
+    /// The event at `k` among its events, by a reader that stands there, and stands behind it then. It takes no memory,
+    /// and the time of [`Reader::read`].
+    ///
+    /// # Errors
+    ///
+    /// The first fault of its bytes, in the order of [`EventFault`].
+    #[inline(always)]
+    pub fn read_at<R: Reader>(&self, events: &mut R, k: u32) -> Result<Event, EventFault>
+        requires inside { k < self.now.count }
+        requires here { R.stands events.old self.now.trace (self.now.first + k) }
+        ensures said { result ≡ record_at self.now.trace.records (self.now.first + k) }
+        ensures within { IfOk result (λ e. IsEventOf (length self.now.trace.sites) (length self.now.trace.funcs) e) }
+        ensures next { R.stands events.new self.now.trace (self.now.first + k + 1) }
+    {
+        events.read(self.trace, self.first + k)
+    }
+
+    /// The event at `k` among its events, where one is known to stand, by a reader that stands there, and stands behind
+    /// it then. It is told as [`Reader::read_known`] tells it.
+    #[inline(always)]
+    pub fn read_known_at<R: Reader>(&self, events: &mut R, k: u32) -> Event
         requires inside { k < self.now.count }
         requires good { IsOk (record_at self.now.trace.records (self.now.first + k)) }
+        requires here { R.stands events.old self.now.trace (self.now.first + k) }
         ensures said { record_at self.now.trace.records (self.now.first + k) ≡ Ok result }
         ensures within { IsEventOf (length self.now.trace.sites) (length self.now.trace.funcs) result }
+        ensures next { R.stands events.new self.now.trace (self.now.first + k + 1) }
     {
-        self.trace.known_event(self.first + k)
+        events.read_known(self.trace, self.first + k)
     }
 }

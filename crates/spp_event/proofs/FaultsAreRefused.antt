@@ -1,5 +1,5 @@
 -- What has a fault by the relations is refused by the checks with that fault. So a fault is the only one.
-use Rattle.std.proofs.Common.{◌≡◌, ℕ, zero, suc, ◌+◌, ◌-◌, ◌*◌, ◌≤◌, ◌<◌, ◌⊎◌, Bool, true, false, eqb, ltb, ◌||◌, List, [], ◌∷◌, ◌++◌, length, get_or, take, drop, Ok, Err, refl, sym, ap, subst, ◌∙◌, append_assoc, arith, inl, inr}
+use Rattle.std.proofs.Common.{◌≡◌, ℕ, zero, suc, ◌+◌, ◌-◌, ◌≤◌, ◌<◌, ◌⊎◌, Bool, true, false, eqb, ltb, ◌||◌, List, [], ◌∷◌, ◌++◌, length, get_or, take, drop, Ok, Err, refl, sym, ap, subst, ◌∙◌, append_assoc, arith, inl, inr}
 use Rattle.std.specs.Prelude.{Contains}
 use Rattle.std.specs.List.{flat_map, list_any, AllByRecursion}
 use Rattle.std.specs.Int.{IsInRange}
@@ -10,7 +10,8 @@ use Rattle.std.proofs.lemmas.List.Concat.{flat_map-cons, flat_map-append}
 use Rattle.std.proofs.lemmas.Slice.Eq.{bytes_eq-Decides}
 use Rattle.spp_event.specs.declared.header.HeaderFault.{HeaderFault}
 use Rattle.spp_event.specs.declared.header.HeaderFault.TheVariants.{Short, Magic, Limits, Name, SameName, RootFunc, Trailing, Memory}
-use Rattle.spp_event.specs.Header.{magic, name_spelling, root_name, IsName, AreApart, name_len, funcs_in, sites_in, events_in, root_in, IsWithinLimits, HasGoodHead, HasNames, WantsName, EndsInName, HasBadName, IsHeaderFault}
+use Rattle.spp_event.specs.Recordings.{room, filled}
+use Rattle.spp_event.specs.Header.{magic, version_in, name_spelling, root_name, IsName, AreApart, name_len, funcs_in, sites_in, events_in, root_in, IsWithinLimits, HasGoodHead, HasNames, WantsName, EndsInName, HasBadName, IsHeaderFault}
 use Rattle.spp_event.specs.Checks.{is_printable, is_taken, are_limits, name_at, funcs_at, sites_at, trace_at}
 use Rattle.spp_event.proofs.TakenFromFront.{printable}
 use Rattle.spp_event.proofs.TracesPass.{name_again, limits_again, differs, Cross, cross_none, cross_more, is_free}
@@ -127,7 +128,7 @@ good_head bytes h =
     let n = l.events in
     record {
       long = h.long;
-      magic = (bytes_eq-Decides (take 8 bytes) magic).1 h.magic;
+      magic = (bytes_eq-Decides (take 8 bytes) (magic (version_in bytes))).1 h.magic;
       f_is = refl;
       s_is = refl;
       r_is = refl;
@@ -229,7 +230,7 @@ same_name_again bytes names name rest h few le good before =
     ∙ sites_same_at (drop (funcs_in bytes) names) name (sites_in bytes - length (drop (funcs_in bytes) names)) (funcs_in bytes) rest (omega arith) good (taken_again (drop (funcs_in bytes) names) name before)
     ∙ ap (λ (k : ℕ). Err (SameName k)) (sym both))
 
-trailing_again : (bytes : List ℕ) (names : List (List ℕ)) (rest : List ℕ) → HasNames bytes names rest → length names ≡ funcs_in bytes + sites_in bytes → 16 * events_in bytes < length rest → trace_at bytes ≡ Err Trailing
+trailing_again : (bytes : List ℕ) (names : List (List ℕ)) (rest : List ℕ) → HasNames bytes names rest → length names ≡ funcs_in bytes + sites_in bytes → room (version_in bytes) (events_in bytes) < filled (version_in bytes) rest → trace_at bytes ≡ Err Trailing
 unfolding sites_at
 trailing_again bytes names rest h all more =
     let p = take (funcs_in bytes) names in
@@ -252,9 +253,9 @@ pub fault_again : (bytes : List ℕ) (e : HeaderFault) → IsHeaderFault bytes e
 unfolding trace_at
 fault_again bytes Short (inl lt) = rw (lt-ltb (length bytes) 24 lt) refl
 fault_again bytes Short (inr h) = name_fault_again bytes h.0 h.1 Short h.2 h.3 h.4
-fault_again bytes Magic h = rw (le-ltb (length bytes) 24 h.0, differs (take 8 bytes) magic h.1) refl
-fault_again bytes Limits h = let same = (bytes_eq-Decides (take 8 bytes) magic).1 h.1 in rw (le-ltb (length bytes) 24 h.0, same, limits_broken bytes h.2) refl
-fault_again bytes RootFunc h = let same = (bytes_eq-Decides (take 8 bytes) magic).1 h.1 in rw (le-ltb (length bytes) 24 h.0, same, limits_kept bytes h.2, le-leb (funcs_in bytes) (root_in bytes) h.3) refl
+fault_again bytes Magic h = rw (le-ltb (length bytes) 24 h.0, differs (take 8 bytes) (magic (version_in bytes)) h.1) refl
+fault_again bytes Limits h = let same = (bytes_eq-Decides (take 8 bytes) (magic (version_in bytes))).1 h.1 in rw (le-ltb (length bytes) 24 h.0, same, limits_broken bytes h.2) refl
+fault_again bytes RootFunc h = let same = (bytes_eq-Decides (take 8 bytes) (magic (version_in bytes))).1 h.1 in rw (le-ltb (length bytes) 24 h.0, same, limits_kept bytes h.2, le-leb (funcs_in bytes) (root_in bytes) h.3) refl
 fault_again bytes (Name number) h = name_fault_again bytes h.0 h.1 (Name number) h.2 h.3 (h.4, h.5)
 fault_again bytes (SameName number) h =
     let same = h.5 in

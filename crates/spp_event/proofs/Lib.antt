@@ -1,3 +1,6 @@
+pub mod ItemNumbers
+pub mod ItemsRead
+pub mod ItemPlaces
 pub mod RecordsByTag
 pub mod RecordBytes
 pub mod RecordPlaces
@@ -11,6 +14,11 @@ pub mod RefusalsAreFaults
 pub mod OpenTraceAnswers
 pub mod FaultsAreRefused
 pub mod HeaderLaws
+pub mod ItemCounts
+pub mod ItemBodies
+pub mod ItemFronts
+pub mod MigratedBytes
+pub mod TraceViews
 pub mod GoodRecords
 pub mod KnownRecords
 pub mod WrittenBytes

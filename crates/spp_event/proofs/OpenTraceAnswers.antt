@@ -10,7 +10,7 @@ use Rattle.spp_event.proofs.TakenFromFront.{IsBytes}
 use Rattle.spp_event.proofs.PassersAreTraces.{trace_found}
 use Rattle.spp_event.proofs.RefusalsAreFaults.{trace_refused}
 
-pub is_found : (bytes : List ℕ) (r : Result Recording HeaderFault) → IsBytes bytes → Gives (λ t. t) r (trace_at bytes) → IfOk r (λ t. (body : List ℕ) × IsTraceOf bytes t body)
+pub is_found : (bytes : List ℕ) (r : Result Recording HeaderFault) → IsBytes bytes → Gives (λ t. t) r (trace_at bytes) → IfOk r (λ t. IsTraceOf bytes t)
 is_found bytes (Ok t) fits given = trace_found bytes t fits given
 is_found bytes (Err e) fits given = tt
 

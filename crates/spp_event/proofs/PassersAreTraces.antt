@@ -1,5 +1,5 @@
 -- What passes the checks is a trace.
-use Rattle.std.proofs.Common.{◌≡◌, ℕ, ◌+◌, ◌*◌, ◌≤◌, ◌<◌, true, not, ltb, leb, ◌&&◌, List, [], ◌++◌, length, take, drop, Ok, refl, sym, ap, subst, ◌∙◌, arith}
+use Rattle.std.proofs.Common.{◌≡◌, ℕ, ◌+◌, ◌≤◌, ◌<◌, true, not, ltb, leb, ◌&&◌, List, [], ◌++◌, length, take, drop, Ok, refl, sym, ap, subst, ◌∙◌, arith}
 use Rattle.std.specs.List.{flat_map, AllByRecursion}
 use Rattle.std.specs.Str.{bytes_eq}
 use Rattle.std.proofs.lemmas.Bool.{ltb-true, ltb-false, leb-true, leb-false, and_parts, not-false}
@@ -8,9 +8,9 @@ use Rattle.std.proofs.lemmas.Nat.{be_bytes_4}
 use Rattle.std.proofs.lemmas.Slice.Eq.{bytes_eq-Decides}
 use Rattle.spp_event.specs.declared.header.HeaderFault.TheVariants.{Short, Magic, Limits, RootFunc, Trailing}
 use Rattle.spp_event.specs.Records.{word, word_at}
-use Rattle.spp_event.specs.Recordings.{Recording, records_of}
-use Rattle.spp_event.specs.Header.{magic, name_spelling, header_spelling, IsName, IsTraceOf}
-use Rattle.spp_event.specs.Checks.{are_limits, funcs_at, sites_at, trace_at}
+use Rattle.spp_event.specs.Recordings.{Recording, records_of, room, filled}
+use Rattle.spp_event.specs.Header.{magic, version_in, name_spelling, header_spelling, IsName, IsTraceOf}
+use Rattle.spp_event.specs.Checks.{trace_by, are_limits, funcs_at, sites_at, trace_at}
 use Rattle.spp_event.proofs.RecordPlaces.{length-records_of}
 use Rattle.spp_event.proofs.TakenFromFront.{IsBytes, IsBytes-drop, IsBytes-take, bind_ok, guard_ok, ok_is, Takes, Takes-then, funcs_take, sites_take}
 
@@ -36,7 +36,7 @@ limited f s n e =
 
 -- the parts of a header, as they are taken one after the other
 abbrev parts : ℕ → ℕ → ℕ → Recording → List ℕ
-parts f s n t = magic ++ (word f ++ (word s ++ (word t.root ++ (word n ++ (flat_map name_spelling t.funcs ++ flat_map name_spelling t.sites)))))
+parts f s n t = magic t.version ++ (word f ++ (word s ++ (word t.root ++ (word n ++ (flat_map name_spelling t.funcs ++ flat_map name_spelling t.sites)))))
 
 spelled_of : (t : Recording) (bytes body : List ℕ) (f s n : ℕ) → length t.funcs ≡ f → length t.sites ≡ s → length t.records ≡ n → bytes ≡ parts f s n t ++ body → bytes ≡ header_spelling t ++ body
 spelled_of t bytes body f s n p q r e =
@@ -44,31 +44,28 @@ spelled_of t bytes body f s n p q r e =
     (subst (λ (k : ℕ). bytes ≡ parts (length t.funcs) k n t ++ body) (sym q)
     (subst (λ (k : ℕ). bytes ≡ parts k s n t ++ body) (sym p) e))
 
-abbrev HasTrace : List ℕ → Recording → Type 0
-HasTrace bytes t = (body : List ℕ) × IsTraceOf bytes t body
-
-pub trace_found : (bytes : List ℕ) (t : Recording) → IsBytes bytes → trace_at bytes ≡ Ok t → (body : List ℕ) × IsTraceOf bytes t body
+pub trace_found : (bytes : List ℕ) (t : Recording) → IsBytes bytes → trace_at bytes ≡ Ok t → IsTraceOf bytes t
 unfolding trace_at
 trace_found bytes t fits e =
-    let wf = word_at bytes 8 in
+    let v = version_in bytes in
     let a = guard_ok (ltb (length bytes) 24) Short _ t e in
-    let b = guard_ok (not (bytes_eq (take 8 bytes) magic)) Magic _ t a.1 in
+    let b = guard_ok (not (bytes_eq (take 8 bytes) (magic v))) Magic _ t a.1 in
     let l = guard_ok (not (are_limits (word_at bytes 8) (word_at bytes 12) (word_at bytes 20))) Limits _ t b.1 in
     let r = guard_ok (leb (word_at bytes 8) (word_at bytes 16)) RootFunc _ t l.1 in
     let f = bind_ok (funcs_at (word_at bytes 8) [] (drop 24 bytes)) _ t r.1 in
     let s = bind_ok (sites_at (word_at bytes 12) (word_at bytes 8) [] f.0.1) _ t f.2 in
-    let g = guard_ok (ltb (16 * word_at bytes 20) (length s.0.1)) Trailing _ t s.2 in
+    let g = guard_ok (ltb (room v (word_at bytes 20)) (filled v s.0.1)) Trailing _ t s.2 in
     let long : 24 ≤ length bytes = ltb-false (length bytes) 24 a.0 in
     let lim = limited (word_at bytes 8) (word_at bytes 12) (word_at bytes 20) (not-false _ l.0) in
     let root : word_at bytes 16 < word_at bytes 8 = leb-false (word_at bytes 8) (word_at bytes 16) r.0 in
-    let room : length s.0.1 ≤ 16 * word_at bytes 20 = ltb-false (16 * word_at bytes 20) (length s.0.1) g.0 in
-    let is_magic : take 8 bytes ≡ magic = (bytes_eq-Decides (take 8 bytes) magic).0 (not-false _ b.0) in
+    let under : filled v s.0.1 ≤ room v (word_at bytes 20) = ltb-false (room v (word_at bytes 20)) (filled v s.0.1) g.0 in
+    let is_magic : take 8 bytes ≡ magic v = (bytes_eq-Decides (take 8 bytes) (magic v)).0 (not-false _ b.0) in
     let fr = funcs_take (word_at bytes 8) [] (drop 24 bytes) f.0 (IsBytes-drop 24 bytes fits) f.1 in
     let sr = sites_take (word_at bytes 12) (word_at bytes 8) [] f.0.1 s.0 fr.taken.rest_fits tt s.1 in
     let fn : length f.0.0 ≡ word_at bytes 8 = ap length fr.all ∙ fr.count in
     let sn : length s.0.0 ≡ word_at bytes 12 = ap length sr.0.all ∙ sr.0.count in
-    let rn : length (records_of (length s.0.0) (length f.0.0) (word_at bytes 20) s.0.1) ≡ word_at bytes 20 = length-records_of (length s.0.0) (length f.0.0) (word_at bytes 20) s.0.1 in
-    let t0 : Takes bytes magic (drop 8 bytes) = record { parts = sym (take-append-drop 8 bytes) ∙ ap (λ (x : List ℕ). x ++ drop 8 bytes) is_magic; rest_fits = IsBytes-drop 8 bytes fits } in
+    let rn : length (records_of v (length s.0.0) (length f.0.0) (word_at bytes 20) s.0.1) ≡ word_at bytes 20 = length-records_of v (length s.0.0) (length f.0.0) (word_at bytes 20) s.0.1 in
+    let t0 : Takes bytes (magic v) (drop 8 bytes) = record { parts = sym (take-append-drop 8 bytes) ∙ ap (λ (x : List ℕ). x ++ drop 8 bytes) is_magic; rest_fits = IsBytes-drop 8 bytes fits } in
     let t1 = word_takes 8 12 bytes refl (omega arith) fits in
     let t2 = word_takes 12 16 bytes refl (omega arith) fits in
     let t3 = word_takes 16 20 bytes refl (omega arith) fits in
@@ -80,10 +77,10 @@ trace_found bytes t fits e =
     let c3 = Takes-then (drop 16 bytes) _ (drop 20 bytes) _ s.0.1 t3 c4 in
     let c2 = Takes-then (drop 12 bytes) _ (drop 16 bytes) _ s.0.1 t2 c3 in
     let c1 = Takes-then (drop 8 bytes) _ (drop 12 bytes) _ s.0.1 t1 c2 in
-    let c0 = Takes-then bytes magic (drop 8 bytes) _ s.0.1 t0 c1 in
-    let made : Recording = record { funcs = f.0.0; sites = s.0.0; root = word_at bytes 16; records = records_of (length s.0.0) (length f.0.0) (word_at bytes 20) s.0.1 } in
+    let c0 = Takes-then bytes (magic v) (drop 8 bytes) _ s.0.1 t0 c1 in
+    let made : Recording = trace_by v (word_at bytes 16) (word_at bytes 20) f.0.0 s.0.0 s.0.1 in
     let spelled : bytes ≡ header_spelling made ++ s.0.1 = spelled_of made bytes s.0.1 (word_at bytes 8) (word_at bytes 12) (word_at bytes 20) fn sn rn c0.parts in
-    let good : IsTraceOf bytes made s.0.1 = record {
+    let good : IsTraceOf bytes made = record {
       header = spelled;
       limits = record {
         some_func = let p = lim.some in omega arith;
@@ -97,7 +94,7 @@ trace_found bytes t fits e =
         site_names = subst (λ (x : List (List ℕ)). AllByRecursion IsName x) (sym sr.0.all) sr.0.good;
         apart = sr.1;
       };
-      room = omega arith;
-      records = ap (λ (k : ℕ). records_of (length s.0.0) (length f.0.0) k s.0.1) (sym rn);
+      room = subst (λ (k : ℕ). filled v s.0.1 ≤ room v k) (sym rn) under;
+      records = ap (λ (k : ℕ). records_of v (length s.0.0) (length f.0.0) k s.0.1) (sym rn);
     } in
-    subst (λ (x : Recording). HasTrace bytes x) (ok_is made t g.1) (s.0.1, good)
+    subst (λ (x : Recording). IsTraceOf bytes x) (ok_is made t g.1) good

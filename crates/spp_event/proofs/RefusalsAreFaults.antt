@@ -1,5 +1,5 @@
 -- What the checks refuse has the fault that they name, and all that stands before it is good.
-use Rattle.std.proofs.Common.{◌≡◌, ℕ, zero, suc, ◌+◌, ◌*◌, ◌≤◌, ◌<◌, ◌⊎◌, Bool, true, false, cond, eqb, ltb, leb, ◌||◌, not, List, [], ◌∷◌, ◌++◌, length, take, drop, Result, Ok, Err, refl, sym, ap, subst, ◌∙◌, append_assoc, arith, inl, inr}
+use Rattle.std.proofs.Common.{◌≡◌, ℕ, zero, suc, ◌+◌, ◌≤◌, ◌<◌, ◌⊎◌, Bool, true, false, cond, eqb, ltb, leb, ◌||◌, not, List, [], ◌∷◌, ◌++◌, length, take, drop, Result, Ok, Err, refl, sym, ap, subst, ◌∙◌, append_assoc, arith, inl, inr}
 use Rattle.std.specs.Prelude.{Contains}
 use Rattle.std.specs.List.{flat_map, list_any, AllByRecursion}
 use Rattle.std.specs.Str.{bytes_eq}
@@ -12,9 +12,9 @@ use Rattle.std.proofs.Math.ListN.{drop_of_length-le}
 use Rattle.spp_event.specs.declared.header.HeaderFault.{HeaderFault}
 use Rattle.spp_event.specs.declared.header.HeaderFault.TheVariants.{Short, Magic, Limits, Name, SameName, RootFunc, Trailing, Memory}
 use Rattle.spp_event.specs.Records.{word_at}
-use Rattle.spp_event.specs.Recordings.{Recording, records_of}
-use Rattle.spp_event.specs.Header.{magic, name_spelling, root_name, IsName, AreApart, name_len, funcs_in, sites_in, events_in, root_in, IsWithinLimits, HasGoodHead, HasNames, WantsName, EndsInName, HasBadName, IsHeaderFault}
-use Rattle.spp_event.specs.Checks.{◌>>=◌, is_printable, is_taken, are_limits, name_at, funcs_at, sites_at, trace_at}
+use Rattle.spp_event.specs.Recordings.{Recording, room, filled}
+use Rattle.spp_event.specs.Header.{magic, version_in, name_spelling, root_name, IsName, AreApart, name_len, funcs_in, sites_in, events_in, root_in, IsWithinLimits, HasGoodHead, HasNames, WantsName, EndsInName, HasBadName, IsHeaderFault}
+use Rattle.spp_event.specs.Checks.{trace_by, ◌>>=◌, is_printable, is_taken, are_limits, name_at, funcs_at, sites_at, trace_at}
 use Rattle.spp_event.proofs.TakenFromFront.{IsBytes, IsBytes-drop, Takes, Takes-then, name_takes, apart_more, differ, funcs_take, sites_take}
 use Rattle.spp_event.proofs.TracesPass.{printable_again, limits_again}
 use Rattle.spp_event.proofs.PassersAreTraces.{limited}
@@ -258,7 +258,7 @@ sites_repeat bytes funcs middle e f s =
     let before : (s.name ≡ root_name) ⊎ Contains (drop (funcs_in bytes) (funcs ++ s.new)) s.name = subst (λ (x : List (List ℕ)). (s.name ≡ root_name) ⊎ Contains x s.name) (sym (drop_at funcs s.new (funcs_in bytes) f.count)) s.before in
     subst (λ (x : HeaderFault). IsHeaderFault bytes x) (sym s.fault) (funcs ++ s.new, s.name, s.rest, has, omega (arith, length-append funcs s.new), number, omega arith, s.is_name, before)
 
-trails_behind : (bytes : List ℕ) (funcs sites : List (List ℕ)) (middle rest : List ℕ) → ReadFuncs bytes funcs middle → length sites ≡ sites_in bytes → AllByRecursion IsName sites → AreApart sites → middle ≡ flat_map name_spelling sites ++ rest → 16 * events_in bytes < length rest → IsHeaderFault bytes Trailing
+trails_behind : (bytes : List ℕ) (funcs sites : List (List ℕ)) (middle rest : List ℕ) → ReadFuncs bytes funcs middle → length sites ≡ sites_in bytes → AllByRecursion IsName sites → AreApart sites → middle ≡ flat_map name_spelling sites ++ rest → room (version_in bytes) (events_in bytes) < filled (version_in bytes) rest → IsHeaderFault bytes Trailing
 trails_behind bytes funcs sites middle rest f n g apart parts more =
     let count = f.count in
     let has = site_names bytes funcs sites middle rest f.head f.count f.good g apart f.taken parts (omega arith) in
@@ -279,7 +279,7 @@ not_true false e = refl
 
 -- the checks that follow those of the head
 abbrev behind_head : List ℕ → Result Recording HeaderFault
-behind_head bytes = funcs_at (funcs_in bytes) [] (drop 24 bytes) >>= λ funcs. sites_at (sites_in bytes) (funcs_in bytes) [] funcs.1 >>= λ sites. cond (ltb (16 * events_in bytes) (length sites.1)) (Err Trailing) (Ok (record { funcs = funcs.0; sites = sites.0; root = root_in bytes; records = records_of (length sites.0) (length funcs.0) (events_in bytes) sites.1 }))
+behind_head bytes = funcs_at (funcs_in bytes) [] (drop 24 bytes) >>= λ funcs. sites_at (sites_in bytes) (funcs_in bytes) [] funcs.1 >>= λ sites. cond (ltb (room (version_in bytes) (events_in bytes)) (filled (version_in bytes) sites.1)) (Err Trailing) (Ok (trace_by (version_in bytes) (root_in bytes) (events_in bytes) funcs.0 sites.0 sites.1))
 
 names_refused : (bytes : List ℕ) (e : HeaderFault) → IsBytes bytes → HasGoodHead bytes → behind_head bytes ≡ Err e → IsHeaderFault bytes e
 names_refused bytes e fits head h =
@@ -302,8 +302,8 @@ names_refused bytes e fits head h =
                 ]
             | inr b ↦
                 let s = sites_take (sites_in bytes) (funcs_in bytes) [] a.0.1 b.0 r.taken.rest_fits tt b.1 in
-                elim (guard_err (ltb (16 * events_in bytes) (length b.0.1)) Trailing _ e b.2) [
-                  | inl c ↦ subst (λ (x : HeaderFault). IsHeaderFault bytes x) c.1 (trails_behind bytes a.0.0 b.0.0 a.0.1 b.0.1 f (ap length s.0.all ∙ s.0.count) (subst (λ (x : List (List ℕ)). AllByRecursion IsName x) (sym s.0.all) s.0.good) s.1 (s.0.taken.parts ∙ ap (λ (x : List (List ℕ)). flat_map name_spelling x ++ b.0.1) (sym s.0.all)) (ltb-true (16 * events_in bytes) (length b.0.1) c.0))
+                elim (guard_err (ltb (room (version_in bytes) (events_in bytes)) (filled (version_in bytes) b.0.1)) Trailing _ e b.2) [
+                  | inl c ↦ subst (λ (x : HeaderFault). IsHeaderFault bytes x) c.1 (trails_behind bytes a.0.0 b.0.0 a.0.1 b.0.1 f (ap length s.0.all ∙ s.0.count) (subst (λ (x : List (List ℕ)). AllByRecursion IsName x) (sym s.0.all) s.0.good) s.1 (s.0.taken.parts ∙ ap (λ (x : List (List ℕ)). flat_map name_spelling x ++ b.0.1) (sym s.0.all)) (ltb-true (room (version_in bytes) (events_in bytes)) (filled (version_in bytes) b.0.1) c.0))
                   | inr c ↦ no_ok _ e c.1
                 ]
           ]
@@ -316,10 +316,10 @@ trace_refused bytes e fits h =
       | inl a ↦ subst (λ (x : HeaderFault). IsHeaderFault bytes x) a.1 (inl (ltb-true (length bytes) 24 a.0))
       | inr a ↦
           let long = ltb-false (length bytes) 24 a.0 in
-          elim (guard_err (not (bytes_eq (take 8 bytes) magic)) Magic _ e a.1) [
-            | inl b ↦ subst (λ (x : HeaderFault). IsHeaderFault bytes x) b.1 (long, differ (take 8 bytes) magic (not_true _ b.0))
+          elim (guard_err (not (bytes_eq (take 8 bytes) (magic (version_in bytes)))) Magic _ e a.1) [
+            | inl b ↦ subst (λ (x : HeaderFault). IsHeaderFault bytes x) b.1 (long, differ (take 8 bytes) (magic (version_in bytes)) (not_true _ b.0))
             | inr b ↦
-                let is_magic = (bytes_eq-Decides (take 8 bytes) magic).0 (not-false _ b.0) in
+                let is_magic = (bytes_eq-Decides (take 8 bytes) (magic (version_in bytes))).0 (not-false _ b.0) in
                 elim (guard_err (not (are_limits (word_at bytes 8) (word_at bytes 12) (word_at bytes 20))) Limits _ e b.1) [
                   | inl c ↦ subst (λ (x : HeaderFault). IsHeaderFault bytes x) c.1 (long, is_magic, not_within bytes (not_true _ c.0))
                   | inr c ↦

@@ -8,9 +8,12 @@ use Rattle.spp_event.specs.declared.records.Event.{Event}
 use Rattle.spp_event.specs.declared.records.Event.TheVariants.{Ret}
 use Rattle.spp_event.specs.declared.records.EventFault.TheVariants.{Truncated}
 use Rattle.spp_event.specs.Records.{spelling, read_record}
-use Rattle.spp_event.specs.Recordings.{place}
+use Rattle.spp_event.specs.declared.version.Version.{Version}
+use Rattle.spp_event.specs.declared.version.Version.TheVariants.{One, Two}
+use Rattle.spp_event.specs.Recordings.{Record, Recording, place, read_at, spelling_in, room, filled}
 use Rattle.spp_event.specs.Header.{header_spelling}
 use Rattle.spp_event.specs.Laws.{TraceIsSpelled, BytesAreOne}
+use Rattle.spp_event.proofs.ItemBodies.{body_of_items}
 use Rattle.spp_event.proofs.SpelledAndRead.{read_is_spelled}
 use Rattle.spp_event.proofs.RecordPlaces.{record_at-records_of}
 
@@ -49,16 +52,34 @@ body_spelled sites funcs (e ∷ es) body bytes few read =
     (λ i l. ap (λ (r : List ℕ). read_record sites funcs r) (next_place body i) ∙ read (suc i) (omega arith)) in
     sym (take-append-drop 16 body) ∙ ap₂ (λ (a b : List ℕ). a ++ b) first rest
 
+-- the body of a trace in either version
+body_in : (v : Version) (sites funcs : ℕ) (es : List Event) (body : List ℕ) → AreBytes body → filled v body ≤ room v (length es)
+    → ((i : ℕ) → i < length es → read_at v sites funcs body i ≡ Ok (get_or es i Ret)) → body ≡ flat_map (spelling_in v) es
+body_in One sites funcs es body bytes few read = body_spelled sites funcs es body bytes few read
+body_in Two sites funcs es body bytes few read = body_of_items sites funcs body es few read
+
 pub trace_is_spelled : TraceIsSpelled
-trace_is_spelled bytes t rest es are is good =
+trace_is_spelled bytes t es are is good =
     let n : length t.records ≡ length es = ap (λ l. length l) good ∙ length-map es (λ e. Ok e) in
-    let within : AreBytes (header_spelling t ++ rest) = subst AreBytes is.header are in
+    let within : AreBytes (header_spelling t ++ t.body) = subst AreBytes is.header are in
     is.header ∙ ap (λ (b : List ℕ). header_spelling t ++ b)
-    (body_spelled (length t.sites) (length t.funcs) es rest (subst AreBytes (drop-append_seam (header_spelling t) rest) (dropped_bytes (length (header_spelling t)) (header_spelling t ++ rest) within)) (let z = is.room in omega arith)
+    (body_in t.version (length t.sites) (length t.funcs) es t.body (subst AreBytes (drop-append_seam (header_spelling t) t.body) (dropped_bytes (length (header_spelling t)) (header_spelling t ++ t.body) within)) (subst (λ (k : ℕ). filled t.version t.body ≤ room t.version k) n is.room)
     (λ i l.
-    sym (record_at-records_of (length t.sites) (length t.funcs) (length t.records) rest i (omega arith))
+    sym (record_at-records_of t.version (length t.sites) (length t.funcs) (length t.records) t.body i (omega arith))
     ∙ ap (λ l. get_or l i (Err Truncated)) (sym is.records ∙ good)
     ∙ get_or-map (λ e. Ok e) es i Ret (Err Truncated) l))
 
+-- the same header, by its parts
+same_header : (t u : Recording) → t.funcs ≡ u.funcs → t.sites ≡ u.sites → t.root ≡ u.root → t.version ≡ u.version → u.records ≡ t.records → header_spelling t ≡ header_spelling u
+same_header t u f s r v rs =
+    ap (λ (x : Version). header_spelling (record t { version = x })) v
+    ∙ ap (λ (x : List (List ℕ)). header_spelling (record t { version = u.version; funcs = x })) f
+    ∙ ap (λ (x : List (List ℕ)). header_spelling (record t { version = u.version; funcs = u.funcs; sites = x })) s
+    ∙ ap (λ (x : ℕ). header_spelling (record t { version = u.version; funcs = u.funcs; sites = u.sites; root = x })) r
+    ∙ ap (λ (x : List Record). header_spelling (record u { records = x })) (sym rs)
+
 pub bytes_are_one : BytesAreOne
-bytes_are_one a b t rest more es are_a are_b is_a is_b good = trace_is_spelled a t rest es are_a is_a good ∙ sym (trace_is_spelled b t more es are_b is_b good)
+bytes_are_one a b t u es are_a are_b is_a is_b f s r v good rs =
+    trace_is_spelled a t es are_a is_a good
+    ∙ ap₂ (λ (x y : List ℕ). x ++ y) (same_header t u f s r v rs) (ap (λ (x : Version). flat_map (spelling_in x) es) v)
+    ∙ sym (trace_is_spelled b u es are_b is_b (rs ∙ good))

@@ -1,5 +1,5 @@
 -- What a trace spells passes the checks.
-use Rattle.std.proofs.Common.{◌≡◌, ℕ, suc, ◌+◌, ◌≤◌, Bool, true, false, ltb, leb, ◌&&◌, ◌||◌, List, [], ◌∷◌, ◌++◌, length, drop, Ok, refl, sym, ap, ◌∙◌, append_assoc, arith, inl, inr}
+use Rattle.std.proofs.Common.{◌≡◌, ℕ, suc, ◌+◌, ◌≤◌, Bool, true, false, ltb, leb, ◌&&◌, ◌||◌, nat_eq, if◌then◌else◌, List, [], ◌∷◌, ◌++◌, length, drop, Ok, refl, sym, ap, subst, ◌∙◌, append_assoc, arith, inl, inr}
 use Rattle.std.specs.List.{flat_map, list_any, AllByRecursion}
 use Rattle.std.specs.Int.{w16, to_be_bytes, from_be_bytes, IsInRange, is_in_range}
 use Rattle.std.specs.Str.{bytes_eq}
@@ -8,9 +8,12 @@ use Rattle.std.proofs.lemmas.List.{append-nil, length-append, take_at, drop_at}
 use Rattle.std.proofs.lemmas.List.Concat.{flat_map-cons}
 use Rattle.std.proofs.lemmas.Nat.{from_be_bytes-to_be_bytes_2, from_be_bytes-to_be_bytes_4}
 use Rattle.std.proofs.lemmas.Slice.Eq.{bytes_eq-Decides}
-use Rattle.spp_event.specs.Recordings.{Recording}
+use Rattle.spp_event.specs.declared.version.Version.{Version}
+use Rattle.spp_event.specs.declared.version.Version.TheVariants.{One, Two}
+use Rattle.spp_event.specs.Records.{word}
+use Rattle.spp_event.specs.Recordings.{Recording, records_of, room, filled}
 use Rattle.spp_event.proofs.BehindGoodHead.{Head, is_made_of}
-use Rattle.spp_event.specs.Header.{name_spelling, header_spelling, IsName, AreApart, IsTraceOf, root_name}
+use Rattle.spp_event.specs.Header.{magic, version_in, name_spelling, IsName, AreApart, IsTraceOf, root_name}
 use Rattle.spp_event.specs.Checks.{is_printable, is_taken, are_limits, name_at, funcs_at, sites_at, trace_at}
 
 pub printable_again : (xs : List ℕ) → AllByRecursion (IsInRange 32 126) xs → is_printable xs ≡ true
@@ -78,16 +81,43 @@ sites_again (name ∷ new) names first rest h apart c =
 pub limits_again : (f s n : ℕ) → 1 ≤ f → f ≤ 65536 → s ≤ 65536 → n ≤ 268435456 → are_limits f s n ≡ true
 limits_again f s n a b c d = and_from (ltb 0 f && leb f 65536 && leb s 65536) (leb n 268435456) (and_from (ltb 0 f && leb f 65536) (leb s 65536) (and_from (ltb 0 f) (leb f 65536) (lt-ltb 0 f (omega arith)) (le-leb f 65536 b)) (le-leb s 65536 c)) (le-leb n 268435456 d)
 
-pub trace_again : (bytes : List ℕ) (t : Recording) (body : List ℕ) → IsTraceOf bytes t body → trace_at bytes ≡ Ok t
-trace_again bytes t body h =
-    let text = header_spelling t ++ body in
-    let f = length t.funcs in
-    let s = length t.sites in
-    let n = length t.records in
-    let l = h.limits in let a = l.some_func in let b = l.funcs in let c = l.sites in let d = l.events in let e = l.root in let m = h.room in
-    let head : Head (header_spelling t ++ body) (length t.funcs) (length t.sites) t.root (length t.records) = record {
+-- ---- the version
+
+-- the code of the digit of a version
+abbrev last_byte : Version → ℕ
+last_byte One = 49
+last_byte Two = 50
+
+-- the first eight bytes, one by one
+abbrev eight : Version → List ℕ
+eight v = 83 ∷ 80 ∷ 84 ∷ 82 ∷ 65 ∷ 67 ∷ 69 ∷ last_byte v ∷ []
+
+magic_is : (v : Version) → magic v ≡ eight v
+magic_is One = refl
+magic_is Two = refl
+
+version_again : (v : Version) → (if nat_eq (last_byte v) 50 then Two else One) ≡ v
+version_again One = refl
+version_again Two = refl
+
+magic_again : (v : Version) → bytes_eq (eight v) (magic (if nat_eq (last_byte v) 50 then Two else One)) ≡ true
+magic_again One = refl
+magic_again Two = refl
+
+-- ---- the whole header
+
+abbrev rest_of : Recording → List ℕ
+rest_of t = word (length t.funcs) ++ word (length t.sites) ++ word t.root ++ word (length t.records)
+    ++ flat_map name_spelling t.funcs ++ flat_map name_spelling t.sites
+
+pub trace_again : (bytes : List ℕ) (t : Recording) → IsTraceOf bytes t → trace_at bytes ≡ Ok t
+trace_again bytes t h =
+    let l = h.limits in let a = l.some_func in let b = l.funcs in let c = l.sites in let d = l.events in let e = l.root in
+    let v = t.version in
+    let text = eight v ++ (rest_of t ++ t.body) in
+    let head : Head (eight v ++ (rest_of t ++ t.body)) (length t.funcs) (length t.sites) t.root (length t.records) = record {
       long = omega arith;
-      magic = refl;
+      magic = magic_again v;
       f_is = sym (from_be_bytes-to_be_bytes_4 (length t.funcs) (omega arith));
       s_is = sym (from_be_bytes-to_be_bytes_4 (length t.sites) (omega arith));
       r_is = sym (from_be_bytes-to_be_bytes_4 t.root (omega arith));
@@ -95,8 +125,11 @@ trace_again bytes t body h =
       limits = limits_again (length t.funcs) (length t.sites) (length t.records) a b c (omega arith);
       root = e;
     } in
-    let regrouped : drop 24 (header_spelling t ++ body) ≡ flat_map name_spelling t.funcs ++ (flat_map name_spelling t.sites ++ body) = append_assoc (flat_map name_spelling t.funcs) (flat_map name_spelling t.sites) body in
-    let funcs : funcs_at (length t.funcs) [] (drop 24 (header_spelling t ++ body)) ≡ Ok (t.funcs, flat_map name_spelling t.sites ++ body) = ap (funcs_at (length t.funcs) []) regrouped ∙ funcs_again t.funcs [] (flat_map name_spelling t.sites ++ body) h.names.func_names in
-    let sites = sites_again t.sites [] (length t.funcs) body h.names.site_names h.names.apart (cross_none t.sites) in
-    let made = is_made_of (header_spelling t ++ body) (length t.funcs) (length t.sites) t.root (length t.records) (length t.sites) (length t.funcs) (t.funcs, flat_map name_spelling t.sites ++ body) (t.sites, body) head funcs sites (omega arith) refl refl in
-    ap trace_at h.header ∙ made ∙ ap (λ (rs : _). Ok (record { funcs = t.funcs; sites = t.sites; root = t.root; records = rs })) (sym h.records)
+    let regrouped : drop 24 text ≡ flat_map name_spelling t.funcs ++ (flat_map name_spelling t.sites ++ t.body) = append_assoc (flat_map name_spelling t.funcs) (flat_map name_spelling t.sites) t.body in
+    let funcs : funcs_at (length t.funcs) [] (drop 24 text) ≡ Ok (t.funcs, flat_map name_spelling t.sites ++ t.body) = ap (funcs_at (length t.funcs) []) regrouped ∙ funcs_again t.funcs [] (flat_map name_spelling t.sites ++ t.body) h.names.func_names in
+    let sites = sites_again t.sites [] (length t.funcs) t.body h.names.site_names h.names.apart (cross_none t.sites) in
+    let under : filled (version_in text) t.body ≤ room (version_in text) (length t.records) = subst (λ (x : Version). filled x t.body ≤ room x (length t.records)) (sym (version_again v)) h.room in
+    let made = is_made_of text (length t.funcs) (length t.sites) t.root (length t.records) (length t.sites) (length t.funcs) (t.funcs, flat_map name_spelling t.sites ++ t.body) (t.sites, t.body) head funcs sites under refl refl in
+    ap trace_at (h.header ∙ ap (λ (m : List ℕ). (m ++ rest_of t) ++ t.body) (magic_is v)) ∙ made
+    ∙ ap (λ (x : Version). Ok (record { funcs = t.funcs; sites = t.sites; root = t.root; records = records_of x (length t.sites) (length t.funcs) (length t.records) t.body; version = x; body = t.body })) (version_again v)
+    ∙ ap (λ (rs : _). Ok (record { funcs = t.funcs; sites = t.sites; root = t.root; records = rs; version = v; body = t.body })) (sym h.records)

@@ -1,14 +1,15 @@
 -- The checks of a header in their order, as one function: what the code of this crate is proved against. That it
 -- answers what the relations of Header say is proved (the laws of headers).
-use Rattle.std.specs.Prelude.{◌≡◌, ℕ, zero, suc, ◌+◌, ◌*◌, Bool, ◌&&◌, ◌||◌, not, nat_eq, nat_lt, nat_le, if◌then◌else◌, List, [], ◌∷◌, ◌++◌, length, take, drop, Result, Ok, Err}
+use Rattle.std.specs.Prelude.{◌≡◌, ℕ, zero, suc, ◌+◌, Bool, ◌&&◌, ◌||◌, not, nat_eq, nat_lt, nat_le, if◌then◌else◌, List, [], ◌∷◌, ◌++◌, length, take, drop, Result, Ok, Err}
 use Rattle.std.specs.List.{list_any, list_all}
 use Rattle.std.specs.Int.{is_in_range}
 use Rattle.std.specs.Str.{bytes_eq}
 use Rattle.spp_event.specs.declared.header.HeaderFault.{HeaderFault}
 use Rattle.spp_event.specs.declared.header.HeaderFault.TheVariants.{Short, Magic, Limits, Name, SameName, RootFunc, Trailing, Memory}
 use Rattle.spp_event.specs.Records.{word_at}
-use Rattle.spp_event.specs.Recordings.{Recording, records_of}
-use Rattle.spp_event.specs.Header.{magic, root_name, name_len}
+use Rattle.spp_event.specs.Recordings.{Recording, records_of, room, filled}
+use Rattle.spp_event.specs.declared.version.Version.{Version}
+use Rattle.spp_event.specs.Header.{magic, version_in, root_name, name_len}
 
 infixl 10 ◌>>=◌
 abbrev pub ◌>>=◌ : {A B : Type 0} → Result A HeaderFault → (A → Result B HeaderFault) → Result B HeaderFault
@@ -50,17 +51,21 @@ sites_at (suc n) first names bytes = do
 abbrev pub are_limits : ℕ → ℕ → ℕ → Bool
 are_limits funcs sites events = nat_lt 0 funcs && nat_le funcs 65536 && nat_le sites 65536 && nat_le events 268435456
 
+-- the trace of these parts
+abbrev pub trace_by : Version → ℕ → ℕ → List (List ℕ) → List (List ℕ) → List ℕ → Recording
+trace_by version root count funcs sites body = record { funcs = funcs; sites = sites; root = root; records = records_of version (length sites) (length funcs) count body; version = version; body = body }
+
 -- the trace whose header the bytes begin with, or the first check that fails
 unfoldable pub trace_at : List ℕ → Result Recording HeaderFault
 trace_at bytes = if nat_lt (length bytes) 24 then Err Short
-    else if not (bytes_eq (take 8 bytes) magic) then Err Magic
+    else if not (bytes_eq (take 8 bytes) (magic (version_in bytes))) then Err Magic
     else if not (are_limits (word_at bytes 8) (word_at bytes 12) (word_at bytes 20)) then Err Limits
     else if nat_le (word_at bytes 8) (word_at bytes 16) then Err RootFunc
     else do
       funcs ← funcs_at (word_at bytes 8) [] (drop 24 bytes)
       sites ← sites_at (word_at bytes 12) (word_at bytes 8) [] funcs.1
-      if nat_lt (16 * word_at bytes 20) (length sites.1) then Err Trailing
-          else Ok (record { funcs = funcs.0; sites = sites.0; root = word_at bytes 16; records = records_of (length sites.0) (length funcs.0) (word_at bytes 20) sites.1 })
+      if nat_lt (room (version_in bytes) (word_at bytes 20)) (filled (version_in bytes) sites.1) then Err Trailing
+          else Ok (trace_by (version_in bytes) (word_at bytes 16) (word_at bytes 20) funcs.0 sites.0 sites.1)
 
 -- What a call answered, seen by view, is what the checks say. Want of memory may come before any other answer.
 abbrev pub Fails : {Y : Type 0} → HeaderFault → Result Y HeaderFault → Type 0

@@ -1,16 +1,23 @@
 -- The header of a trace: what it spells, when bytes are those of a trace, and what is wrong first with bytes that
 -- are not.
-use Rattle.std.specs.Prelude.{◌≡◌, ◌≢◌, ◌⊎◌, ℕ, ◌+◌, ◌*◌, ◌<◌, ◌≤◌, ◌^◌, List, [], ◌∷◌, ◌++◌, length, take, drop, codes, Contains}
+use Rattle.std.specs.Prelude.{◌≡◌, ◌≢◌, ◌⊎◌, ℕ, ◌+◌, ◌<◌, ◌≤◌, ◌^◌, List, [], ◌∷◌, ◌++◌, length, take, drop, codes, Contains, slice_index, nat_eq, if◌then◌else◌}
 use Rattle.std.specs.List.{flat_map, AllByRecursion}
 use Rattle.std.specs.Int.{w16, to_be_bytes, from_be_bytes, IsInRange}
 use Rattle.spp_event.specs.declared.header.HeaderFault.{HeaderFault}
 use Rattle.spp_event.specs.declared.header.HeaderFault.TheVariants.{Short, Magic, Limits, Name, SameName, RootFunc, Trailing, Memory}
 use Rattle.spp_event.specs.Records.{word, word_at}
-use Rattle.spp_event.specs.Recordings.{Recording, InLimits, records_of}
+use Rattle.spp_event.specs.Recordings.{Recording, InLimits, records_of, room, filled}
+use Rattle.spp_event.specs.declared.version.Version.{Version}
+use Rattle.spp_event.specs.declared.version.Version.TheVariants.{One, Two}
 
--- the first eight bytes of a trace of version 1
-abbrev pub magic : List ℕ
-magic = codes "SPTRACE1"
+-- the first eight bytes of a trace
+abbrev pub magic : Version → List ℕ
+magic One = codes "SPTRACE1"
+magic Two = codes "SPTRACE2"
+
+-- the version that the last of them says: the digit 2 has the code 50
+abbrev pub version_in : List ℕ → Version
+version_in bytes = if nat_eq (slice_index bytes 7) 50 then Two else One
 
 -- the name of the root's row, which no site may have
 abbrev pub root_name : List ℕ
@@ -23,8 +30,12 @@ abbrev pub name_spelling : List ℕ → List ℕ
 name_spelling name = to_be_bytes w16 (length name) ++ name
 
 abbrev pub header_spelling : Recording → List ℕ
-header_spelling t = magic ++ word (length t.funcs) ++ word (length t.sites) ++ word t.root ++ word (length t.records)
-    ++ flat_map name_spelling t.funcs ++ flat_map name_spelling t.sites
+header_spelling t = magic t.version ++ (word (length t.funcs) ++ word (length t.sites) ++ word t.root ++ word (length t.records)
+    ++ flat_map name_spelling t.funcs ++ flat_map name_spelling t.sites)
+
+-- its first 24 bytes: the version, how many functions and sites there are, the root function, and how many events
+abbrev pub head_spelling : Version → ℕ → ℕ → ℕ → ℕ → List ℕ
+head_spelling version funcs sites root events = magic version ++ (word funcs ++ word sites ++ word root ++ word events)
 
 -- from 1 to 200 printable bytes
 abbrev pub IsName : List ℕ → Type 0
@@ -52,13 +63,14 @@ pub record IsSound (funcs sites : List (List ℕ)) (root events : ℕ) : Type 0 
   pub site_names : AllByRecursion IsName sites
   pub apart : AreApart sites
 
--- the bytes are those of the trace t: its header, and a body of at most 16 bytes for each event, which its records read
-pub record IsTraceOf (bytes : List ℕ) (t : Recording) (body : List ℕ) : Type 0 where
-  pub header : bytes ≡ header_spelling t ++ body
+-- the bytes are those of the trace t: its header and then its body, which has room for no more than its events, and whose
+-- records these are
+pub record IsTraceOf (bytes : List ℕ) (t : Recording) : Type 0 where
+  pub header : bytes ≡ header_spelling t ++ t.body
   pub limits : InLimits t
   pub names : HasGoodNames t
-  pub room : length body ≤ 16 * length t.records
-  pub records : t.records ≡ records_of (length t.sites) (length t.funcs) (length t.records) body
+  pub room : filled t.version t.body ≤ room t.version (length t.records)
+  pub records : t.records ≡ records_of t.version (length t.sites) (length t.funcs) (length t.records) t.body
 
 -- ---- what is wrong first
 
@@ -84,7 +96,7 @@ pub record IsWithinLimits (bytes : List ℕ) : Type 0 where
 -- the first 24 bytes are good
 pub record HasGoodHead (bytes : List ℕ) : Type 0 where
   pub long : 24 ≤ length bytes
-  pub magic : take 8 bytes ≡ magic
+  pub magic : take 8 bytes ≡ magic (version_in bytes)
   pub limits : IsWithinLimits bytes
   pub root : root_in bytes < funcs_in bytes
 
@@ -120,10 +132,10 @@ HasBadName bytes = (2 ≤ length bytes)
 abbrev pub IsHeaderFault : List ℕ → HeaderFault → Type 0
 IsHeaderFault bytes Short = (length bytes < 24)
     ⊎ ((names : List (List ℕ)) × (rest : List ℕ) × HasNames bytes names rest × WantsName bytes names × EndsInName rest)
-IsHeaderFault bytes Magic = (24 ≤ length bytes) × (take 8 bytes ≢ magic)
-IsHeaderFault bytes Limits = (24 ≤ length bytes) × (take 8 bytes ≡ magic) × ¬ IsWithinLimits bytes
+IsHeaderFault bytes Magic = (24 ≤ length bytes) × (take 8 bytes ≢ magic (version_in bytes))
+IsHeaderFault bytes Limits = (24 ≤ length bytes) × (take 8 bytes ≡ magic (version_in bytes)) × ¬ IsWithinLimits bytes
 IsHeaderFault bytes RootFunc =
-    (24 ≤ length bytes) × (take 8 bytes ≡ magic) × IsWithinLimits bytes × (funcs_in bytes ≤ root_in bytes)
+    (24 ≤ length bytes) × (take 8 bytes ≡ magic (version_in bytes)) × IsWithinLimits bytes × (funcs_in bytes ≤ root_in bytes)
 IsHeaderFault bytes (Name number) =
     (names : List (List ℕ)) × (rest : List ℕ) × HasNames bytes names rest × WantsName bytes names
     × (number ≡ length names) × HasBadName rest
@@ -134,5 +146,5 @@ IsHeaderFault bytes (SameName number) =
     × ((name ≡ root_name) ⊎ Contains (drop (funcs_in bytes) names) name)
 IsHeaderFault bytes Trailing =
     (names : List (List ℕ)) × (rest : List ℕ) × HasNames bytes names rest
-    × (length names ≡ funcs_in bytes + sites_in bytes) × (16 * events_in bytes < length rest)
+    × (length names ≡ funcs_in bytes + sites_in bytes) × (room (version_in bytes) (events_in bytes) < filled (version_in bytes) rest)
 IsHeaderFault bytes Memory = ⊥

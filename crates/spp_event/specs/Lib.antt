@@ -1,8 +1,12 @@
 pub mod Records
+pub mod Items
 pub mod Recordings
+pub mod Places
+pub mod Readers
 pub mod Header
 pub mod Checks
 pub mod NameSets
+pub mod Migrating
 pub mod Texts
 pub mod Contents
 pub mod Samples

@@ -1,17 +1,19 @@
 //! The header of a trace, with the names of its functions and sites.
 
-ghost use Rattle.std.specs.Prelude.{◌≡◌, ◌≢◌, ◌<◌, ◌≤◌, ◌+◌, ◌^◌, [], Some, true, if◌then◌else◌, not, List, ℕ, length, map, IfOk, IfErr, OnOk, MatchResult};
+ghost use Rattle.std.specs.Prelude.{◌≡◌, ◌≢◌, ◌<◌, ◌≤◌, ◌+◌, ◌^◌, [], Some, true, if◌then◌else◌, not, List, ℕ, length, map, take, None, false, IfOk, IfSome, IfErr, OnOk, MatchResult};
 ghost use Rattle.spp_event.specs.NameSets.{has};
 ghost use Rattle.std.specs.Str.{bytes_eq};
 ghost use Rattle.spp_event.specs.declared.header.HeaderFault.TheVariants.{Memory};
 ghost use Rattle.spp_event.specs.Records.{word_at};
 ghost use Rattle.spp_event.specs.Recordings.{Recording};
 ghost use Rattle.spp_event.specs.Texts.{header_fault_text};
-ghost use Rattle.spp_event.specs.Header.{IsTraceOf, IsHeaderFault, magic};
+ghost use Rattle.spp_event.specs.Header.{IsTraceOf, IsHeaderFault, magic, version_in};
 ghost use Rattle.spp_event.specs.Checks.{Gives, name_at, funcs_at, sites_at, trace_at, are_limits};
 
+use crate::layout::Layout;
 use crate::names::{is_name, is_root_name};
 use crate::traces::Trace;
+use crate::version::Version;
 use std::alloc::{AllocError, AllocFailed, Global};
 use std::collections::BTreeSet;
 use std::fmt;
@@ -40,7 +42,7 @@ pub enum HeaderFault {
     },
     /// The root function is not below the number of functions.
     RootFunc,
-    /// More bytes follow the header than all events have.
+    /// More follows the names than the events have room for: 16 bytes each in version 1, an item each in version 2.
     Trailing,
     /// An allocation failed.
     Memory,
@@ -156,14 +158,22 @@ fn sites_of(
     Ok((names, rest))
 }
 
-/// The first eight bytes of a trace.
-pub(crate) const MAGIC: &[u8] = b"SPTRACE1";
-
-/// Whether they are the first eight bytes of a trace.
-fn is_magic(front: &[u8]) -> bool
-    ensures { result ≡ bytes_eq front.now magic }
+/// The version that the first eight bytes say; none where they are not those of a trace.
+fn version_of(bytes: &[u8]) -> Option<Version>
+    requires { 8 ≤ length bytes.now }
+    ensures some { IfSome result (λ v. (v ≡ version_in bytes.now) × (bytes_eq (take 8 bytes.now) (magic (version_in bytes.now)) ≡ true)) }
+    ensures none { result ≡ None → bytes_eq (take 8 bytes.now) (magic (version_in bytes.now)) ≡ false }
 {
-    front == MAGIC
+    let version = if bytes[7] == b'2' {
+        Version::Two
+    } else {
+        Version::One
+    };
+    if &bytes[..8] == version.magic() {
+        Some(version)
+    } else {
+        None
+    }
 }
 
 /// The number of four bytes at a place of the header.
@@ -190,9 +200,9 @@ fn checked<'a>(alloc: Global, bytes: &'a [u8]) -> Result<Trace<'a>, HeaderFault>
     if bytes.len() < 24 {
         return Err(HeaderFault::Short);
     }
-    if !is_magic(&bytes[..8]) {
+    let Some(version) = version_of(bytes) else {
         return Err(HeaderFault::Magic);
-    }
+    };
     let funcs = word_of(bytes, 8);
     let sites = word_of(bytes, 12);
     let root = word_of(bytes, 16);
@@ -205,32 +215,34 @@ fn checked<'a>(alloc: Global, bytes: &'a [u8]) -> Result<Trace<'a>, HeaderFault>
     }
     let (func_names, rest) = funcs_of(alloc, funcs, &bytes[24..])?;
     let (site_names, body) = sites_of(alloc, sites, funcs, rest)?;
-    if 16 * u64::from(count) < body.len() as u64 {
+    let Some(layout) = Layout::of(alloc, version, count, body)? else {
         return Err(HeaderFault::Trailing);
-    }
+    };
     Ok(Trace {
         funcs: func_names,
         sites: site_names,
         root,
         count,
         body,
+        layout,
     })
 }
 
 /// Opens the bytes of a trace, whose names and records are borrowed from them.
 ///
-/// Events aren't looked at: a bad record is told by [`Trace::event_at`] alone. The time is that of reading all names
-/// and of about S log S comparisons of names, S being the number of sites. The memory is linear in the number of names
-/// that are there: nothing is allocated for a number that the header only claims.
+/// Events aren't looked at: a bad one is told when it is read ([`Trace::event_at`], [`Reader::read`]). The time is that
+/// of reading all names and of about S log S comparisons of names, S being the number of sites; for a trace of version
+/// 2 it is linear in the body besides. The memory is linear in the number of names that are there, and in version 2 it
+/// is 8 bytes for 64 items besides, or up to twice that: nothing is allocated for a number that the header only claims.
 ///
 /// # Errors
 ///
 /// The first fault of the header, by what stands before it being good; `Memory` where an allocation failed.
 pub fn open_trace<'a>(alloc: Global, bytes: &'a [u8]) -> Result<Trace<'a>, HeaderFault>
     // What is opened is a trace.
-    ensures found { IfOk result (λ t. (body : List ℕ) × IsTraceOf bytes.now t body) }
+    ensures found { IfOk result (λ t. IsTraceOf bytes.now t) }
     // What is a trace is opened, unless memory runs out.
-    ensures only { (t : Recording) (body : List ℕ) → IsTraceOf bytes.now t body
+    ensures only { (t : Recording) → IsTraceOf bytes.now t
         → MatchResult result (λ u. u ≡ t) (λ f. f ≡ Memory) }
     // What is refused has that fault first, unless memory ran out.
     ensures refused { IfErr result (λ f. f ≢ Memory → IsHeaderFault bytes.now f) }

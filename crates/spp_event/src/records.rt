@@ -36,15 +36,18 @@ pub enum Event {
     Sync,
 }
 
-/// What is wrong with a record: the first of these checks, in this order, that fails.
+/// What is wrong with the bytes of an event: the first of these checks, in this order, that fails.
 #[derive(Clone, Copy, Debug, Error, PartialEq, Eq)]
 pub enum EventFault {
-    /// The bytes end before the record's sixteenth byte.
+    /// The bytes end before the record's sixteenth byte; in version 2, there are not so many items.
     Truncated,
     /// The first byte is the tag of no event.
     Tag,
-    /// A byte that must be zero is not.
+    /// A byte that must be zero is not, in a trace of version 1.
     Padding,
+    /// Behind the first byte stands something other than the operands of the event, each in its one spelling, in a
+    /// trace of version 2.
+    Operand,
     /// The site is not below the trace's number of sites.
     Site,
     /// The function is not below the trace's number of functions.
@@ -59,6 +62,7 @@ impl fmt::Display for EventFault {
             EventFault::Truncated => write!(f, "truncated"),
             EventFault::Tag => write!(f, "tag"),
             EventFault::Padding => write!(f, "padding"),
+            EventFault::Operand => write!(f, "operand"),
             EventFault::Site => write!(f, "site"),
             EventFault::Func => write!(f, "function"),
         }

@@ -17,7 +17,7 @@ use std::alloc::{AllocError, Global};
 ///
 /// An allocation failed, or the events aren't at most 2^28 of these functions and this site.
 pub fn trace_of(alloc: Global, events: &[Event]) -> Result<Vec<u8>, AllocError>
-    ensures { IfOk result (λ bytes. IsTraceOf bytes.items (sample events.now) (flat_map spelling events.now)) }
+    ensures { IfOk result (λ bytes. IsTraceOf bytes.items (sample events.now)) }
 {
     let contents = Contents {
         funcs: &[b"main".as_slice(), b"f".as_slice()],

@@ -1,33 +1,25 @@
 //! An opened trace.
 
-ghost use Rattle.std.specs.Prelude.{◌≡◌, ◌+◌, ◌*◌, ◌<◌, ℕ, length, slice_index, slice_index_or, [], None, IfOk, IfSome, IsOk, Ok, Err};
-ghost use Rattle.spp_event.specs.declared.records.EventFault.TheVariants.{Truncated};
+ghost use Rattle.std.specs.Prelude.{◌≡◌, ◌+◌, ◌<◌, ◌≤◌, ℕ, length, take, map, slice_index, slice_index_or, [], IfOk, IsOk, Ok};
 ghost use Rattle.spp_event.specs.Records.{IsEventOf};
 ghost use Rattle.spp_event.specs.Header.{HasGoodNames};
-ghost use Rattle.spp_event.specs.Recordings.{InLimits, AreEventsOf, record_at, place};
+ghost use Rattle.spp_event.specs.Readers.{Stands};
+ghost use Rattle.spp_event.specs.Recordings.{InLimits, AreEventsOf, record_at, room, filled, version_number};
+ghost use Rattle.spp_event.specs.declared.version.Version.TheVariants.{Two};
+ghost use Rattle.spp_event.specs.Items.{items};
 
-use crate::records::{Event, EventFault, event_of, event_said};
+use crate::layout::Layout;
+use crate::places::count_begun;
+use crate::reader::Reader;
+use crate::readers::Events;
+use crate::records::{Event, EventFault};
 use std::marker::Model;
-
-/// The bytes of one record.
-pub(crate) const RECORD: usize = 16;
-
-/// The bytes of the record at a position; none where the body ends before its end.
-#[inline(always)]
-fn record_in(body: &[u8], i: u32) -> Option<&[u8; RECORD]>
-    ensures some { IfSome result (λ r. r.now ≡ place body.now i) }
-    ensures none { result ≡ None → length body.now < i * 16 + 16 }
-{
-    let first = i as usize * RECORD;
-    let record = body.get(first..first + RECORD)?;
-    record.first_chunk()
-}
 
 /// An opened trace: its names, its root function, and its events. Names and events are borrowed from the bytes that
 /// it was opened from.
 ///
-/// Contracts see it as a recording: the names of its functions and of its sites, the root function, and one record
-/// for each event, which is that event or what is wrong with its bytes.
+/// Contracts see it as a recording: the names of its functions and of its sites, the root function, one record for each
+/// event, which is that event or what is wrong with its bytes, and the version and the body that they were read from.
 #[derive(Drop)]
 pub struct Trace<'a> {
     pub(crate) funcs: Vec<&'a str>,
@@ -35,12 +27,14 @@ pub struct Trace<'a> {
     pub(crate) root: u32,
     pub(crate) count: u32,
     pub(crate) body: &'a [u8],
+    pub(crate) layout: Layout,
 }
 
 impl<'a> Model for Trace<'a> {
-    ghost use Rattle.std.specs.Prelude.{◌≡◌, ◌<◌, length, map};
-    ghost use Rattle.spp_event.specs.Recordings.{Recording, InLimits, records_of};
+    ghost use Rattle.std.specs.Prelude.{◌≡◌, ◌<◌, ◌≤◌, length, map};
+    ghost use Rattle.spp_event.specs.Recordings.{Recording, InLimits, records_of, room, filled};
     ghost use Rattle.spp_event.specs.Header.{HasGoodNames, IsSound};
+    ghost use Rattle.spp_event.specs.Places.{version_of, IsLayoutOf};
 
     ghost Value = { Recording };
 
@@ -48,11 +42,15 @@ impl<'a> Model for Trace<'a> {
       funcs = map (λ s. s.now) t.funcs.items;
       sites = map (λ s. s.now) t.sites.items;
       root = t.root;
-      records = records_of (length t.sites.items) (length t.funcs.items) t.count t.body.now;
+      records = records_of (version_of t.layout) (length t.sites.items) (length t.funcs.items) t.count t.body.now;
+      version = version_of t.layout;
+      body = t.body.now;
     } };
 
     ghost invariant = { λ t.
-        IsSound (map (λ s. s.now) t.funcs.items) (map (λ s. s.now) t.sites.items) t.root t.count };
+        IsSound (map (λ s. s.now) t.funcs.items) (map (λ s. s.now) t.sites.items) t.root t.count
+        × IsLayoutOf t.layout t.body.now
+        × (filled (version_of t.layout) t.body.now ≤ room (version_of t.layout) t.count) };
 }
 
 /// Bytes are numbers of 8 bits. Its contract is what it is for.
@@ -61,11 +59,12 @@ fn are_bytes(bytes: &[u8])
 {}
 
 impl<'a> Trace<'a> {
-    /// What every opened trace keeps: the limits of a trace, good names, and that each good record is an event of its
-    /// sites and functions. Its contract is what it is for.
+    /// What every opened trace keeps: the limits of a trace, good names, no more in its body than its events have room
+    /// for, and that each good record is an event of its sites and functions. Its contract is what it is for.
     pub fn keeps_limits(&self)
         ensures limits { InLimits self.now }
         ensures names { HasGoodNames self.now }
+        ensures room { filled self.now.version self.now.body ≤ room self.now.version (length self.now.records) }
         ensures events { AreEventsOf (length self.now.sites) (length self.now.funcs) self.now.records }
     {
         are_bytes(self.body);
@@ -97,6 +96,32 @@ impl<'a> Trace<'a> {
         self.sites.len() as u32
     }
 
+    /// Its version, as the number that its first eight bytes end with: 1 or 2.
+    pub fn version(&self) -> u8
+        ensures { result ≡ version_number self.now.version }
+    {
+        self.layout.version().number()
+    }
+
+    /// How many bytes there are behind its header.
+    pub fn body_len(&self) -> u64
+        ensures { result ≡ length self.now.body }
+    {
+        self.body.len() as u64
+    }
+
+    /// How many items begin at a byte of the body from `from` on, before `to`; for a trace of version 2. The time is
+    /// linear in the number of these bytes.
+    pub fn items_between(&self, from: u64, to: u64) -> u32
+        requires version { self.now.version ≡ Two }
+        requires rising { from ≤ to }
+        requires within { to ≤ length self.now.body }
+        ensures { length (items (take from self.now.body)) + result ≡ length (items (take to self.now.body)) }
+    {
+        self.keeps_limits();
+        count_begun(self.body, from as usize, to as usize) as u32
+    }
+
     /// The function of the root frame, which is open from the start and closed by the end.
     pub fn root(&self) -> u32
         ensures { result ≡ self.now.root }
@@ -120,27 +145,45 @@ impl<'a> Trace<'a> {
         self.sites[n as usize]
     }
 
-    /// The event at position `i`, which is below [`Trace::count`]. It takes no memory and a constant time.
+    /// The names of its functions.
+    pub(crate) fn func_names(&self) -> &[&'a str]
+        ensures { map (λ n. n.now) result.now ≡ self.now.funcs }
+    {
+        &self.funcs
+    }
+
+    /// The names of its call sites.
+    pub(crate) fn site_names(&self) -> &[&'a str]
+        ensures { map (λ n. n.now) result.now ≡ self.now.sites }
+    {
+        &self.sites
+    }
+
+    /// What reads its events in order.
+    pub fn events(&self) -> Events
+        ensures { Stands result self.now 0 }
+    {
+        Events::from(self, 0)
+    }
+
+    /// The event at position `i`, which is below [`Trace::count`]. It takes no memory. In version 1 the time is
+    /// constant; in version 2 it is linear in the bytes of at most 64 items, of which those of good events have at most
+    /// 12 each: to read events in order, take [`Trace::events`].
     ///
     /// # Errors
     ///
-    /// The first fault of the record, in the order of [`EventFault`].
+    /// The first fault of its bytes, in the order of [`EventFault`].
     #[inline(always)]
     pub fn event_at(&self, i: u32) -> Result<Event, EventFault>
         requires { i < length self.now.records }
         ensures said { result ≡ record_at self.now.records i }
         ensures within { IfOk result (λ e. IsEventOf (length self.now.sites) (length self.now.funcs) e) }
     {
-        let sites = self.sites.len() as u32;
-        let funcs = self.funcs.len() as u32;
-        let Some(record) = record_in(self.body, i) else {
-            return Err(EventFault::Truncated);
-        };
-        event_of(record, sites, funcs)
+        Events::from(self, i).read(self, i)
     }
 
-    /// The event at a position where one is known to stand: what its tag and its numbers say. It leaves out the tests
-    /// that [`Trace::event_at`] makes.
+    /// The event at a position where one is known to stand: what its bytes say. It leaves out the tests that
+    /// [`Trace::event_at`] makes.
     #[inline(always)]
     pub fn known_event(&self, i: u32) -> Event
         requires inside { i < length self.now.records }
@@ -148,9 +191,6 @@ impl<'a> Trace<'a> {
         ensures said { record_at self.now.records i ≡ Ok result }
         ensures within { IsEventOf (length self.now.sites) (length self.now.funcs) result }
     {
-        let Some(record) = record_in(self.body, i) else {
-            unreachable!();
-        };
-        event_said(record)
+        Events::from(self, i).read_known(self, i)
     }
 }

@@ -1,15 +1,15 @@
-//! The bytes of a trace, written: what `header` and `records` read.
+//! The bytes of a trace of version 1, written: what `header` and `records` read.
 
 ghost use Rattle.std.specs.Prelude.{◌≡◌, ◌↔◌, ◌++◌, map, OnOk, IfOk, IsTrue};
 ghost use Rattle.std.specs.List.{flat_map, AllByRecursion};
 ghost use Rattle.spp_event.specs.Records.{word, spelling, IsEventOf};
 ghost use Rattle.spp_event.specs.Recordings.{InLimits};
-ghost use Rattle.spp_event.specs.Header.{IsName, HasGoodNames, IsTraceOf, name_spelling};
+ghost use Rattle.spp_event.specs.Header.{IsName, HasGoodNames, IsTraceOf, head_spelling, name_spelling};
 ghost use Rattle.spp_event.specs.Contents.{recording_of, HasOwnEvents};
 
-use crate::header::MAGIC;
+use crate::layout::RECORD;
 use crate::records::{Event, record_of};
-use crate::traces::RECORD;
+use crate::version::Version;
 use std::alloc::{AllocError, Global};
 
 /// What a trace is written from.
@@ -56,8 +56,28 @@ fn push_word(bytes: &mut Vec<u8>, n: u32) -> Result<(), AllocError>
     bytes.extend_from_slice(n.to_be_bytes().as_slice())
 }
 
+/// Adds the first 24 bytes of a trace: its version, how many functions and sites it names, its root function, and how
+/// many events it has.
+pub(crate) fn push_head(
+    bytes: &mut Vec<u8>,
+    version: Version,
+    funcs: u32,
+    sites: u32,
+    root: u32,
+    events: u32,
+) -> Result<(), AllocError>
+    ensures { OnOk result (bytes.new.items ≡ bytes.old.items ++ head_spelling version funcs sites root events) }
+{
+    bytes.extend_from_slice(version.magic())?;
+    push_word(bytes, funcs)?;
+    push_word(bytes, sites)?;
+    push_word(bytes, root)?;
+    push_word(bytes, events)?;
+    Ok(())
+}
+
 /// Adds a name behind its length.
-fn push_name(bytes: &mut Vec<u8>, name: &[u8]) -> Result<(), AllocError>
+pub(crate) fn push_name(bytes: &mut Vec<u8>, name: &[u8]) -> Result<(), AllocError>
     requires { IsName name.now }
     ensures { OnOk result (bytes.new.items ≡ bytes.old.items ++ name_spelling name.now) }
 {
@@ -87,7 +107,8 @@ fn push_records(bytes: &mut Vec<u8>, events: &[Event]) -> Result<(), AllocError>
     Ok(())
 }
 
-/// The bytes of the trace of these contents: its header, and the record of each event. Opened, they are that trace.
+/// The bytes of the trace of these contents, in version 1: its header, and the record of each event. Opened, they are
+/// that trace.
 ///
 /// The time and the memory are linear in the length of the names and the number of events: 16 bytes for each event.
 ///
@@ -98,14 +119,20 @@ pub fn trace_bytes(alloc: Global, contents: &Contents<'_>) -> Result<Vec<u8>, Al
     requires limits { InLimits (recording_of contents.now) }
     requires names { HasGoodNames (recording_of contents.now) }
     requires events { HasOwnEvents contents.now }
-    ensures { IfOk result (λ bytes. IsTraceOf bytes.items (recording_of contents.now) (flat_map spelling contents.now.events.now)) }
+    ensures { IfOk result (λ bytes. IsTraceOf bytes.items (recording_of contents.now)) }
 {
     let mut bytes = Vec::new(alloc);
-    bytes.extend_from_slice(MAGIC)?;
-    push_word(&mut bytes, contents.funcs.len() as u32)?;
-    push_word(&mut bytes, contents.sites.len() as u32)?;
-    push_word(&mut bytes, contents.root)?;
-    push_word(&mut bytes, contents.events.len() as u32)?;
+    let funcs = contents.funcs.len() as u32;
+    let sites = contents.sites.len() as u32;
+    let events = contents.events.len() as u32;
+    push_head(
+        &mut bytes,
+        Version::One,
+        funcs,
+        sites,
+        contents.root,
+        events,
+    )?;
     push_names(&mut bytes, contents.funcs)?;
     push_names(&mut bytes, contents.sites)?;
     bytes.reserve(RECORD * contents.events.len())?;

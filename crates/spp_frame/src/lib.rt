@@ -8,7 +8,7 @@ ghost use Rattle.spp_frame.specs.Nesting.{IsWellFormed, IsFirstBad, work, FirstB
 mod profile_fault;
 
 pub use profile_fault::ProfileFault;
-use spp_event::{Event, EventFault, Trace};
+use spp_event::{Event, EventFault, Events, Reader, Trace};
 use std::fmt;
 use thiserror::Error;
 
@@ -56,22 +56,16 @@ impl fmt::Display for Fault {
     }
 }
 
-/// The work of a well-formed trace, in instructions: the sum of the counts of all its strands.
-///
-/// The time is linear in the number of events. It takes no memory.
-///
-/// # Errors
-///
-/// The first bad event: the least position at which the record is bad, or at which a return stands while only the
-/// root frame is open; if there is none and frames are open at the end, that.
-pub fn check(trace: &Trace<'_>) -> Result<u128, Fault>
+/// What [`check`] says, by a reader that stands at the first event.
+fn check_by<R: Reader>(trace: &Trace<'_>, mut events: R) -> Result<u128, Fault>
+    requires { R.stands events trace.now 0 }
     ensures work { IfOk result (λ w. IsWellFormed trace.now.records × (w ≡ work trace.now.records)) }
     ensures fault { IfErr result (λ f. IsFirstBad trace.now.records f) }
 {
     let mut work: u128 = 0;
     let mut depth: u32 = 0;
     for at in 0..trace.count() {
-        let event = match trace.event_at(at) {
+        let event = match events.read(trace, at) {
             Ok(event) => event,
             Err(fault) => {
                 return Err(Fault {
@@ -102,6 +96,24 @@ pub fn check(trace: &Trace<'_>) -> Result<u128, Fault>
         });
     }
     Ok(work)
+}
+
+/// The work of a well-formed trace, in instructions: the sum of the counts of all its strands.
+///
+/// The time is linear in the number of events and, in version 2, in the length of the body. It takes no memory.
+///
+/// # Errors
+///
+/// The first bad event: the least position at which the record is bad, or at which a return stands while only the
+/// root frame is open; if there is none and frames are open at the end, that.
+pub fn check(trace: &Trace<'_>) -> Result<u128, Fault>
+    ensures work { IfOk result (λ w. IsWellFormed trace.now.records × (w ≡ work trace.now.records)) }
+    ensures fault { IfErr result (λ f. IsFirstBad trace.now.records f) }
+{
+    match trace.events() {
+        Events::Records(events) => check_by(trace, events),
+        Events::Items(events) => check_by(trace, events),
+    }
 }
 
 /// The laws of first bad events and well-formed traces. Its contract is what it is for.

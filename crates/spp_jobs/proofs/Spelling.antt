@@ -5,8 +5,10 @@ use Rattle.std.proofs.lemmas.List.{length-map, get_or-map, get_or_append_left, t
 use Rattle.std.proofs.lemmas.List.Sums.{sum_by-cons}
 use Rattle.spp_event.specs.declared.records.Event.TheVariants.{Strand, Call, Spawn, Ret, Sync}
 use Rattle.spp_event.specs.declared.records.EventFault.{EventFault}
-use Rattle.spp_event.specs.declared.records.EventFault.TheVariants.{Truncated, Tag, Padding, Site, Func}
-use Rattle.spp_event.specs.Recordings.{Record, Recording}
+use Rattle.spp_event.specs.declared.records.EventFault.TheVariants.{Truncated, Tag, Padding, Operand, Site, Func}
+use Rattle.spp_event.specs.declared.version.Version.{Version}
+use Rattle.spp_event.specs.declared.version.Version.TheVariants.{One, Two}
+use Rattle.spp_event.specs.Recordings.{Record, Recording, version_number}
 use Rattle.spp_cut.specs.Parts.{PartOf, CutOf, Cover, IsCut}
 use Rattle.spp_maxplus.specs.declared.state.Burdens.{Burdens}
 use Rattle.spp_jobs.specs.Names.{Kind, surveys, tables, paths, JobOf, spell_kind, spell_fault, spell_record, spell_list, spell_lists, spell_trace, counts_of, spell, parts_in, range_in, IsNamed}
@@ -52,7 +54,8 @@ fault_from zero = Truncated
 fault_from (suc zero) = Tag
 fault_from (suc (suc zero)) = Padding
 fault_from (suc (suc (suc zero))) = Site
-fault_from (suc (suc (suc (suc n)))) = Func
+fault_from (suc (suc (suc (suc zero)))) = Func
+fault_from (suc (suc (suc (suc (suc n))))) = Operand
 
 record_from : ℕ → ℕ → ℕ → Record
 record_from zero a b = Ok (Strand a)
@@ -73,6 +76,7 @@ unfolding fault_from
 fault_read Truncated = refl
 fault_read Tag = refl
 fault_read Padding = refl
+fault_read Operand = refl
 fault_read Site = refl
 fault_read Func = refl
 
@@ -119,17 +123,29 @@ records_one (x ∷ xs) (y ∷ ys) e =
 
 -- ---- a trace, and its parts
 
-abbrev recording : List (List ℕ) → List (List ℕ) → ℕ → List Record → Recording
-recording funcs sites root records = record { funcs = funcs; sites = sites; root = root; records = records }
+version_one : (v w : Version) → version_number v ≡ version_number w → v ≡ w
+version_one One One e = refl
+version_one Two Two e = refl
+version_one One Two e = absurd (omega arith)
+version_one Two One e = absurd (omega arith)
+
+abbrev recording : List (List ℕ) → List (List ℕ) → ℕ → List Record → Version → List ℕ → Recording
+recording funcs sites root records version body = record { funcs = funcs; sites = sites; root = root; records = records; version = version; body = body }
 
 trace_one : (t u : Recording) → spell_trace t ≡ spell_trace u → t ≡ u
 trace_one t u e =
-    let f = lists_one t.funcs u.funcs (spell_lists t.sites ++ t.root ∷ flat_map spell_record t.records) (spell_lists u.sites ++ u.root ∷ flat_map spell_record u.records) e in
-    let s = lists_one t.sites u.sites (t.root ∷ flat_map spell_record t.records) (u.root ∷ flat_map spell_record u.records) f.1 in
-    let tail : t.root ∷ flat_map spell_record t.records ≡ u.root ∷ flat_map spell_record u.records = s.1 in
+    let rest_t = version_number t.version ∷ t.root ∷ flat_map spell_record t.records in
+    let rest_u = version_number u.version ∷ u.root ∷ flat_map spell_record u.records in
+    let f = lists_one t.funcs u.funcs (spell_lists t.sites ++ (spell_list t.body ++ rest_t)) (spell_lists u.sites ++ (spell_list u.body ++ rest_u)) e in
+    let s = lists_one t.sites u.sites (spell_list t.body ++ rest_t) (spell_list u.body ++ rest_u) f.1 in
+    let b = list_one t.body u.body rest_t rest_u s.1 in
+    let tail : version_number t.version ∷ t.root ∷ flat_map spell_record t.records ≡ version_number u.version ∷ u.root ∷ flat_map spell_record u.records = b.1 in
+    let number : version_number t.version ≡ version_number u.version = cc in
     let root : t.root ≡ u.root = cc in
     let rest : flat_map spell_record t.records ≡ flat_map spell_record u.records = cc in
-    ap₂ (λ a b. recording a b t.root t.records) f.0 s.0 ∙ ap₂ (recording u.funcs u.sites) root (records_one t.records u.records rest)
+    ap₂ (λ x y. recording x y t.root t.records t.version t.body) f.0 s.0
+    ∙ ap₂ (λ x y. recording u.funcs u.sites x y t.version t.body) root (records_one t.records u.records rest)
+    ∙ ap₂ (recording u.funcs u.sites u.root u.records) (version_one t.version u.version number) b.0
 
 abbrev part : Recording → ℕ → ℕ → ℕ → PartOf
 part t number first count = record { trace = t; number = number; first = first; count = count }

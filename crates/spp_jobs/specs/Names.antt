@@ -3,8 +3,8 @@ use Rattle.std.specs.Prelude.{◌≡◌, ℕ, ◌-◌, ◌++◌, List, [], ◌�
 use Rattle.spp_event.specs.declared.records.Event.{Event}
 use Rattle.spp_event.specs.declared.records.Event.TheVariants.{Strand, Call, Spawn, Ret, Sync}
 use Rattle.spp_event.specs.declared.records.EventFault.{EventFault}
-use Rattle.spp_event.specs.declared.records.EventFault.TheVariants.{Truncated, Tag, Padding, Site, Func}
-use Rattle.spp_event.specs.Recordings.{Recording}
+use Rattle.spp_event.specs.declared.records.EventFault.TheVariants.{Truncated, Tag, Padding, Operand, Site, Func}
+use Rattle.spp_event.specs.Recordings.{Recording, version_number}
 use Rattle.spp_cut.specs.Parts.{PartOf, CutOf, IsCut, HasFewParts}
 use Rattle.spp_maxplus.specs.declared.state.Burdens.{Burdens}
 
@@ -35,6 +35,7 @@ spell_fault Tag = 1
 spell_fault Padding = 2
 spell_fault Site = 3
 spell_fault Func = 4
+spell_fault Operand = 5
 
 -- a record in three numbers
 abbrev pub spell_record : Result Event EventFault → List ℕ
@@ -53,9 +54,9 @@ spell_list xs = length xs ∷ xs
 abbrev pub spell_lists : List (List ℕ) → List ℕ
 spell_lists xss = length xss ∷ flat_map spell_list xss
 
--- a recording: its functions, its sites, its root function and its records
+-- a recording: its functions, its sites, its body, its version, its root function and its records
 abbrev pub spell_trace : Recording → List ℕ
-spell_trace t = spell_lists t.funcs ++ (spell_lists t.sites ++ t.root ∷ flat_map spell_record t.records)
+spell_trace t = spell_lists t.funcs ++ (spell_lists t.sites ++ (spell_list t.body ++ version_number t.version ∷ t.root ∷ flat_map spell_record t.records))
 
 -- how many events each part has
 abbrev pub counts_of : CutOf → List ℕ

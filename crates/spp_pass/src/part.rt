@@ -9,7 +9,7 @@ ghost use Rattle.spp_pass.specs.Shares.{IsPartOf};
 use crate::summing::Summing;
 use spp_cut::Part;
 use spp_dag::{Choices, FrameKind};
-use spp_event::Event;
+use spp_event::{Event, Events, Reader};
 use spp_maxplus::Burdens;
 use spp_site::Share;
 use spp_stack::Entry;
@@ -23,6 +23,39 @@ pub struct PartResult {
     pub share: Share,
     /// Of the choices that settle the run's paths those in the part, by their positions in the trace.
     pub choices: Choices,
+}
+
+/// What [`run_part`] gives, by a reader that stands at the first event of the part.
+fn run_by<R: Reader>(
+    alloc: Global,
+    part: &Part<'_, '_>,
+    entry: Entry<'_>,
+    burdens: Burdens,
+    mut events: R,
+) -> Result<PartResult, AllocError>
+    requires stands { StandsAt part.now.trace burdens part.now.first entry }
+    requires here { R.stands events part.now.trace part.now.first }
+    ensures { IfOk result (λ p. (es : List AnEvent) → AreEvents part.now.trace.records es → IsPartOf es burdens part.now.trace.root part.now.first (part.now.first + part.now.count) p.share p.choices) }
+{
+    part.keeps_limits();
+    burdens.are_small();
+    let first = part.first();
+    let mut summing = Summing::within(alloc, &entry)?;
+    let mut outside = entry.below();
+    for k in 0..part.count() {
+        let at = first + k;
+        match part.read_known_at(&mut events, k) {
+            Event::Strand { count } => summing.strand(count),
+            Event::Call { site, func } => summing.open(FrameKind::Called, at, site, func)?,
+            Event::Spawn { site, func } => summing.open(FrameKind::Spawned, at, site, func)?,
+            Event::Ret => {
+                outside = summing.reach(outside)?;
+                summing.ret(at, burdens)?;
+            }
+            Event::Sync => summing.sync(at)?,
+        }
+    }
+    summing.suspend()
 }
 
 /// The share of a part in the table of its run, and the choices in it, where `entry` has the frames that are open
@@ -47,23 +80,8 @@ pub fn run_part(
     requires { StandsAt part.now.trace burdens part.now.first entry }
     ensures { IfOk result (λ p. (es : List AnEvent) → AreEvents part.now.trace.records es → IsPartOf es burdens part.now.trace.root part.now.first (part.now.first + part.now.count) p.share p.choices) }
 {
-    part.keeps_limits();
-    burdens.are_small();
-    let first = part.first();
-    let mut summing = Summing::within(alloc, &entry)?;
-    let mut outside = entry.below();
-    for k in 0..part.count() {
-        let at = first + k;
-        match part.known_event(k) {
-            Event::Strand { count } => summing.strand(count),
-            Event::Call { site, func } => summing.open(FrameKind::Called, at, site, func)?,
-            Event::Spawn { site, func } => summing.open(FrameKind::Spawned, at, site, func)?,
-            Event::Ret => {
-                outside = summing.reach(outside)?;
-                summing.ret(at, burdens)?;
-            }
-            Event::Sync => summing.sync(at)?,
-        }
+    match part.events() {
+        Events::Records(events) => run_by(alloc, part, entry, burdens, events),
+        Events::Items(events) => run_by(alloc, part, entry, burdens, events),
     }
-    summing.suspend()
 }

@@ -162,6 +162,7 @@ impl Summing {
 
     /// Comes to the innermost of the frames outside, if the pass has come to no more than one; gives those that are
     /// left outside.
+    #[inline(always)]
     pub(crate) fn reach<'e>(
         &mut self,
         outside: Option<Entry<'e>>,

@@ -15,18 +15,18 @@ use crate::spans::OpenSpans;
 use crate::trail::Trail;
 use spp_cut::Part;
 use spp_dag::FrameKind;
-use spp_event::Event;
+use spp_event::{Event, Events, Reader};
 use spp_site::{Share, Table};
 use spp_stack::Entry;
 use std::alloc::{AllocError, Global};
 
-/// The shares of a part in the tables of two paths that were settled, where `entry` has the frames that are open before the
-/// part: of each path what [`part_rows`] gives.
+/// The shares of a part in the tables of two paths that were settled, where `entry` has the frames that are open before
+/// the part: of each path what [`part_rows`] gives.
 ///
-/// Where a path stays away from the part, that is found out as there, and the time is that of [`part_rows`] for each path.
-/// Else the events are read once for both, besides the lighter readings that find out that the paths come to the part:
-/// the weights of the open frames are kept once, and what is kept of a path for each. The memory is that for the weights
-/// and for what is kept of both paths at once.
+/// Where a path stays away from the part, that is found out as there, and the time is that of [`part_rows`] for each
+/// path. Else the events are read once for both, besides the lighter readings that find out that the paths come to the
+/// part: the weights of the open frames are kept once, and what is kept of a path for each. The memory is that for the
+/// weights and for what is kept of both paths at once.
 ///
 /// # Errors
 ///
@@ -69,13 +69,12 @@ pub fn both_part_rows(
     )
 }
 
-/// The same, where `live` and `other_live` have those of the open frames that the paths enter, and `entered` and
-/// `other_entered` are the spawns in the part of the children that they enter, in order.
+/// What [`both_rows_within`] gives, by a reader that stands at the first event of the part.
 ///
 /// # Errors
 ///
 /// Where an allocation failed.
-fn both_rows_within(
+fn both_rows_by<R: Reader>(
     alloc: Global,
     part: &Part<'_, '_>,
     entry: Entry<'_>,
@@ -83,10 +82,12 @@ fn both_rows_within(
     entered: &[u32],
     other_live: LiveFrame<'_>,
     other_entered: &[u32],
+    mut events: R,
 ) -> Result<(Share, Share), AllocError>
     requires stands { (burdens : Burdens) × HasEntry part.now.trace burdens part.now.first entry }
     requires goes { (burdens : Burdens) × GoesOn part.now burdens entry live.entry (record { skipped = live.skipped; running = live.running }) entered.now }
     requires other_goes { (burdens : Burdens) × GoesOn part.now burdens entry other_live.entry (record { skipped = other_live.skipped; running = other_live.running }) other_entered.now }
+    requires here { R.stands events part.now.trace part.now.first }
     ensures share { IfOk result (λ t. (burdens : Burdens) → GoesOn part.now burdens entry.entry live.entry.entry (record { skipped = live.entry.skipped; running = live.entry.running }) entered.now → (es : List AnEvent) → AreEvents part.now.trace.records es → IsPathShare es burdens part.now.trace.root part.now.first (part.now.first + part.now.count) t.0) }
     ensures other_share { IfOk result (λ t. (burdens : Burdens) → GoesOn part.now burdens entry.entry other_live.entry.entry (record { skipped = other_live.entry.skipped; running = other_live.entry.running }) other_entered.now → (es : List AnEvent) → AreEvents part.now.trace.records es → IsPathShare es burdens part.now.trace.root part.now.first (part.now.first + part.now.count) t.1) }
 {
@@ -105,7 +106,7 @@ fn both_rows_within(
     let mut left = Entered::new(entered);
     let mut other_left = Entered::new(other_entered);
     for k in 0..part.count() {
-        match part.known_event(k) {
+        match part.read_known_at(&mut events, k) {
             Event::Strand { count } => {
                 spans.strand(count);
                 rows.strand(count);
@@ -138,4 +139,49 @@ fn both_rows_within(
         }
     }
     Ok((rows.suspend()?, other_rows.suspend()?))
+}
+
+/// The same, where `live` and `other_live` have those of the open frames that the paths enter, and `entered` and
+/// `other_entered` are the spawns in the part of the children that they enter, in order.
+///
+/// # Errors
+///
+/// Where an allocation failed.
+fn both_rows_within(
+    alloc: Global,
+    part: &Part<'_, '_>,
+    entry: Entry<'_>,
+    live: LiveFrame<'_>,
+    entered: &[u32],
+    other_live: LiveFrame<'_>,
+    other_entered: &[u32],
+) -> Result<(Share, Share), AllocError>
+    requires stands { (burdens : Burdens) × HasEntry part.now.trace burdens part.now.first entry }
+    requires goes { (burdens : Burdens) × GoesOn part.now burdens entry live.entry (record { skipped = live.skipped; running = live.running }) entered.now }
+    requires other_goes { (burdens : Burdens) × GoesOn part.now burdens entry other_live.entry (record { skipped = other_live.skipped; running = other_live.running }) other_entered.now }
+    ensures share { IfOk result (λ t. (burdens : Burdens) → GoesOn part.now burdens entry.entry live.entry.entry (record { skipped = live.entry.skipped; running = live.entry.running }) entered.now → (es : List AnEvent) → AreEvents part.now.trace.records es → IsPathShare es burdens part.now.trace.root part.now.first (part.now.first + part.now.count) t.0) }
+    ensures other_share { IfOk result (λ t. (burdens : Burdens) → GoesOn part.now burdens entry.entry other_live.entry.entry (record { skipped = other_live.entry.skipped; running = other_live.entry.running }) other_entered.now → (es : List AnEvent) → AreEvents part.now.trace.records es → IsPathShare es burdens part.now.trace.root part.now.first (part.now.first + part.now.count) t.1) }
+{
+    match part.events() {
+        Events::Records(events) => both_rows_by(
+            alloc,
+            part,
+            entry,
+            live,
+            entered,
+            other_live,
+            other_entered,
+            events,
+        ),
+        Events::Items(events) => both_rows_by(
+            alloc,
+            part,
+            entry,
+            live,
+            entered,
+            other_live,
+            other_entered,
+            events,
+        ),
+    }
 }

@@ -23,7 +23,7 @@ use crate::settled::{LiveFrame, Settled};
 use crate::trail::Trail;
 use spp_cut::Part;
 use spp_dag::FrameKind;
-use spp_event::Event;
+use spp_event::{Event, Events, Reader};
 use spp_stack::Entry;
 use std::alloc::{AllocError, Global};
 
@@ -112,9 +112,9 @@ impl<'e> Marking<'e> {
 /// Marks which events of a part are on the path that was settled, where `entry` has the frames that are open before the
 /// part: byte `k` is 1 where the part's event `k` is on the path, else 0.
 ///
-/// The events of the part are read once, each in constant time, amortized. A frame that was open before is taken in once
-/// it returns. The memory is linear in the number of those frames that are opened in the part, are on the
-/// path and are open at a time.
+/// The events of the part are read once, each in constant time, amortized. A frame that was open before is taken in
+/// once it returns. The memory is linear in the number of those frames that are opened in the part, are on the path and
+/// are open at a time.
 ///
 /// # Errors
 ///
@@ -151,8 +151,51 @@ pub fn mark_part(
     )
 }
 
-/// The same, where `live` has those of the open frames that the path enters, `trail` tells how the path goes on, and
-/// `entered` are the spawns in the part of the children that it enters, in order.
+/// What [`mark_within`] does, by a reader that stands at the first event of the part.
+///
+/// # Errors
+///
+/// Where an allocation failed.
+fn mark_by<R: Reader>(
+    alloc: Global,
+    part: &Part<'_, '_>,
+    entry: Entry<'_>,
+    live: Entry<'_>,
+    trail: Trail,
+    entered: &[u32],
+    marks: &mut [u8],
+    mut events: R,
+) -> Result<(), AllocError>
+    requires stands { (burdens : Burdens) × HasEntry part.now.trace burdens part.now.first entry }
+    requires goes { (burdens : Burdens) × GoesOn part.now burdens entry live trail entered.now }
+    requires buffer { length marks.old ≡ part.now.count }
+    requires here { R.stands events part.now.trace part.now.first }
+    ensures length { length marks.new ≡ part.now.count }
+    ensures marks { OnOk result ((burdens : Burdens) → GoesOn part.now burdens entry.entry live.entry trail entered.now → (es : List AnEvent) → AreEvents part.now.trace.records es → AreMarksOf es burdens part.now.first marks.new) }
+{
+    part.keeps_limits();
+    let first = part.first();
+    let mut pass = Marking {
+        trail,
+        kinds: Vec::new(alloc),
+        outside: Some(live),
+    };
+    let mut entered = Entered::new(entered);
+    for k in 0..part.count() {
+        let on = match part.read_known_at(&mut events, k) {
+            Event::Strand { .. } => pass.trail.runs(),
+            Event::Call { .. } => pass.call()?,
+            Event::Spawn { .. } => pass.spawn(entered.takes(first + k))?,
+            Event::Ret => pass.ret(),
+            Event::Sync => pass.sync(),
+        };
+        marks[k as usize] = if on { 1 } else { 0 };
+    }
+    Ok(())
+}
+
+/// What [`mark_part`] does, where `live` has those of the open frames that the path enters, `trail` tells how the path
+/// goes on, and `entered` are the spawns in the part of the children that it enters, in order.
 ///
 /// # Errors
 ///
@@ -172,23 +215,12 @@ fn mark_within(
     ensures length { length marks.new ≡ part.now.count }
     ensures marks { OnOk result ((burdens : Burdens) → GoesOn part.now burdens entry.entry live.entry trail entered.now → (es : List AnEvent) → AreEvents part.now.trace.records es → AreMarksOf es burdens part.now.first marks.new) }
 {
-    part.keeps_limits();
-    let first = part.first();
-    let mut pass = Marking {
-        trail,
-        kinds: Vec::new(alloc),
-        outside: Some(live),
-    };
-    let mut entered = Entered::new(entered);
-    for k in 0..part.count() {
-        let on = match part.known_event(k) {
-            Event::Strand { .. } => pass.trail.runs(),
-            Event::Call { .. } => pass.call()?,
-            Event::Spawn { .. } => pass.spawn(entered.takes(first + k))?,
-            Event::Ret => pass.ret(),
-            Event::Sync => pass.sync(),
-        };
-        marks[k as usize] = if on { 1 } else { 0 };
+    match part.events() {
+        Events::Records(events) => {
+            mark_by(alloc, part, entry, live, trail, entered, marks, events)
+        }
+        Events::Items(events) => {
+            mark_by(alloc, part, entry, live, trail, entered, marks, events)
+        }
     }
-    Ok(())
 }

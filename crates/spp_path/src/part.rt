@@ -19,21 +19,21 @@ use crate::spans::OpenSpans;
 use crate::trail::Trail;
 use spp_cut::Part;
 use spp_dag::FrameKind;
-use spp_event::Event;
+use spp_event::{Event, Events, Reader};
 use spp_site::{Share, Table};
 use spp_stack::Entry;
 use std::alloc::{AllocError, Global};
 
-/// The share of a part in the table of a path that was settled, where `entry` has the frames that are open before the part:
-/// the path's strands in the part, and its frames that close there.
+/// The share of a part in the table of a path that was settled, where `entry` has the frames that are open before the
+/// part: the path's strands in the part, and its frames that close there.
 ///
 /// Where the innermost open frame is one that the path doesn't enter, the events are first read for the number of such
-/// frames alone, up to the return that leaves none open. Where there is no such return the share has no rows, and took no
-/// memory. Else the events of the part are read once, each in constant time, amortized, besides one step in all for each
-/// site and function that is open before the part, and for each number of a site or of a function up to the greatest. A
-/// frame that was open before is taken in once all frames above it have returned. The memory is linear in the numbers of
-/// frames that are opened in the part or returned to, of sites and of functions; what it gives takes memory for the rows of
-/// its own sites.
+/// frames alone, up to the return that leaves none open. Where there is no such return the share has no rows, and took
+/// no memory. Else the events of the part are read once, each in constant time, amortized, besides one step in all for
+/// each site and function that is open before the part, and for each number of a site or of a function up to the
+/// greatest. A frame that was open before is taken in once all frames above it have returned. The memory is linear in
+/// the numbers of frames that are opened in the part or returned to, of sites and of functions; what it gives takes
+/// memory for the rows of its own sites.
 ///
 /// # Errors
 ///
@@ -64,11 +64,10 @@ pub fn part_rows(
     rows_within(alloc, part, entry, live, trail, settled.entered(number))
 }
 
-/// Whether the path stays away from the part: `skipped` frames are open within the innermost one that it enters where the
-/// part begins, and the part doesn't return out of all of them. The events are read up to the return that does, each in
-/// constant time and without memory.
-pub(crate) fn stays_beside(part: &Part<'_, '_>, skipped: u32) -> bool
-    requires { (k : ℕ) → k < part.now.count → IsOk (record_at part.now.trace.records (part.now.first + k)) }
+/// What [`stays_beside`] tells, by a reader that stands at the first event of the part.
+fn stays_beside_by<R: Reader>(part: &Part<'_, '_>, skipped: u32, mut events: R) -> bool
+    requires good { (k : ℕ) → k < part.now.count → IsOk (record_at part.now.trace.records (part.now.first + k)) }
+    requires here { R.stands events part.now.trace part.now.first }
     ensures { IsTrue result ↔ StaysBeside part.now skipped }
 {
     let mut open = u64::from(skipped);
@@ -76,7 +75,7 @@ pub(crate) fn stays_beside(part: &Part<'_, '_>, skipped: u32) -> bool
         return false;
     }
     for k in 0..part.count() {
-        match part.known_event(k) {
+        match part.read_known_at(&mut events, k) {
             Event::Call { .. } | Event::Spawn { .. } => open += 1,
             Event::Ret => {
                 open -= 1;
@@ -90,22 +89,36 @@ pub(crate) fn stays_beside(part: &Part<'_, '_>, skipped: u32) -> bool
     true
 }
 
-/// The same, where `live` has those of the open frames that the path enters, `trail` tells how the path goes on, and
-/// `entered` are the spawns in the part of the children that it enters, in order.
+/// Whether the path stays away from the part: `skipped` frames are open within the innermost one that it enters where
+/// the part begins, and the part doesn't return out of all of them. The events are read up to the return that does,
+/// each in constant time and without memory.
+pub(crate) fn stays_beside(part: &Part<'_, '_>, skipped: u32) -> bool
+    requires { (k : ℕ) → k < part.now.count → IsOk (record_at part.now.trace.records (part.now.first + k)) }
+    ensures { IsTrue result ↔ StaysBeside part.now skipped }
+{
+    match part.events() {
+        Events::Records(events) => stays_beside_by(part, skipped, events),
+        Events::Items(events) => stays_beside_by(part, skipped, events),
+    }
+}
+
+/// What [`rows_within`] gives, by a reader that stands at the first event of the part.
 ///
 /// # Errors
 ///
 /// Where an allocation failed.
-fn rows_within(
+fn rows_by<R: Reader>(
     alloc: Global,
     part: &Part<'_, '_>,
     entry: Entry<'_>,
     live: Entry<'_>,
     trail: Trail,
     entered: &[u32],
+    mut events: R,
 ) -> Result<Share, AllocError>
     requires stands { (burdens : Burdens) × HasEntry part.now.trace burdens part.now.first entry }
     requires goes { (burdens : Burdens) × GoesOn part.now burdens entry live trail entered.now }
+    requires here { R.stands events part.now.trace part.now.first }
     ensures { IfOk result (λ t. (burdens : Burdens) → GoesOn part.now burdens entry.entry live.entry trail entered.now → (es : List AnEvent) → AreEvents part.now.trace.records es → IsPathShare es burdens part.now.trace.root part.now.first (part.now.first + part.now.count) t) }
 {
     part.keeps_limits();
@@ -116,7 +129,7 @@ fn rows_within(
     let mut outside_path = live.below();
     let mut entered = Entered::new(entered);
     for k in 0..part.count() {
-        match part.known_event(k) {
+        match part.read_known_at(&mut events, k) {
             Event::Strand { count } => {
                 spans.strand(count);
                 rows.strand(count);
@@ -143,4 +156,28 @@ fn rows_within(
         }
     }
     rows.suspend()
+}
+
+/// What [`part_rows`] gives, where `live` has those of the open frames that the path enters, `trail` tells how the path
+/// goes on, and `entered` are the spawns in the part of the children that it enters, in order.
+///
+/// # Errors
+///
+/// Where an allocation failed.
+fn rows_within(
+    alloc: Global,
+    part: &Part<'_, '_>,
+    entry: Entry<'_>,
+    live: Entry<'_>,
+    trail: Trail,
+    entered: &[u32],
+) -> Result<Share, AllocError>
+    requires stands { (burdens : Burdens) × HasEntry part.now.trace burdens part.now.first entry }
+    requires goes { (burdens : Burdens) × GoesOn part.now burdens entry live trail entered.now }
+    ensures { IfOk result (λ t. (burdens : Burdens) → GoesOn part.now burdens entry.entry live.entry trail entered.now → (es : List AnEvent) → AreEvents part.now.trace.records es → IsPathShare es burdens part.now.trace.root part.now.first (part.now.first + part.now.count) t) }
+{
+    match part.events() {
+        Events::Records(events) => rows_by(alloc, part, entry, live, trail, entered, events),
+        Events::Items(events) => rows_by(alloc, part, entry, live, trail, entered, events),
+    }
 }

@@ -1,6 +1,6 @@
 //! The rows of a whole run on a path: one reading of the events of a trace that is known to be well-formed.
 
-ghost use Rattle.std.specs.Prelude.{◌≡◌, ◌<◌, length, IfOk};
+ghost use Rattle.std.specs.Prelude.{◌≡◌, ◌+◌, ◌<◌, length, IfOk};
 ghost use Rattle.spp_frame.specs.Nesting.{IsWellFormed};
 ghost use Rattle.spp_maxplus.specs.declared.state.Burdens.{Burdens};
 ghost use Rattle.spp_site.specs.Profiles.{IsPathTable};
@@ -11,33 +11,32 @@ use crate::entered::Entered;
 use crate::rows::PathRows;
 use crate::spans::OpenSpans;
 use spp_dag::FrameKind;
-use spp_event::{Event, Trace};
+use spp_event::{Event, Events, Reader, Trace};
 use spp_site::Table;
 use std::alloc::{AllocError, Global};
 
-/// The event at a position of a trace that is known to be well-formed.
+/// The event at a position of a trace that is known to be well-formed, by a reader that stands there.
 #[inline(always)]
-fn known_event(trace: &Trace<'_>, at: u32) -> Event
+fn known_event<R: Reader>(trace: &Trace<'_>, events: &mut R, at: u32) -> Event
     requires formed { IsWellFormed trace.now.records }
     requires within { at < length trace.now.records }
-    ensures { IsRead trace.now at result }
+    requires here { R.stands events.old trace.now at }
+    ensures read { IsRead trace.now at result }
+    ensures next { R.stands events.new trace.now (at + 1) }
 {
-    trace.known_event(at)
+    events.read_known(trace, at)
 }
 
-/// The rows of a run on the path that enters these spawned children: `entered` has the spawns, in order, of the children
-/// that the first greatest path under some burdens enters. It is the table of that path, whatever the burdens are; spans
-/// have none. The trace is known to be well-formed.
-///
-/// The events are read once, each in constant time, amortized, behind a step for each site and function. The memory is
-/// linear in the number of frames that are open at a time, and in the numbers of sites and functions.
-///
-/// # Errors
-///
-/// Where an allocation failed.
-pub fn path_table(alloc: Global, trace: &Trace<'_>, entered: &[u32]) -> Result<Table, AllocError>
+/// What [`path_table`] gives, by a reader that stands at the first event.
+fn path_table_by<R: Reader>(
+    alloc: Global,
+    trace: &Trace<'_>,
+    entered: &[u32],
+    mut events: R,
+) -> Result<Table, AllocError>
     requires formed { IsWellFormed trace.now.records }
     requires marks { (burdens : Burdens) × AreEnteredOf trace.now burdens entered.now }
+    requires here { R.stands events trace.now 0 }
     ensures { IfOk result (λ t. (burdens : Burdens) → AreEnteredOf trace.now burdens entered.now → IsPathTable trace.now burdens t) }
 {
     let count = trace.count();
@@ -45,7 +44,7 @@ pub fn path_table(alloc: Global, trace: &Trace<'_>, entered: &[u32]) -> Result<T
     let mut rows = PathRows::new(alloc, trace.root())?;
     let mut entered = Entered::new(entered);
     for at in 0..count {
-        match known_event(trace, at) {
+        match known_event(trace, &mut events, at) {
             Event::Strand { count } => {
                 spans.strand(count);
                 rows.strand(count);
@@ -70,4 +69,25 @@ pub fn path_table(alloc: Global, trace: &Trace<'_>, entered: &[u32]) -> Result<T
         }
     }
     Ok(rows.finish(spans.innermost()))
+}
+
+/// The rows of a run on the path that enters these spawned children: `entered` has the spawns, in order, of the
+/// children that the first greatest path under some burdens enters. It is the table of that path, whatever the burdens
+/// are; spans have none. The trace is known to be well-formed.
+///
+/// The events are read once, each in constant time, amortized, behind a step for each site and function. The memory is
+/// linear in the number of frames that are open at a time, and in the numbers of sites and functions.
+///
+/// # Errors
+///
+/// Where an allocation failed.
+pub fn path_table(alloc: Global, trace: &Trace<'_>, entered: &[u32]) -> Result<Table, AllocError>
+    requires formed { IsWellFormed trace.now.records }
+    requires marks { (burdens : Burdens) × AreEnteredOf trace.now burdens entered.now }
+    ensures { IfOk result (λ t. (burdens : Burdens) → AreEnteredOf trace.now burdens entered.now → IsPathTable trace.now burdens t) }
+{
+    match trace.events() {
+        Events::Records(events) => path_table_by(alloc, trace, entered, events),
+        Events::Items(events) => path_table_by(alloc, trace, entered, events),
+    }
 }

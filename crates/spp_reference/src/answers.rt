@@ -17,7 +17,7 @@ use crate::dag::Dag;
 use crate::rows::{Places, is_in, row, work};
 use crate::walks::{path, span};
 use spp_dag::Row;
-use spp_event::{Event, Trace};
+use spp_event::{Event, Reader, Trace};
 use spp_frame::{ProfileFault, check};
 use spp_maxplus::Burdens;
 use std::alloc::{AllocError, Global};
@@ -59,8 +59,9 @@ fn events_of(alloc: Global, trace: &Trace<'_>) -> Result<Vec<Event>, AllocError>
     ensures small { IfOk result (λ events. IsSmall events.items) }
 {
     let mut events = Vec::new(alloc);
+    let mut reader = trace.events();
     for at in 0..trace.count() {
-        match trace.event_at(at) {
+        match reader.read(trace, at) {
             Ok(event) => events.push(event)?,
             Err(_) => unreachable!(),
         }

@@ -21,6 +21,8 @@ pub enum Command {
     Compare,
     /// Read a trace as text and write its bytes.
     Encode,
+    /// Convert a trace to version 2 of the format.
+    Migrate,
 }
 
 /// What a user asks for.
@@ -36,8 +38,8 @@ pub struct Request {
     pub burdens: Burdens,
     /// Into how many parts each trace is cut, which changes no answer; 16 where no number is given.
     pub parts: Parts,
-    /// How many workers answer, which changes no answer; 4 where no number is given. Only commands that go by parts of a
-    /// trace have them.
+    /// How many workers answer, which changes no answer; 4 where no number is given. Only commands that go by parts of
+    /// a trace have them.
     pub workers: Workers,
     /// Whether comma-separated values are asked for.
     pub csv: bool,

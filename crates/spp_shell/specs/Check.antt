@@ -23,7 +23,7 @@ event_line fault = line (codes "bad event " ++ fault_text fault)
 -- the bytes are those of a well-formed trace, and the text tells its work
 abbrev pub TellsWork : List ℕ → List ℕ → Type 0
 TellsWork bytes text =
-    (t : Recording) × (body : List ℕ) × IsTraceOf bytes t body × IsWellFormed t.records × (text ≡ work_text (work t.records))
+    (t : Recording) × IsTraceOf bytes t × IsWellFormed t.records × (text ≡ work_text (work t.records))
 
 -- the bytes open as no trace, and the line tells the fault that they have first
 abbrev pub TellsHeader : List ℕ → List ℕ → Type 0
@@ -35,7 +35,7 @@ IsFirstBadLine records told = (fault : Fault) × IsFirstBad records fault × (to
 
 -- the bytes are those of a trace that has a bad event, and the line tells the first
 abbrev pub TellsEvent : List ℕ → List ℕ → Type 0
-TellsEvent bytes told = (t : Recording) × (body : List ℕ) × IsTraceOf bytes t body × IsFirstBadLine t.records told
+TellsEvent bytes told = (t : Recording) × IsTraceOf bytes t × IsFirstBadLine t.records told
 
 -- the text for one input
 abbrev pub IsCheckText : List (List ℕ) → List ℕ → Type 0

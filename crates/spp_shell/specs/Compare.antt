@@ -14,12 +14,12 @@ use Rattle.spp_shell.specs.declared.place.Place.TheVariants.{Before, After}
 
 -- the bytes are those of a well-formed trace
 abbrev pub IsGoodTrace : List ℕ → Type 0
-IsGoodTrace bytes = (t : Recording) × (body : List ℕ) × IsTraceOf bytes t body × IsWellFormed t.records
+IsGoodTrace bytes = (t : Recording) × IsTraceOf bytes t × IsWellFormed t.records
 
 -- the bytes are those of a trace, and this is what is compared of its run
 abbrev pub IsToldOf : Burdens → List ℕ → Told → Type 0
 IsToldOf burdens bytes told =
-    (t : Recording) × (body : List ℕ) × (p : Profile) × IsTraceOf bytes t body × IsProfileOf t burdens p × (told ≡ told_of t p)
+    (t : Recording) × (p : Profile) × IsTraceOf bytes t × IsProfileOf t burdens p × (told ≡ told_of t p)
 
 -- the bytes are refused, and the line tells their first fault
 abbrev pub TellsFault : List ℕ → List ℕ → Type 0

@@ -10,7 +10,7 @@ use Rattle.spp_report.specs.Figures.{figures_text}
 -- the bytes are those of a trace with these figures, and the text tells them
 abbrev pub TellsFigures : Burdens → List ℕ → List ℕ → Type 0
 TellsFigures burdens bytes text =
-    (t : Recording) × (body : List ℕ) × (f : Figures) × IsTraceOf bytes t body × AreFigures t.records burdens f × (text ≡ figures_text f)
+    (t : Recording) × (f : Figures) × IsTraceOf bytes t × AreFigures t.records burdens f × (text ≡ figures_text f)
 
 -- the text for one input
 abbrev pub IsFiguresText : Burdens → List (List ℕ) → List ℕ → Type 0

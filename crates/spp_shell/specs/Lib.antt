@@ -5,6 +5,7 @@ pub mod Refusals
 pub mod InSources
 pub mod Check
 pub mod Encode
+pub mod Migrate
 pub mod Figures
 pub mod Profiles
 pub mod Compare

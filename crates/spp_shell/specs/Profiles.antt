@@ -16,7 +16,7 @@ report_text false t p = plain_text t p
 -- the bytes are those of a well-formed trace, and the text tells the profile of its run
 abbrev pub TellsProfile : Burdens → Bool → List ℕ → List ℕ → Type 0
 TellsProfile burdens csv bytes text =
-    (t : Recording) × (body : List ℕ) × (p : Profile) × IsTraceOf bytes t body × IsProfileOf t burdens p × (text ≡ report_text csv t p)
+    (t : Recording) × (p : Profile) × IsTraceOf bytes t × IsProfileOf t burdens p × (text ≡ report_text csv t p)
 
 -- the text for one input
 abbrev pub IsProfileText : Burdens → Bool → List (List ℕ) → List ℕ → Type 0

@@ -7,6 +7,7 @@ mod encode_task;
 mod figures_task;
 mod in_source;
 mod input;
+mod migrate_task;
 mod opening;
 mod place;
 mod profile_task;

@@ -43,7 +43,7 @@ pub(crate) fn refusal_of_event(alloc: Global, fault: Fault) -> Refusal
 
 /// The trace whose bytes these are, or what they are answered with that are none.
 pub(crate) fn open_or_refuse<'a>(alloc: Global, bytes: &'a [u8]) -> Result<Trace<'a>, Refusal>
-    ensures found { IfOk result (λ t. (body : List ℕ) × IsTraceOf bytes.now t body) }
+    ensures found { IfOk result (λ t. IsTraceOf bytes.now t) }
     ensures refused { IfErr result (λ refusal. IfLine refusal (λ line. TellsHeader bytes.now line)) }
 {
     match open_trace(alloc, bytes) {

@@ -11,6 +11,7 @@ use crate::compare_task::answer_compare;
 use crate::encode_task::answer_encode;
 use crate::figures_task::answer_figures;
 use crate::input::read_or_refuse;
+use crate::migrate_task::answer_migrate;
 use crate::place::Place;
 use crate::profile_task::answer_profile;
 use crate::refusal::Refusal;
@@ -53,6 +54,10 @@ fn answer<R: Threads + Wait + Sync + RandomSource, S: Source, T: Source>(
         Command::Encode => {
             let bytes = read_or_refuse(alloc, first, Place::Only)?;
             answer_encode(alloc, bytes.as_slice())
+        }
+        Command::Migrate => {
+            let bytes = read_or_refuse(alloc, first, Place::Only)?;
+            answer_migrate(alloc, bytes.as_slice())
         }
     }
 }

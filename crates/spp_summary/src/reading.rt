@@ -15,7 +15,7 @@ use crate::opens::{Kept, Open, keep, leave};
 use crate::returns::Returns;
 use crate::storage::Storage;
 use spp_cut::Part;
-use spp_event::{Event, EventFault};
+use spp_event::{Event, EventFault, Events, Reader};
 use spp_maxplus::{Burdens, ChildKind};
 use spp_piece::Segs;
 use std::alloc::{AllocError, Global};
@@ -234,6 +234,36 @@ impl Reading {
         Ok(())
     }
 
+    /// What [`Reading::of_part`] reads, by a reader that stands at the first event of the part.
+    fn of_part_by<R: Reader>(
+        alloc: Global,
+        part: &Part<'_, '_>,
+        burdens: Burdens,
+        mut reader: R,
+    ) -> Result<Reading, AllocError>
+        requires here { R.stands reader part.now.trace part.now.first }
+        ensures value { IfOk result (λ r. so_far r ≡ summary_of burdens part.now.first (records_in part.now)) }
+        ensures laid { IfOk result (λ r. IsLaid r) }
+        ensures small { IfOk result (λ r. IsSmall burdens part.now.count (so_far r)) }
+    {
+        part.keeps_limits();
+        // A value of its own, whose fields need no new look while the lists are written.
+        let own = part.again();
+        let first = part.first();
+        let events = part.count();
+        let mut reading = Reading::new(alloc);
+        for k in 0..events {
+            match own.read_at(&mut reader, k) {
+                Ok(event) => reading.read(burdens, first + k, event)?,
+                Err(why) => {
+                    reading.fault = Some((first + k, why));
+                    return Ok(reading);
+                }
+            }
+        }
+        Ok(reading)
+    }
+
     /// Reads the events of a part, up to the first bad record.
     ///
     /// # Errors
@@ -248,22 +278,14 @@ impl Reading {
         ensures laid { IfOk result (λ r. IsLaid r) }
         ensures small { IfOk result (λ r. IsSmall burdens part.now.count (so_far r)) }
     {
-        part.keeps_limits();
-        // A value of its own, whose fields need no new look while the lists are written.
-        let own = part.again();
-        let first = part.first();
-        let events = part.count();
-        let mut reading = Reading::new(alloc);
-        for k in 0..events {
-            match own.event_at(k) {
-                Ok(event) => reading.read(burdens, first + k, event)?,
-                Err(why) => {
-                    reading.fault = Some((first + k, why));
-                    return Ok(reading);
-                }
-            }
+        // A part without events walks to none: many of these can stand behind one long item.
+        if part.count() == 0 {
+            return Ok(Reading::new(alloc));
         }
-        Ok(reading)
+        match part.events() {
+            Events::Records(reader) => Reading::of_part_by(alloc, part, burdens, reader),
+            Events::Items(reader) => Reading::of_part_by(alloc, part, burdens, reader),
+        }
     }
 
     /// What was read.

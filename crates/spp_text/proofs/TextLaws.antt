@@ -47,4 +47,4 @@ text_names_trace t es l g records h =
     let most = l.events in
     let event : Event → Record = λ e. Ok e in
     let count : length t.records ≡ length es = ap length records ∙ length-map es event in
-    (opened t.funcs t.sites t.root es, text_says t es l g (omega arith) h 1, ap (λ (rs : List Record). record { funcs = t.funcs; sites = t.sites; root = t.root; records = rs }) records)
+    (opened t.funcs t.sites t.root es, text_says t es l g (omega arith) h 1, ap (λ (rs : List Record). record { funcs = t.funcs; sites = t.sites; root = t.root; records = rs; version = t.version; body = t.body }) records)

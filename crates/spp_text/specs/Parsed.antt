@@ -2,6 +2,7 @@
 use Rattle.std.specs.Prelude.{◌≡◌, ◌≢◌, ℕ, suc, ◌≤◌, List, [], ◌∷◌, length, take, map, min, unwrap_or, Result, Ok, Err}
 use Rattle.std.specs.List.{flat_map}
 use Rattle.std.specs.Str.Lines.{lines}
+use Rattle.spp_event.specs.declared.version.Version.TheVariants.{One}
 use Rattle.spp_event.specs.Records.{spelling}
 use Rattle.spp_event.specs.Recordings.{Recording}
 use Rattle.spp_event.specs.Header.{IsTraceOf}
@@ -20,18 +21,18 @@ abbrev pub Reads : {X : Type 0} → Result X TextWhy → Result Said TextWhy →
 Reads (Ok x) read new = read ≡ Ok new
 Reads (Err why) read new = IsWhy why read
 
--- the trace of which all this has been said
+-- the trace of which all this has been said, in version 1
 abbrev pub recording_of : Said → Recording
-recording_of s = record { funcs = s.funcs; sites = s.sites; root = unwrap_or s.root 0; records = map (λ e. Ok e) s.events }
+recording_of s = record { funcs = s.funcs; sites = s.sites; root = unwrap_or s.root 0; records = map (λ e. Ok e) s.events; version = One; body = flat_map spelling s.events }
 
--- the text names this trace
+-- the text names this trace, whatever its version
 abbrev pub Names : List ℕ → Recording → Type 0
-Names text t = (s : Said) × (read_text text ≡ Ok s) × (t ≡ recording_of s)
+Names text t = (s : Said) × (read_text text ≡ Ok s) × (t ≡ record (recording_of s) { version = t.version; body = t.body })
 
 -- the text says this, and these are the bytes of the trace of which it says so: its header and the spellings of its
 -- events, no more
 abbrev pub IsEncoded : List ℕ → List ℕ → Type 0
-IsEncoded text bytes = (s : Said) × (read_text text ≡ Ok s) × IsTraceOf bytes (recording_of s) (flat_map spelling s.events)
+IsEncoded text bytes = (s : Said) × (read_text text ≡ Ok s) × IsTraceOf bytes (recording_of s)
 
 -- the first fault of the text's least line that has one, or want of memory
 abbrev pub IsTextFault : List ℕ → TextFault → Type 0

@@ -233,7 +233,7 @@ impl<'t> Draft<'t> {
     /// The bytes of the trace: its header, and the records of its events.
     pub(crate) fn to_bytes(&self, alloc: Global) -> Result<Vec<u8>, AllocError>
         requires { opening_fault self.now ≡ None }
-        ensures { IfOk result (λ bytes. IsTraceOf bytes.items (recording_of self.now) (flat_map spelling self.now.events)) }
+        ensures { IfOk result (λ bytes. IsTraceOf bytes.items (recording_of self.now)) }
     {
         let contents = Contents {
             funcs: self.funcs.as_slice(),

@@ -10,7 +10,7 @@ ghost use Rattle.spp_text.specs.Printed.{PrintsEvents, IsPrintFault};
 ghost use Rattle.spp_text.specs.declared.print.PrintFault.TheVariants.{Memory};
 
 use itoa::Buffer;
-use spp_event::{Event, EventFault, Trace};
+use spp_event::{Event, EventFault, Events, Reader, Trace};
 use std::alloc::{AllocError, Global};
 use thiserror::Error;
 
@@ -112,19 +112,35 @@ fn push_event(text: &mut String, event: Event) -> Result<(), AllocError>
     }
 }
 
-/// Adds the lines of all events.
-fn push_events(text: &mut String, trace: &Trace<'_>) -> Result<(), PrintFault>
+/// Adds the lines of all events, by a reader that stands at the first.
+fn push_events_by<R: Reader>(
+    text: &mut String,
+    trace: &Trace<'_>,
+    mut events: R,
+) -> Result<(), PrintFault>
+    requires here { R.stands events trace.now 0 }
     ensures lines { OnOk result (PrintsEvents (length trace.now.sites) (length trace.now.funcs) (string_bytes text.old) trace.now.records (string_bytes text.new)) }
     ensures bad { IfErr result (λ fault. IsPrintFault trace.now.records fault) }
 {
     for at in 0..trace.count() {
-        let event = match trace.event_at(at) {
+        let event = match events.read(trace, at) {
             Ok(event) => event,
             Err(why) => return Err(PrintFault::Bad { at, why }),
         };
         push_event(text, event)?;
     }
     Ok(())
+}
+
+/// Adds the lines of all events.
+fn push_events(text: &mut String, trace: &Trace<'_>) -> Result<(), PrintFault>
+    ensures lines { OnOk result (PrintsEvents (length trace.now.sites) (length trace.now.funcs) (string_bytes text.old) trace.now.records (string_bytes text.new)) }
+    ensures bad { IfErr result (λ fault. IsPrintFault trace.now.records fault) }
+{
+    match trace.events() {
+        Events::Records(events) => push_events_by(text, trace, events),
+        Events::Items(events) => push_events_by(text, trace, events),
+    }
 }
 
 /// The text form of a trace: its `func` lines, its `site` lines, its `root` line and the lines of its events, each

@@ -1,10 +1,10 @@
-//! Whether the checker, the profiler on one thread and the one by workers say the same of a damaged trace: they name the
-//! same first bad event, or come to the same work.
+//! Whether the checker, the profiler on one thread and the one by workers say the same of a damaged trace: they name
+//! the same first bad event, or come to the same work.
 
 use rand_core::utils::NextWord;
 use rand_pcg::Pcg32;
 use spp_crew::{OpenGate, profile};
-use spp_cut::{Parts, cut_even};
+use spp_cut::{Cut, Parts, cut_bytes, cut_even};
 use spp_event::{HeaderFault, Trace, open_trace};
 use spp_frame::{Fault, ProfileFault, check};
 use spp_maxplus::Burdens;
@@ -15,8 +15,11 @@ use std::io;
 use std::sync::Wait;
 use std::thread::Threads;
 
-/// Into how many parts a trace is cut for the workers.
+/// Into how many parts a trace of version 1 is cut for the workers.
 const PARTS: u32 = 7;
+
+/// At how many bytes one of version 2 is cut at most.
+const MOST_CUTS: u64 = 100;
 
 /// How many workers share them.
 const WORKERS: u32 = 2;
@@ -24,7 +27,7 @@ const WORKERS: u32 = 2;
 /// In how many places a trace is damaged at most, where that is left to chance.
 const MOST_PLACES: u32 = 4;
 
-/// What all say of some bytes.
+/// What the three of them say of some bytes.
 #[derive(Clone, Copy)]
 enum Said {
     /// Their header is refused.
@@ -33,7 +36,7 @@ enum Said {
     Bad,
     /// They are those of a well-formed trace.
     Good,
-    /// They don't say the same, or memory ran out.
+    /// The three differ, or memory ran out.
     Unlike,
 }
 
@@ -67,6 +70,19 @@ fn told(profile: Result<Profile, ProfileFault>) -> Option<Result<u128, Fault>> {
     }
 }
 
+/// A trace of version 2 cut at each byte of its body, but at no more than so many, one of version 1 in even parts; none
+/// where an allocation failed.
+fn cut_up<'t, 'a>(alloc: Global, trace: &'t Trace<'a>) -> Option<Cut<'t, 'a>> {
+    if trace.version() != 2 {
+        return cut_even(alloc, trace, Parts::new(PARTS)?).ok();
+    }
+    let mut cuts = Vec::new(alloc);
+    for at in 0..=trace.body_len().min(MOST_CUTS) {
+        cuts.push(at).ok()?;
+    }
+    cut_bytes(alloc, trace, &cuts).ok()
+}
+
 /// What the profiler by workers tells.
 fn told_by_workers<R: Threads + Wait + Sync>(
     rt: &R,
@@ -74,11 +90,11 @@ fn told_by_workers<R: Threads + Wait + Sync>(
     trace: &Trace<'_>,
     burdens: Burdens,
 ) -> Option<Result<u128, Fault>> {
-    let cut = cut_even(alloc, trace, Parts::new(PARTS)?).ok()?;
+    let cut = cut_up(alloc, trace)?;
     told(profile(rt, alloc, &cut, WORKERS, burdens, &OpenGate))
 }
 
-/// What all say of these bytes.
+/// What the three of them say of these bytes.
 fn what_is_said<R: Threads + Wait + Sync>(rt: &R, alloc: Global, bytes: &[u8]) -> Said {
     let trace = match open_trace(alloc, bytes) {
         Ok(trace) => trace,
@@ -140,7 +156,7 @@ fn damaged(alloc: Global, bytes: &[u8], chance: &mut Pcg32) -> Option<Vec<u8>> {
     Some(copy)
 }
 
-/// Prints how many damaged traces there were and what was said of them. Whether all said the same of each.
+/// Prints how many damaged traces there were and what was said of them. Whether they agree on each.
 fn print_counts(rt: &impl Print, counts: &Counts) -> io::Result<bool> {
     let Counts {
         refused,
@@ -149,12 +165,12 @@ fn print_counts(rt: &impl Print, counts: &Counts) -> io::Result<bool> {
         unlike,
     } = counts;
     println!(rt;
-        "{refused} headers refused, {bad} with a bad event, {good} well-formed, {unlike} of which not all say the same"
+        "{refused} headers refused, {bad} with a bad event, {good} well-formed, {unlike} on which they differ"
     )?;
     Ok(*unlike == 0)
 }
 
-/// Of no trace anything was said yet.
+/// No traces yet.
 const NONE: Counts = Counts {
     refused: 0,
     bad: 0,
@@ -162,7 +178,7 @@ const NONE: Counts = Counts {
     unlike: 0,
 };
 
-/// Gives each byte of a trace each other value, and prints what is said of these traces. Whether all say the same of each.
+/// Gives each byte of a trace each other value, and prints what is said of these traces. Whether they agree on each.
 pub(crate) fn print_each<R: Print + Threads + Wait + Sync>(
     rt: &R,
     alloc: Global,

@@ -6,7 +6,8 @@ use std::alloc::{AllocError, Global};
 use std::test::Fail;
 
 /// A trace of seven events: a strand of 1, a spawned child of 10, then 4, a sync and 2.
-const SMALL: &[u8] = b"SPTRACE1\x00\x00\x00\x02\x00\x00\x00\x01\x00\x00\x00\x00\x00\x00\x00\x07\
+pub(crate) const SMALL: &[u8] =
+    b"SPTRACE1\x00\x00\x00\x02\x00\x00\x00\x01\x00\x00\x00\x00\x00\x00\x00\x07\
 \x00\x04main\x00\x01f\x00\x01A\
 \x00\x00\x00\x00\x00\x00\x00\x00\x00\x00\x00\x00\x00\x00\x00\x01\
 \x02\x00\x00\x00\x00\x00\x00\x00\x00\x00\x00\x01\x00\x00\x00\x00\
@@ -16,7 +17,7 @@ const SMALL: &[u8] = b"SPTRACE1\x00\x00\x00\x02\x00\x00\x00\x01\x00\x00\x00\x00\
 \x04\x00\x00\x00\x00\x00\x00\x00\x00\x00\x00\x00\x00\x00\x00\x00\
 \x00\x00\x00\x00\x00\x00\x00\x00\x00\x00\x00\x00\x00\x00\x00\x02";
 
-const EVENTS: [Event; 7] = [
+pub(crate) const EVENTS: [Event; 7] = [
     Event::Strand { count: 1 },
     Event::Spawn { site: 0, func: 1 },
     Event::Strand { count: 10 },
@@ -39,12 +40,12 @@ fn edited(alloc: Global, at: usize, byte: u8) -> Result<Vec<u8>, AllocError> {
 }
 
 /// The fault that the trace's header has, or none.
-fn header_fault(alloc: Global, bytes: &[u8]) -> Option<HeaderFault> {
+pub(crate) fn header_fault(alloc: Global, bytes: &[u8]) -> Option<HeaderFault> {
     open_trace(alloc, bytes).err()
 }
 
 /// What stands at position `i` of the trace, or none where it doesn't open or has no such position.
-fn record(alloc: Global, bytes: &[u8], i: u32) -> Option<Result<Event, EventFault>> {
+pub(crate) fn record(alloc: Global, bytes: &[u8], i: u32) -> Option<Result<Event, EventFault>> {
     let trace = open_trace(alloc, bytes).ok()?;
     if i < trace.count() {
         Some(trace.event_at(i))
@@ -54,7 +55,7 @@ fn record(alloc: Global, bytes: &[u8], i: u32) -> Option<Result<Event, EventFaul
 }
 
 /// The event at position `i` of the trace, where it opens and a good record stands there, read as a known one.
-fn known(alloc: Global, bytes: &[u8], i: u32) -> Option<Event> {
+pub(crate) fn known(alloc: Global, bytes: &[u8], i: u32) -> Option<Event> {
     let trace = open_trace(alloc, bytes).ok()?;
     if i < trace.count() && trace.event_at(i).is_ok() {
         Some(trace.known_event(i))
@@ -168,7 +169,7 @@ fn a_header_that_ends_early_is_short(rt: HostRuntime) -> Result<(), Fail> {
 
 /// Where another byte in `SMALL` makes which fault of its header.
 const BAD_HEADERS: &[(usize, u8, HeaderFault)] = &[
-    (7, b'2', HeaderFault::Magic),
+    (7, b'3', HeaderFault::Magic),
     (11, 0, HeaderFault::Limits),
     (9, 1, HeaderFault::Limits),
     (13, 1, HeaderFault::Limits),

@@ -2,6 +2,8 @@
 #![tactic(auto)]
 
 #[cfg(test)]
+mod compact;
+#[cfg(test)]
 mod cut;
 #[cfg(test)]
 mod event;

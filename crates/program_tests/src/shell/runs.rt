@@ -78,7 +78,8 @@ fn a_bad_trace_is_told_in_one_line(rt: HostRuntime) -> Result<(), Fail> {
 /// Bytes that are no header, and the line that tells it.
 const BAD_HEADERS: &[(&[u8], &[u8])] = &[
     (b"", b"bad header: short\n"),
-    (b"SPTRACE2................", b"bad header: magic\n"),
+    (b"SPTRACE3................", b"bad header: magic\n"),
+    (b"SPTRACE2................", b"bad header: limits\n"),
 ];
 
 #[test]

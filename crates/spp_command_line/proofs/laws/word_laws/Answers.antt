@@ -11,7 +11,7 @@ use Rattle.spp_command_line.specs.Spprof.{spprof}
 use Rattle.spp_command_line.specs.Laws.{Ask, CommandAlone, Dash, Fail, Help, HelpBefore, OneWord, TwoWords, name_of}
 use Rattle.clap.proofs.OnLiterals.{clap_on_literals}
 use Rattle.spp_request.specs.declared.request.Command.{Command}
-use Rattle.spp_request.specs.declared.request.Command.TheVariants.{Check, Figures, Profile, Compare, Encode}
+use Rattle.spp_request.specs.declared.request.Command.TheVariants.{Check, Figures, Profile, Compare, Encode, Migrate}
 use Rattle.spp_command_line.specs.Usage.{Gives, IsFlag, IsNamed, IsNumberIn, IsNumberOr, IsRequestOf, number_of, paths_of}
 use Rattle.clap.specs.declared.error.kind.ErrorKind.TheVariants.{DisplayHelp}
 use Rattle.spp_command_line.proofs.laws.word_laws.Goals as goal
@@ -31,6 +31,9 @@ is_check Compare e =
 is_check Encode e =
     let bad : true ≡ false = ap (λ (t : Text). bytes_eq t (codes "check")) e in
     cc
+is_check Migrate e =
+    let bad : true ≡ false = ap (λ (t : Text). bytes_eq t (codes "check")) e in
+    cc
 
 is_figures : (c : Command) → IsNamed (codes "figures") c → c ≡ Figures
 is_figures Check e =
@@ -44,6 +47,9 @@ is_figures Compare e =
     let bad : true ≡ false = ap (λ (t : Text). bytes_eq t (codes "figures")) e in
     cc
 is_figures Encode e =
+    let bad : true ≡ false = ap (λ (t : Text). bytes_eq t (codes "figures")) e in
+    cc
+is_figures Migrate e =
     let bad : true ≡ false = ap (λ (t : Text). bytes_eq t (codes "figures")) e in
     cc
 
@@ -61,6 +67,9 @@ is_profile Compare e =
 is_profile Encode e =
     let bad : true ≡ false = ap (λ (t : Text). bytes_eq t (codes "profile")) e in
     cc
+is_profile Migrate e =
+    let bad : true ≡ false = ap (λ (t : Text). bytes_eq t (codes "profile")) e in
+    cc
 
 is_encode : (c : Command) → IsNamed (codes "encode") c → c ≡ Encode
 is_encode Check e =
@@ -76,6 +85,27 @@ is_encode Compare e =
     let bad : true ≡ false = ap (λ (t : Text). bytes_eq t (codes "encode")) e in
     cc
 is_encode Encode e = refl
+is_encode Migrate e =
+    let bad : true ≡ false = ap (λ (t : Text). bytes_eq t (codes "encode")) e in
+    cc
+
+is_migrate : (c : Command) → IsNamed (codes "migrate") c → c ≡ Migrate
+is_migrate Check e =
+    let bad : true ≡ false = ap (λ (t : Text). bytes_eq t (codes "migrate")) e in
+    cc
+is_migrate Figures e =
+    let bad : true ≡ false = ap (λ (t : Text). bytes_eq t (codes "migrate")) e in
+    cc
+is_migrate Profile e =
+    let bad : true ≡ false = ap (λ (t : Text). bytes_eq t (codes "migrate")) e in
+    cc
+is_migrate Compare e =
+    let bad : true ≡ false = ap (λ (t : Text). bytes_eq t (codes "migrate")) e in
+    cc
+is_migrate Encode e =
+    let bad : true ≡ false = ap (λ (t : Text). bytes_eq t (codes "migrate")) e in
+    cc
+is_migrate Migrate e = refl
 
 is_compare : (c : Command) → IsNamed (codes "compare") c → c ≡ Compare
 is_compare Check e =
@@ -89,6 +119,9 @@ is_compare Profile e =
     cc
 is_compare Compare e = refl
 is_compare Encode e =
+    let bad : true ≡ false = ap (λ (t : Text). bytes_eq t (codes "compare")) e in
+    cc
+is_compare Migrate e =
     let bad : true ≡ false = ap (λ (t : Text). bytes_eq t (codes "compare")) e in
     cc
 
@@ -277,6 +310,19 @@ one_encode x rest plain =
       subst (λ o. Gives o Encode ((x ∷ rest) ∷ []) (equal 15000) 16 4 false) (sym found) (refl, sym path, (refl, refl), refl, refl, no_flag),
     )
 
+one_migrate : (x : ℕ) (rest : Text) → (x == 45) ≡ false → Ask (codes "migrate" ∷ (x ∷ rest) ∷ []) Migrate ((x ∷ rest) ∷ []) (equal 15000) 16 4 false
+unfolding clap_on_literals given unsaid
+one_migrate x rest plain =
+    let rows : List Row = given (codes "FILE") ((x ∷ rest) ∷ []) ∷ [] in
+    let found : subcommand_of spprof (codes "spprof" ∷ codes "migrate" ∷ (x ∷ rest) ∷ []) ≡ Some (codes "migrate", rows) = simp plain in
+    let path : paths_of (Some (x ∷ rest)) None None ≡ (x ∷ rest) ∷ [] = simp plain in (
+      simp plain,
+      (λ r h.
+          let q : IsRequestOf (Some (codes "migrate", rows)) r = subst (λ o. IsRequestOf o r) found h in
+          (is_migrate r.command q.0, q.1 ∙ path, as_given r.burdens q.2, q.3, q.4, q.5.0 refl)),
+      subst (λ o. Gives o Migrate ((x ∷ rest) ∷ []) (equal 15000) 16 4 false) (sym found) (refl, sym path, (refl, refl), refl, refl, no_flag),
+    )
+
 pub returns-clause-one_word : goal.returns-clause-one_word
 returns-clause-one_word c = one
   where
@@ -286,6 +332,7 @@ returns-clause-one_word c = one
     one Profile x rest over plain = one_profile x rest plain
     one Compare x rest over plain = absurd over
     one Encode x rest over plain = one_encode x rest plain
+    one Migrate x rest over plain = one_migrate x rest plain
 
 two_words : TwoWords
 unfolding clap_on_literals
@@ -294,6 +341,7 @@ two_words Figures x y rest more over plain plain2 = simp (plain, plain2)
 two_words Profile x y rest more over plain plain2 = simp (plain, plain2)
 two_words Compare x y rest more over plain plain2 = absurd over
 two_words Encode x y rest more over plain plain2 = simp (plain, plain2)
+two_words Migrate x y rest more over plain plain2 = simp (plain, plain2)
 
 pub returns-clause-two_words : goal.returns-clause-two_words
 returns-clause-two_words c = two_words
@@ -305,6 +353,7 @@ alone Figures over = (refl, (λ r h. (is_figures r.command h.0, h.1, as_given r.
 alone Profile over = (refl, (λ r h. (is_profile r.command h.0, h.1, as_given r.burdens (h.2.0.0 burden_unsaid, h.2.1), h.3.0 parts_unsaid, h.4.0 workers_unsaid, h.5.1 refl)), (refl, refl, (spells (codes "15000") burden_unsaid, refl), spells (codes "16") parts_unsaid, spells (codes "4") workers_unsaid, flag_off))
 alone Compare over = absurd over
 alone Encode over = (refl, (λ r h. (is_encode r.command h.0, h.1, as_given r.burdens h.2, h.3, h.4, h.5.0 refl)), (refl, refl, (refl, refl), refl, refl, no_flag))
+alone Migrate over = (refl, (λ r h. (is_migrate r.command h.0, h.1, as_given r.burdens h.2, h.3, h.4, h.5.0 refl)), (refl, refl, (refl, refl), refl, refl, no_flag))
 
 pub returns-clause-command_alone : goal.returns-clause-command_alone
 returns-clause-command_alone c = alone
@@ -316,6 +365,7 @@ dash Figures over = (refl, (λ r h. (is_figures r.command h.0, h.1, as_given r.b
 dash Profile over = (refl, (λ r h. (is_profile r.command h.0, h.1, as_given r.burdens (h.2.0.0 burden_unsaid, h.2.1), h.3.0 parts_unsaid, h.4.0 workers_unsaid, h.5.1 refl)), (refl, refl, (spells (codes "15000") burden_unsaid, refl), spells (codes "16") parts_unsaid, spells (codes "4") workers_unsaid, flag_off))
 dash Compare over = absurd over
 dash Encode over = (refl, (λ r h. (is_encode r.command h.0, h.1, as_given r.burdens h.2, h.3, h.4, h.5.0 refl)), (refl, refl, (refl, refl), refl, refl, no_flag))
+dash Migrate over = (refl, (λ r h. (is_migrate r.command h.0, h.1, as_given r.burdens h.2, h.3, h.4, h.5.0 refl)), (refl, refl, (refl, refl), refl, refl, no_flag))
 
 pub returns-clause-dash : goal.returns-clause-dash
 returns-clause-dash c = dash
@@ -330,6 +380,7 @@ help = (refl, of)
     of Profile = refl
     of Compare = refl
     of Encode = refl
+    of Migrate = refl
 
 pub returns-clause-help : goal.returns-clause-help
 returns-clause-help c = help
@@ -344,6 +395,7 @@ help_before = (refl, of)
     of Profile = refl
     of Compare = refl
     of Encode = refl
+    of Migrate = refl
 
 pub returns-clause-help_before : goal.returns-clause-help_before
 returns-clause-help_before c = help_before

@@ -7,7 +7,7 @@ pub returns-clause-found : goal.returns-clause-found
 returns-clause-found c = is_found c.args.bytes.now c.checked.result (λ i. omega (arith, c.type_inv.bytes i)) c.checked.ensures
 
 pub returns-clause-only : goal.returns-clause-only
-returns-clause-only c = λ t body h. is_only c.args.bytes.now c.checked.result t (trace_again c.args.bytes.now t body h) c.checked.ensures
+returns-clause-only c = λ t h. is_only c.args.bytes.now c.checked.result t (trace_again c.args.bytes.now t h) c.checked.ensures
 
 pub returns-clause-refused : goal.returns-clause-refused
 returns-clause-refused c = is_refused c.args.bytes.now c.checked.result (λ i. omega (arith, c.type_inv.bytes i)) c.checked.ensures

@@ -12,10 +12,11 @@ loop-at-preserved c =
     let es = c.loop-at.events.items in
     let e = c.in-Ok.event in
     let lt : at < length rs = omega (arith, c.count-at-end.ensures.count) in
-    let said : record_at rs at ≡ Ok e = sym c.event_at.ensures.said ∙ c.in-Ok.is in
+    let said : record_at rs at ≡ Ok e = sym c.read.ensures.said ∙ c.in-Ok.is in
     let pushed = sym c.in_ok-push-in-Ok.ensures.items in
     record {
       are = subst (λ (xs : List Event). take (at + 1) rs ≡ map (λ x. Ok x) xs) pushed (event_more rs at es e lt said c.loop-at.invariant.are);
       small = subst (λ (xs : List Event). (k : ℕ) → weight xs k < 2 ^ 64) pushed
           (weights_more (length c.args.trace.now.sites) (length c.args.trace.now.funcs) es e c.loop-at.invariant.small c.in-Ok.ensures.within);
+      next = c.read.ensures.next;
     }

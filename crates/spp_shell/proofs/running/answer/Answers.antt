@@ -2,6 +2,7 @@ use Rattle.std.proofs.Common.{refl, inr}
 use Rattle.spp_shell.specs.Check.{IsCheckText, IsCheckLine}
 use Rattle.spp_shell.specs.Devices.{Giving, giving_of}
 use Rattle.spp_shell.specs.Encode.{IsEncodeText, IsEncodeLine}
+use Rattle.spp_shell.specs.Migrate.{IsMigrateText, IsMigrateLine}
 use Rattle.spp_shell.specs.Figures.{IsFiguresText}
 use Rattle.spp_shell.specs.Profiles.{IsProfileText}
 use Rattle.spp_shell.specs.declared.place.Place.TheVariants.{Only}
@@ -71,6 +72,22 @@ returns-in_ok-bytes-in-Encode-clause-refused g c =
     let bytes = c.in_ok-bytes-in-Encode.bytes.items in
     let gave = c.in_ok-bytes-in-Encode.ensures.read in
     rw c.in-Encode.is (told_first (λ text. text.items) first second bytes gave refl Only IsEncodeLine c.answer_encode.result (inr (bytes, gave)) (rw c.as_slice-in-Encode.ensures.value at c.answer_encode.ensures.line))
+
+pub returns-in_ok-bytes-in-Migrate-clause-text : goal.returns-in_ok-bytes-in-Migrate-clause-text
+returns-in_ok-bytes-in-Migrate-clause-text g c =
+    let first : Giving = giving_of g.S.Source.answered g.S.Source.failed g.S.Source.failures c.args.first.now c.read_or_refuse-in-Migrate.new.input in
+    let second : Giving = giving_of g.T.Source.answered g.T.Source.failed g.T.Source.failures c.args.second.now c.args.second.now in
+    let bytes = c.in_ok-bytes-in-Migrate.bytes.items in
+    let gave = c.in_ok-bytes-in-Migrate.ensures.read in
+    rw c.in-Migrate.is (answered_first (λ text. text.items) first second bytes gave refl IsMigrateText c.answer_migrate.result (rw c.as_slice-in-Migrate.ensures.value at c.answer_migrate.ensures.text))
+
+pub returns-in_ok-bytes-in-Migrate-clause-refused : goal.returns-in_ok-bytes-in-Migrate-clause-refused
+returns-in_ok-bytes-in-Migrate-clause-refused g c =
+    let first : Giving = giving_of g.S.Source.answered g.S.Source.failed g.S.Source.failures c.args.first.now c.read_or_refuse-in-Migrate.new.input in
+    let second : Giving = giving_of g.T.Source.answered g.T.Source.failed g.T.Source.failures c.args.second.now c.args.second.now in
+    let bytes = c.in_ok-bytes-in-Migrate.bytes.items in
+    let gave = c.in_ok-bytes-in-Migrate.ensures.read in
+    rw c.in-Migrate.is (told_first (λ text. text.items) first second bytes gave refl Only IsMigrateLine c.answer_migrate.result (inr (bytes, gave)) (rw c.as_slice-in-Migrate.ensures.value at c.answer_migrate.ensures.line))
 
 pub returns-in-Compare-clause-text : goal.returns-in-Compare-clause-text
 returns-in-Compare-clause-text g c = rw c.in-Compare.is c.answer_compare.ensures.text

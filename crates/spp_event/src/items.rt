@@ -1,0 +1,242 @@
+//! Events as version 2 spells them: items of at most thirteen bytes.
+
+ghost use Rattle.std.specs.Prelude.{◌≡◌, ◌++◌, ◌<◌, ◌^◌, ℕ, List, None, IfOk, IfSome, OnOk};
+ghost use Rattle.std.specs.Int.Digits.{digits_of};
+ghost use Rattle.spp_event.specs.Items.{operand, item_of, within_trace, read_item};
+ghost use Rattle.spp_event.specs.Places.{GoesOn};
+ghost use Rattle.spp_event.specs.Records.{IsEvent, IsEventOf};
+ghost use Rattle.spp_event.specs.declared.records.Event.{Event as EventValue};
+
+use crate::records::{Event, EventFault};
+use std::alloc::{AllocError, Global};
+
+/// The base of operands, which is also added to the last digit.
+const BASE: u64 = 64;
+
+/// Adds the digits of a number in base 64, the highest first; none for 0.
+fn push_digits(bytes: &mut Vec<u8>, n: u64) -> Result<(), AllocError>
+    ensures { OnOk result (bytes.new.items ≡ bytes.old.items ++ digits_of 64 n) }
+{
+    if n == 0 {
+        return Ok(());
+    }
+    push_digits(bytes, n / BASE)?;
+    bytes.push((n % BASE) as u8)?;
+    Ok(())
+}
+
+/// Adds a number: its digits, the last of them raised.
+fn push_operand(bytes: &mut Vec<u8>, n: u64) -> Result<(), AllocError>
+    ensures { OnOk result (bytes.new.items ≡ bytes.old.items ++ operand n) }
+{
+    push_digits(bytes, n / BASE)?;
+    bytes.push((BASE + n % BASE) as u8)?;
+    Ok(())
+}
+
+/// Adds the item of an event.
+pub(crate) fn push_item(bytes: &mut Vec<u8>, event: Event) -> Result<(), AllocError>
+    ensures { OnOk result (bytes.new.items ≡ bytes.old.items ++ item_of event) }
+{
+    match event {
+        Event::Strand { count } => {
+            bytes.push(0x80)?;
+            push_operand(bytes, count)
+        }
+        Event::Call { site, func } => {
+            bytes.push(0x81)?;
+            push_operand(bytes, u64::from(site))?;
+            push_operand(bytes, u64::from(func))
+        }
+        Event::Spawn { site, func } => {
+            bytes.push(0x82)?;
+            push_operand(bytes, u64::from(site))?;
+            push_operand(bytes, u64::from(func))
+        }
+        Event::Ret => Ok(bytes.push(0x83)?),
+        Event::Sync => Ok(bytes.push(0x84)?),
+    }
+}
+
+/// The item of an event: its one spelling in version 2 of the format, the compact one. It has at most thirteen bytes,
+/// and twelve where it is an event of a trace.
+///
+/// # Errors
+///
+/// Where an allocation failed.
+pub fn compact_of(alloc: Global, event: Event) -> Result<Vec<u8>, AllocError>
+    ensures { IfOk result (λ bytes. bytes.items ≡ item_of event) }
+{
+    let mut bytes = Vec::new(alloc);
+    push_item(&mut bytes, event)?;
+    Ok(bytes)
+}
+
+/// The number that the bytes begin with, and the bytes behind it; none where they begin with no number below 2^64 in
+/// its one spelling.
+#[inline(never)]
+fn operand_of(bytes: &[u8]) -> Option<(u64, &[u8])>
+    ensures some { IfSome result (λ x. bytes.now ≡ operand x.0 ++ x.1.now) }
+    ensures none { result ≡ None → (n : ℕ) (rest : List ℕ) → n < 2 ^ 64 → (bytes.now ≡ operand n ++ rest) → ⊥ }
+{
+    let mut n: u64 = 0;
+    for k in 0..bytes.len() {
+        let digit = u64::from(bytes[k]);
+        if n >= 1 << 58 || digit >= 2 * BASE || (k == 0 && digit == 0) {
+            return None;
+        }
+        if digit >= BASE {
+            return Some((n * BASE + (digit - BASE), &bytes[k + 1..]));
+        }
+        n = n * BASE + digit;
+    }
+    None
+}
+
+/// A number that the bytes begin with, and the bytes behind it, as [`operand_of`] finds it; numbers of one digit, which most
+/// are, without its loop.
+#[inline(always)]
+fn operand_in_front(bytes: &[u8]) -> Option<(u64, &[u8])>
+    ensures { IfSome result (λ x. bytes.now ≡ operand x.0 ++ x.1.now) }
+{
+    let (first, rest) = bytes.split_first()?;
+    let digit = u64::from(*first);
+    if digit >= BASE && digit < 2 * BASE {
+        return Some((digit - BASE, rest));
+    }
+    operand_of(bytes)
+}
+
+/// The one number that the bytes are; none where they are no number below 2^64 in its one spelling.
+fn one_number(bytes: &[u8]) -> Option<u64>
+    ensures some { IfSome result (λ n. bytes.now ≡ operand n) }
+    ensures none { result ≡ None → (n : ℕ) → n < 2 ^ 64 → (bytes.now ≡ operand n) → ⊥ }
+{
+    let (n, rest) = operand_of(bytes)?;
+    if rest.is_empty() { Some(n) } else { None }
+}
+
+/// The two numbers that the bytes are; none where they are no two numbers below 2^32, each in its one spelling.
+fn two_numbers(bytes: &[u8]) -> Option<(u32, u32)>
+    ensures some { IfSome result (λ x. bytes.now ≡ operand x.0 ++ operand x.1) }
+    ensures none { result ≡ None → (n m : ℕ) → n < 2 ^ 32 → m < 2 ^ 32 → (bytes.now ≡ operand n ++ operand m) → ⊥ }
+{
+    let (n, rest) = operand_of(bytes)?;
+    let m = one_number(rest)?;
+    if n >= 1 << 32 || m >= 1 << 32 {
+        return None;
+    }
+    Some((n as u32, m as u32))
+}
+
+/// The event whose item the bytes are, if there is one.
+pub(crate) fn spelled(item: &[u8]) -> Option<Event>
+    ensures some { IfSome result (λ e. (item.now ≡ item_of e) × IsEvent e) }
+    ensures none { result ≡ None → (e : EventValue) → IsEvent e → (item.now ≡ item_of e) → ⊥ }
+{
+    let (lead, rest) = item.split_first()?;
+    match *lead {
+        0x80 => {
+            let count = one_number(rest)?;
+            Some(Event::Strand { count })
+        }
+        0x81 => {
+            let (site, func) = two_numbers(rest)?;
+            Some(Event::Call { site, func })
+        }
+        0x82 => {
+            let (site, func) = two_numbers(rest)?;
+            Some(Event::Spawn { site, func })
+        }
+        0x83 if rest.is_empty() => Some(Event::Ret),
+        0x84 if rest.is_empty() => Some(Event::Sync),
+        _ => None,
+    }
+}
+
+/// The event whose item stands in front, and the bytes behind it; none where that item is bad, or goes on behind what
+/// would be the item of an event. The caller then looks at the whole item.
+#[inline(always)]
+pub(crate) fn front(bytes: &[u8]) -> Option<(Event, &[u8])>
+    ensures is { IfSome result (λ x. (bytes.now ≡ item_of x.0 ++ x.1.now) × IsEvent x.0) }
+    ensures on { IfSome result (λ x. GoesOn x.1.now) }
+{
+    let (event, rest) = front_event(bytes)?;
+    match rest.first() {
+        Some(next) if *next < 0x80 => None,
+        _ => Some((event, rest)),
+    }
+}
+
+/// The event whose item the bytes begin with, whatever stands behind it.
+#[inline(always)]
+fn front_event(bytes: &[u8]) -> Option<(Event, &[u8])>
+    ensures { IfSome result (λ x. (bytes.now ≡ item_of x.0 ++ x.1.now) × IsEvent x.0) }
+{
+    let (lead, rest) = bytes.split_first()?;
+    match *lead {
+        0x80 => {
+            let (count, rest) = operand_in_front(rest)?;
+            Some((Event::Strand { count }, rest))
+        }
+        0x81 => {
+            let (site, func, rest) = two_in_front(rest)?;
+            Some((Event::Call { site, func }, rest))
+        }
+        0x82 => {
+            let (site, func, rest) = two_in_front(rest)?;
+            Some((Event::Spawn { site, func }, rest))
+        }
+        0x83 => Some((Event::Ret, rest)),
+        0x84 => Some((Event::Sync, rest)),
+        _ => None,
+    }
+}
+
+/// The two numbers below 2^32 that the bytes begin with, and the bytes behind them.
+#[inline(always)]
+fn two_in_front(bytes: &[u8]) -> Option<(u32, u32, &[u8])>
+    ensures { IfSome result (λ x. bytes.now ≡ operand x.0 ++ operand x.1 ++ x.2.now) }
+{
+    let (n, rest) = operand_in_front(bytes)?;
+    let (m, rest) = operand_in_front(rest)?;
+    if n >= 1 << 32 || m >= 1 << 32 {
+        return None;
+    }
+    Some((n as u32, m as u32, rest))
+}
+
+/// The event, where the site and the function that it names, if any, are among so many.
+#[inline(always)]
+pub(crate) fn within(event: Event, sites: u32, funcs: u32) -> Result<Event, EventFault>
+    requires { IsEvent event }
+    ensures said { result ≡ within_trace sites funcs event }
+    ensures of_trace { IfOk result (λ e. IsEventOf sites funcs e) }
+{
+    match event {
+        Event::Call { site, .. } | Event::Spawn { site, .. } if site >= sites => {
+            Err(EventFault::Site)
+        }
+        Event::Call { func, .. } | Event::Spawn { func, .. } if func >= funcs => {
+            Err(EventFault::Func)
+        }
+        _ => Ok(event),
+    }
+}
+
+/// What an item says: its event, or what is wrong with it first. An item that isn't there has no bytes.
+pub(crate) fn event_of_item(item: &[u8], sites: u32, funcs: u32) -> Result<Event, EventFault>
+    ensures said { result ≡ read_item sites funcs item.now }
+    ensures of_trace { IfOk result (λ e. IsEventOf sites funcs e) }
+{
+    let Some(lead) = item.first() else {
+        return Err(EventFault::Truncated);
+    };
+    if *lead < 0x80 || *lead > 0x84 {
+        return Err(EventFault::Tag);
+    }
+    match spelled(item) {
+        Some(event) => within(event, sites, funcs),
+        None => Err(EventFault::Operand),
+    }
+}

@@ -1,8 +1,0 @@
-use Rattle.std.proofs.Common.{◌+◌}
-use Rattle.spp_pass.specs.Passes.{seen}
-use Rattle.spp_pass.proofs.Going.{Going}
-use Rattle.spp_pass.proofs.part.run_part.Given as goal
-
--- as far as the event at `k` of the part the pass has run
-abbrev pub invariant-loop-k : goal.invariant-loop-k
-invariant-loop-k l = record { going : Going l.part.trace l.fn.burdens l.part.first (l.first + l.k) l.outside (seen l.summing) }
