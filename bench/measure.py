@@ -1,4 +1,4 @@
-"""Times two programs on one trace by turns; see `run`.
+"""Times two programs on one trace by turns; see `plain`.
 
 measure.py KIND TRACE ROUNDS SPPROF PLAIN WORD.. prints the rows of one kind, after
 ROUNDS runs of `SPPROF WORD.. < TRACE` and of `PLAIN WORD.. < TRACE`. Both must print

@@ -4,7 +4,7 @@
 usage: bench/versions.py EVENTS ROUNDS KIND..
 
 The program is that of the variable SPPROF, or the one that was built last; it also writes the traces of version 2.
-`bench/run` compiles the program that makes the traces."""
+`bench/plain` compiles the program that makes the traces."""
 import os
 import subprocess
 import sys

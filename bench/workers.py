@@ -4,7 +4,7 @@
 usage: bench/workers.py EVENTS ROUNDS KIND..
 
 The program is that of the variable SPPROF, or the one that was built last. Where the variable OTHER names another
-program that takes the same words, it's timed too, with 4 workers; it need not print the same. `bench/run` compiles the
+program that takes the same words, it's timed too, with 4 workers; it need not print the same. `bench/plain` compiles the
 program that makes the traces."""
 import fcntl
 import os
