@@ -40,6 +40,7 @@ pub fn entries(alloc: Global, root: u32, summaries: &[Summary]) -> Result<Entrie
 {
     let mut builder = StackBuilder::start(alloc, root, most_nodes(summaries))?;
     let mut starts = Vec::with_capacity(alloc, summaries.len() + 1)?;
+    let mut frames = Vec::new(alloc);
     let mut at = 0;
     starts.push(Start {
         top: 0,
@@ -48,7 +49,7 @@ pub fn entries(alloc: Global, root: u32, summaries: &[Summary]) -> Result<Entrie
     })?;
     for summary in summaries {
         summary.burdens().are_small();
-        builder.pass(alloc, summary)?;
+        builder.pass(&mut frames, summary)?;
         at += summary.events();
         starts.push(Start {
             top: builder.last(),

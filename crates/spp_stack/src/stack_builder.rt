@@ -71,33 +71,39 @@ fn kind_of(kind: ChildKind) -> FrameKind
 
 /// What the return of a frame that was entered at the position `at` and closed with that weight does to its parent. The
 /// burdens are those of the state.
-fn after_child(kind: FrameKind, at: u32, weight: u128, burdens: Burdens, parent: State) -> State
-    requires { parent.spine + weight < 2 ^ 127 }
-    ensures { result ≡ child_returned burdens kind at weight parent }
+fn receive_child(state: &mut State, kind: FrameKind, at: u32, weight: u128, burdens: Burdens)
+    requires { state.old.spine + weight < 2 ^ 127 }
+    ensures { state.new ≡ child_returned burdens kind at weight state.old }
 {
-    let mut state = parent;
     match kind {
         FrameKind::Root => {}
         FrameKind::Called => state.receive(ChildKind::Called, at, weight, burdens),
         FrameKind::Spawned => state.receive(ChildKind::Spawned, at, weight, burdens),
     }
-    state
 }
 
-/// The frame `parent`, where the frame `child` that it opened has returned to it.
-fn after_return(burdens: Burdens, child: EntryFrame, parent: EntryFrame) -> EntryFrame
-    requires plain { parent.state.spine + peak child.state < 2 ^ 127 }
-    requires burdened { parent.burdened.spine + peak child.burdened < 2 ^ 127 }
-    ensures { result ≡ frame_returned burdens child parent }
+/// The frame `child` that `parent` opened returns to it. What stays of the parent isn't moved.
+fn receive(burdens: Burdens, child: &EntryFrame, parent: &mut EntryFrame)
+    requires plain { parent.old.state.spine + peak child.now.state < 2 ^ 127 }
+    requires burdened { parent.old.burdened.spine + peak child.now.burdened < 2 ^ 127 }
+    ensures { parent.new ≡ frame_returned burdens child.now parent.old }
 {
-    let EntryFrame { kind, at, .. } = child;
     let plain = child.state.close();
     let burdened = child.burdened.close();
-    EntryFrame {
-        state: after_child(kind, at, plain, Burdens::default(), parent.state),
-        burdened: after_child(kind, at, burdened, burdens, parent.burdened),
-        ..parent
-    }
+    receive_child(
+        &mut parent.state,
+        child.kind,
+        child.at,
+        plain,
+        Burdens::default(),
+    );
+    receive_child(
+        &mut parent.burdened,
+        child.kind,
+        child.at,
+        burdened,
+        burdens,
+    );
 }
 
 /// The link of a node over one that is marked or not, from that one's own.
@@ -107,16 +113,19 @@ fn nearest(marked: bool, number: u32, link: Option<u32>) -> Option<u32>
     if marked { Some(number) } else { link }
 }
 
-/// The frames that a part leaves open, the outermost first. It takes time and memory linear in their number.
-fn open_frames(alloc: Global, summary: &Summary) -> Result<Vec<Frame>, AllocError>
-    ensures { IfOk result (λ v. v.items ≡ reverse summary.now.sum.frames) }
+/// Reads the frames that a part leaves open into a list, the outermost first, in place of what it held. It takes time
+/// linear in their number, and memory only where the list had no room for so many: a list that is used again for each
+/// part is made once.
+fn read_open(frames: &mut Vec<Frame>, summary: &Summary) -> Result<(), AllocError>
+    ensures { OnOk result (frames.new.items ≡ reverse summary.now.sum.frames) }
 {
-    let mut frames = Vec::with_capacity(alloc, summary.frame_count())?;
+    frames.clear();
+    frames.reserve_exact(summary.frame_count())?;
     for frame in summary.frames() {
         frames.push(frame)?;
     }
     frames.reverse();
-    Ok(frames)
+    Ok(())
 }
 
 impl StackBuilder {
@@ -172,7 +181,7 @@ impl StackBuilder {
         self.unmark();
         let child = self.top.frame;
         self.top = self.nodes[below as usize];
-        self.top.frame = after_return(burdens, child, self.top.frame);
+        receive(burdens, &child, &mut self.top.frame);
     }
 
     /// The innermost frame becomes a node.
@@ -264,8 +273,8 @@ impl StackBuilder {
         }
     }
 
-    /// The frames that a part leaves open.
-    fn open_all(&mut self, alloc: Global, summary: &Summary) -> Result<(), AllocError>
+    /// The frames that a part leaves open. They are read into the list.
+    fn open_all(&mut self, frames: &mut Vec<Frame>, summary: &Summary) -> Result<(), AllocError>
         requires stands { (x : Now) × Stands self.old x }
         requires kept { IsKept self.old }
         requires few { length self.old.nodes.items + length summary.now.sum.frames ≤ 2 ^ 32 }
@@ -276,15 +285,19 @@ impl StackBuilder {
         ensures count { OnOk result (length self.new.nodes.items ≡ length self.old.nodes.items + length summary.now.sum.frames) }
         ensures work { self.new.work ≡ self.old.work }
     {
-        let frames = open_frames(alloc, summary)?;
+        read_open(frames, summary)?;
         for k in 0..frames.len() {
             self.open(&frames[k])?;
         }
         Ok(())
     }
 
-    /// A part.
-    pub(crate) fn pass(&mut self, alloc: Global, summary: &Summary) -> Result<(), AllocError>
+    /// A part. The frames that it leaves open are read into the list.
+    pub(crate) fn pass(
+        &mut self,
+        frames: &mut Vec<Frame>,
+        summary: &Summary,
+    ) -> Result<(), AllocError>
         requires sound { summary.now.sum.fault ≡ None }
         requires stands { (x : Now) × Stands self.old x × IsOpen (play (entry_ops summary.now.burdens) summary.now.sum x).frames × (peaks x.frames + load summary.now.burdens summary.now.sum < 2 ^ 127) }
         requires few { length self.old.nodes.items + length summary.now.sum.frames < 2 ^ 32 }
@@ -298,7 +311,7 @@ impl StackBuilder {
         self.close_all(summary);
         self.along(&summary.middle());
         self.keep()?;
-        self.open_all(alloc, summary)?;
+        self.open_all(frames, summary)?;
         self.work += summary.work();
         Ok(())
     }

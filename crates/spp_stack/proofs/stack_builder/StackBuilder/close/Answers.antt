@@ -24,5 +24,5 @@ returns-clause-stands c =
       top_func = refl;
       site_link = refl;
       func_link = refl;
-      frame = c.after_return-self.ensures ∙ ap (λ (t : Node). returned c.args.burdens t.frame node.frame) c.unmark.ensures.top;
+      frame = c.receive.ensures ∙ ap (λ (t : Node). returned c.args.burdens t.frame node.frame) c.unmark.ensures.top;
     })

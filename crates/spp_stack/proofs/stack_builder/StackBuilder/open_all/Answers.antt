@@ -15,15 +15,15 @@ open-requires-clause-stands c =
 pub open-requires-clause-work : goal.open-requires-clause-work
 open-requires-clause-work c =
     let all = c.args.summary.now.sum.frames in
-    let count : c.len-k-end.result ≡ length all = c.len-k-end.ensures ∙ c.in_ok-frames.frames.ok.0 ∙ ap length c.in_ok-frames.ensures ∙ length-reverse all in
+    let count : c.len-k-end.result ≡ length all = c.len-k-end.ensures ∙ c.read_open.new.frames.ok.0 ∙ ap length c.in_ok-read_open.ensures ∙ length-reverse all in
     let frame : Frame = c.index.result.now in
-    let is : frame ≡ slice_index_or (reverse all) c.loop-k.k frame = subst (λ (l : List Frame). frame ≡ slice_index_or l c.loop-k.k frame) c.in_ok-frames.ensures c.index.ensures in
+    let is : frame ≡ slice_index_or (reverse all) c.loop-k.k frame = subst (λ (l : List Frame). frame ≡ slice_index_or l c.loop-k.k frame) c.in_ok-read_open.ensures c.index.ensures in
     let fits = before_fits all c.loop-k.k frame (omega (arith, c.loop-k-test.true, count)) is in
     omega (arith, fits, c.loop-k.invariant.work, c.requires.work)
 
 pub returns-clause-stands : goal.returns-clause-stands
 returns-clause-stands c x s =
     let all = c.args.summary.now.sum.frames in
-    let count : c.len-k-end.result ≡ length all = c.len-k-end.ensures ∙ c.in_ok-frames.frames.ok.0 ∙ ap length c.in_ok-frames.ensures ∙ length-reverse all in
+    let count : c.len-k-end.result ≡ length all = c.len-k-end.ensures ∙ c.read_open.new.frames.ok.0 ∙ ap length c.in_ok-read_open.ensures ∙ length-reverse all in
     subst (λ n. Stands c.loop-k.self n) (frames_all c.args.summary.now.burdens all c.loop-k.k x (omega (arith, c.loop-k-test.false, count)))
     (c.loop-k.invariant.stands x s)

@@ -1,5 +1,5 @@
 use Rattle.std.proofs.Common.{◌≡◌, ◌++◌}
-use Rattle.spp_stack.proofs.stack_builder.open_frames.Given as goal
+use Rattle.spp_stack.proofs.stack_builder.read_open.Given as goal
 
 -- the frames that were read, and those that are left
 abbrev pub invariant-loop-frame : goal.invariant-loop-frame
