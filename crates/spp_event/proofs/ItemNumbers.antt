@@ -69,6 +69,14 @@ operand_ends n d h =
     ap (λ (k : ℕ). digits_of 64 k ++ (64 + d) ∷ []) (sym (back n d h).0)
     ∙ ap (λ (k : ℕ). digits_of 64 ((n * 64 + d) / 64) ++ (64 + k) ∷ []) (sym (back n d h).1)
 
+-- a number of two digits in front
+pub two_digits : (a b n : ℕ) (rest : List ℕ) → 0 < a → a < 64 → 64 ≤ b → b < 128 → n ≡ a * 64 + (b - 64) → a ∷ b ∷ rest ≡ operand n ++ rest
+two_digits a b n rest some small last end is =
+    let d : digits_of 64 a ≡ a ∷ [] = sym (digits_more 0 a small (omega arith) ∙ ap (λ (k : ℕ). digits_of 64 k) (let s : 0 * 64 + a ≡ a = omega arith in s)) in
+    ap (λ (k : ℕ). a ∷ k ∷ rest) (let s : b ≡ 64 + (b - 64) = omega arith in s)
+    ∙ ap (λ (l : List ℕ). (l ++ (64 + (b - 64)) ∷ []) ++ rest) (sym d)
+    ∙ ap (λ (l : List ℕ). l ++ rest) (operand_ends a (b - 64) (omega arith) ∙ ap operand (sym is))
+
 pub take_more : (bytes : List ℕ) (k b : ℕ) → k < length bytes → get_or bytes k 0 ≡ b → take (k + 1) bytes ≡ take k bytes ++ b ∷ []
 take_more bytes k b h e = ap (λ (j : ℕ). take j bytes) (let s : k + 1 ≡ suc k = omega arith in s) ∙ take-suc bytes k 0 h ∙ ap (λ (x : ℕ). take k bytes ++ x ∷ []) e
 

@@ -93,8 +93,8 @@ fn operand_of(bytes: &[u8]) -> Option<(u64, &[u8])>
     None
 }
 
-/// A number that the bytes begin with, and the bytes behind it, as [`operand_of`] finds it; numbers of one digit, which most
-/// are, without its loop.
+/// A number that the bytes begin with, and the bytes behind it, as [`operand_of`] finds it; numbers of one digit and of two,
+/// which nearly all are, without its loop.
 #[inline(always)]
 fn operand_in_front(bytes: &[u8]) -> Option<(u64, &[u8])>
     ensures { IfSome result (λ x. bytes.now ≡ operand x.0 ++ x.1.now) }
@@ -103,6 +103,12 @@ fn operand_in_front(bytes: &[u8]) -> Option<(u64, &[u8])>
     let digit = u64::from(*first);
     if digit >= BASE && digit < 2 * BASE {
         return Some((digit - BASE, rest));
+    }
+    if let Some((second, rest)) = rest.split_first() {
+        let last = u64::from(*second);
+        if digit > 0 && digit < BASE && last >= BASE && last < 2 * BASE {
+            return Some((digit * BASE + (last - BASE), rest));
+        }
     }
     operand_of(bytes)
 }
