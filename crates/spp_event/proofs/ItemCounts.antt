@@ -2,7 +2,7 @@
 use Rattle.std.proofs.Common.{◌≡◌, ℕ, zero, suc, ◌+◌, ◌-◌, ◌<◌, ◌≤◌, Bool, nat_le, cond, List, [], ◌∷◌, ◌++◌, length, take, drop, get_or, refl, sym, ap, ◌∙◌, arith, inl, inr}
 use Rattle.std.specs.List.{count_by}
 use Rattle.std.proofs.lemmas.Bool.{cases_lt, le-leb, lt-leb}
-use Rattle.std.proofs.lemmas.List.{take-append-drop}
+use Rattle.std.proofs.lemmas.List.{take-append-drop, take_all}
 use Rattle.std.proofs.lemmas.List.Sums.{sum_by-cons, sum_by-append}
 use Rattle.spp_event.specs.Items.{in_front, items}
 use Rattle.spp_event.proofs.ItemPlaces.{starts_by, in_front_high, in_front_low}
@@ -15,8 +15,22 @@ abbrev pub begun : List ℕ → ℕ
 begun [] = 0
 begun (b ∷ bs) = 1 + leads bs
 
-leads_cons : (c : ℕ) (cs : List ℕ) → leads (c ∷ cs) ≡ cond (nat_le 128 c) 1 0 + leads cs
+pub leads_cons : (c : ℕ) (cs : List ℕ) → leads (c ∷ cs) ≡ cond (nat_le 128 c) 1 0 + leads cs
 leads_cons c cs = sum_by-cons (λ (x : ℕ). cond (nat_le 128 x) 1 0) c cs
+
+-- one byte more
+pub leads_more : (bs : List ℕ) (k : ℕ) → k < length bs → leads (take (k + 1) bs) ≡ leads (take k bs) + cond (nat_le 128 (get_or bs k 0)) 1 0
+leads_more [] k l = absurd (omega arith)
+leads_more (b ∷ bs) zero l = omega (arith, leads_cons b [])
+leads_more (b ∷ bs) (suc k) l =
+    let first : leads (take (suc k + 1) (b ∷ bs)) ≡ cond (nat_le 128 b) 1 0 + leads (take (k + 1) bs) =
+    ap (λ (n : ℕ). leads (take n (b ∷ bs))) (let e : suc k + 1 ≡ suc (k + 1) = omega arith in e) ∙ leads_cons b (take (k + 1) bs) in
+    let second : leads (take (suc k) (b ∷ bs)) ≡ cond (nat_le 128 b) 1 0 + leads (take k bs) = leads_cons b (take k bs) in
+    let more : leads (take (k + 1) bs) ≡ leads (take k bs) + cond (nat_le 128 (get_or (b ∷ bs) (suc k) 0)) 1 0 = leads_more bs k (omega arith) in
+    omega (arith, first, second, more)
+
+pub leads_all : (bs : List ℕ) (k : ℕ) → length bs ≤ k → leads (take k bs) ≡ leads bs
+leads_all bs k l = ap leads (take_all k bs l)
 
 pub items_begun : (xs : List ℕ) → length (items xs) ≡ begun xs
 items_begun [] = refl

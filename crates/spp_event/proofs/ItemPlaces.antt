@@ -144,7 +144,7 @@ pub record Noted (body places : List ℕ) (i place : ℕ) : Type 0 where
   pub many : i ≤ 64 * length places
   pub few : 64 * length places < i + 64
 
-slice_get_last : (xs : List ℕ) (x y : ℕ) (j : ℕ) → slice_get (xs ++ x ∷ []) j ≡ Some y → (slice_get xs j ≡ Some y) ⊎ ((j ≡ length xs) × (y ≡ x))
+pub slice_get_last : (xs : List ℕ) (x y : ℕ) (j : ℕ) → slice_get (xs ++ x ∷ []) j ≡ Some y → (slice_get xs j ≡ Some y) ⊎ ((j ≡ length xs) × (y ≡ x))
 slice_get_last [] x y zero e = inr (refl, cc)
 slice_get_last [] x y (suc j) e = absurd cc
 slice_get_last (b ∷ xs) x y zero e = inl e

@@ -15,6 +15,7 @@ pub mod OpenTraceAnswers
 pub mod FaultsAreRefused
 pub mod HeaderLaws
 pub mod ItemCounts
+pub mod ItemSamples
 pub mod ItemBodies
 pub mod ItemFronts
 pub mod MigratedBytes

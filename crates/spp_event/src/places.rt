@@ -10,6 +10,9 @@ use std::alloc::{AllocError, Global};
 /// One in so many items has its place noted.
 const STRIDE: usize = 64;
 
+/// So many bytes are looked at at a time for how many items begin there: no more than one of them is noted.
+const BLOCK: usize = 32;
+
 /// The place behind the item that begins at a place: that of the next item, or the end.
 #[inline]
 pub(crate) fn behind_item(body: &[u8], place: usize) -> usize
@@ -24,11 +27,15 @@ pub(crate) fn behind_item(body: &[u8], place: usize) -> usize
     body.len()
 }
 
-/// How many of the bytes are 128 or more.
+/// How many of the bytes are 128 or more. Which of them are can't be foreseen, so it adds and doesn't branch.
 fn count_leads(bytes: &[u8]) -> usize
     ensures { result ≡ count_by (λ b. nat_le 128 b) bytes.now }
 {
-    bytes.iter().filter(|b| **b >= 0x80).count()
+    let mut leads: usize = 0;
+    for k in 0..bytes.len() {
+        leads += usize::from(bytes[k] >= 0x80);
+    }
+    leads
 }
 
 /// How many items begin at a place of a body from `from` on, before `to`.
@@ -45,6 +52,27 @@ pub(crate) fn count_begun(body: &[u8], from: usize, to: usize) -> usize
     }
 }
 
+/// The place of an item that begins at a place of a body from `from` on, before `to`: behind so many others that begin
+/// there.
+fn begun_place(body: &[u8], from: usize, to: usize, others: usize) -> usize
+    requires rising { from ≤ to }
+    requires within { to ≤ length body.now }
+    requires begins { length (items (take from body.now)) + others < length (items (take to body.now)) }
+    ensures { IsItemPlace body.now (length (items (take from body.now)) + others) result }
+{
+    let mut left = others;
+    for k in from..to {
+        if k > 0 && body[k] < 0x80 {
+            continue;
+        }
+        if left == 0 {
+            return k;
+        }
+        left -= 1;
+    }
+    unreachable!()
+}
+
 /// The places of every 64th item of a body: 8 bytes for each, or up to twice that.
 #[derive(Drop)]
 pub(crate) struct Samples {
@@ -58,21 +86,22 @@ impl Samples {
         ensures none { IfOk result (λ o. o ≡ None → most < length (items body.now)) }
     {
         let mut places: Vec<u64> = Vec::new(alloc);
-        let mut place = 0;
-        for i in 0..most as usize {
-            if place == body.len() {
-                return Ok(Some(Samples { places }));
-            }
-            if i % STRIDE == 0 {
+        let mut begun = 0;
+        for block in 0..body.len().div_ceil(BLOCK) {
+            let from = block * BLOCK;
+            let to = body.len().min(from + BLOCK);
+            let more = count_begun(body, from, to);
+            let next = places.len() * STRIDE;
+            if next < begun + more {
+                let place = begun_place(body, from, to, next - begun);
                 places.push(place as u64)?;
             }
-            place = behind_item(body, place);
+            begun += more;
+            if begun > most as usize {
+                return Ok(None);
+            }
         }
-        if place == body.len() {
-            Ok(Some(Samples { places }))
-        } else {
-            Ok(None)
-        }
+        Ok(Some(Samples { places }))
     }
 
     /// The place of item `i`; the end where there are not so many. It walks over 63 items at most.
