@@ -1,8 +1,8 @@
 -- Where items begin and end.
-use Rattle.std.proofs.Common.{◌≡◌, ℕ, zero, suc, ◌+◌, ◌*◌, ◌-◌, ◌%◌, ◌<◌, ◌≤◌, ◌⊎◌, Bool, true, false, nat_le, if◌then◌else◌, List, [], ◌∷◌, ◌++◌, length, take, drop, get_or, slice_get, Some, refl, sym, ap, subst, ◌∙◌, arith, inl, inr}
+use Rattle.std.proofs.Common.{◌≡◌, ℕ, zero, suc, ◌+◌, ◌-◌, ◌<◌, ◌≤◌, ◌⊎◌, Bool, true, false, nat_le, if◌then◌else◌, List, [], ◌∷◌, ◌++◌, length, take, drop, get_or, slice_get, Some, refl, sym, ap, subst, ◌∙◌, arith, inl, inr}
 use Rattle.std.specs.List.{AllByRecursion}
 use Rattle.std.proofs.lemmas.Bool.{cases_lt, le-leb, lt-leb}
-use Rattle.std.proofs.lemmas.List.{get_or-drop, length-append, length-drop, take-append-drop, get_or_past}
+use Rattle.std.proofs.lemmas.List.{get_or-drop, length-drop, take-append-drop, get_or_past}
 use Rattle.std.proofs.Math.ListN.{drop_of_length-le}
 use Rattle.spp_event.specs.Items.{in_front, items}
 use Rattle.spp_event.specs.Places.{GoesOn, IsItemPlace, IsItemBetween}
@@ -137,32 +137,8 @@ more_items body i place h l = elim (cases_lt i (length (items body))) [
 
 -- ---- samples
 
--- the places that were noted before item i was come to
-pub record Noted (body places : List ℕ) (i place : ℕ) : Type 0 where
-  pub here : IsItemPlace body i place
-  pub each : (j at : ℕ) → slice_get places j ≡ Some at → IsItemPlace body (j * 64) at
-  pub many : i ≤ 64 * length places
-  pub few : 64 * length places < i + 64
-
 pub slice_get_last : (xs : List ℕ) (x y : ℕ) (j : ℕ) → slice_get (xs ++ x ∷ []) j ≡ Some y → (slice_get xs j ≡ Some y) ⊎ ((j ≡ length xs) × (y ≡ x))
 slice_get_last [] x y zero e = inr (refl, cc)
 slice_get_last [] x y (suc j) e = absurd cc
 slice_get_last (b ∷ xs) x y zero e = inl e
 slice_get_last (b ∷ xs) x y (suc j) e = elim (slice_get_last xs x y j e) [ inl h ↦ inl h | inr h ↦ inr (let k = h.0 in omega arith, h.1) ]
-
-pub none_noted : (body : List ℕ) → Noted body [] 0 0
-none_noted body = record { here = first_place body; each = λ j at e. absurd cc; many = omega arith; few = omega arith }
-
--- one more
-pub noted : (body places more : List ℕ) (i place : ℕ) → Noted body places i place → i % 64 ≡ 0 → more ≡ places ++ place ∷ [] → (i < 64 * length more)
-    × ((j at : ℕ) → slice_get more j ≡ Some at → IsItemPlace body (j * 64) at) × (64 * length more < i + 1 + 64)
-noted body places more i place h at_one is =
-    let n : length more ≡ length places + 1 = ap (λ (l : List ℕ). length l) is ∙ length-append places (place ∷ []) in
-    let same : 64 * length places ≡ i = omega (arith, h.many, h.few) in (
-      omega arith,
-      λ j at e. elim (slice_get_last places place at j (ap (λ (l : List ℕ). slice_get l j) (sym is) ∙ e)) [
-        | inl old ↦ h.each j at old
-        | inr new ↦ subst (λ (k : ℕ). IsItemPlace body k at) (let s : i ≡ j * 64 = (let p = new.0 in omega arith) in s) (subst (λ (k : ℕ). IsItemPlace body i k) (sym new.1) h.here)
-      ],
-      omega arith,
-    )

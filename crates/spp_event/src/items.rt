@@ -94,7 +94,7 @@ fn operand_of(bytes: &[u8]) -> Option<(u64, &[u8])>
 }
 
 /// A number that the bytes begin with, and the bytes behind it, as [`operand_of`] finds it; numbers of one digit and of two,
-/// which nearly all are, without its loop.
+/// which most are, without its loop.
 #[inline(always)]
 fn operand_in_front(bytes: &[u8]) -> Option<(u64, &[u8])>
     ensures { IfSome result (λ x. bytes.now ≡ operand x.0 ++ x.1.now) }

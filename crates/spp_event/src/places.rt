@@ -91,15 +91,15 @@ impl Samples {
             let from = block * BLOCK;
             let to = body.len().min(from + BLOCK);
             let more = count_begun(body, from, to);
+            if begun + more > most as usize {
+                return Ok(None);
+            }
             let next = places.len() * STRIDE;
             if next < begun + more {
                 let place = begun_place(body, from, to, next - begun);
                 places.push(place as u64)?;
             }
             begun += more;
-            if begun > most as usize {
-                return Ok(None);
-            }
         }
         Ok(Some(Samples { places }))
     }

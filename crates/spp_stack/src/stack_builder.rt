@@ -114,8 +114,7 @@ fn nearest(marked: bool, number: u32, link: Option<u32>) -> Option<u32>
 }
 
 /// Reads the frames that a part leaves open into a list, the outermost first, in place of what it held. It takes time
-/// linear in their number, and memory only where the list had no room for so many: a list that is used again for each
-/// part is made once.
+/// linear in their number, and memory only where the list has no room for so many: where no part before left more.
 fn read_open(frames: &mut Vec<Frame>, summary: &Summary) -> Result<(), AllocError>
     ensures { OnOk result (frames.new.items ≡ reverse summary.now.sum.frames) }
 {

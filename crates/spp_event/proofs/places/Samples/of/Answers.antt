@@ -18,10 +18,10 @@ overflow_add-begun-in-loop-block c =
     let n = c.loop-block.invariant.noted in
     omega (arith, n.is, c.loop-block.invariant.most, c.count_begun-more.ensures, few_begun body (c.loop-block.block * 32) c.min-to.result (omega (arith, c.min-to.ensures, c.div_ceil-block-end.ensures, c.loop-block-test.true)), c.min-to.ensures)
 
-pub returns-then-begun-most-clause-none : goal.returns-then-begun-most-clause-none
-returns-then-begun-most-clause-none c none =
+pub returns-then-begun-more-clause-none : goal.returns-then-begun-more-clause-none
+returns-then-begun-more-clause-none c none =
     let n = c.loop-block.invariant.noted in
-    omega (arith, n.is, c.count_begun-more.ensures, c.if-begun-most.true, fewer_in_front c.args.body.now c.min-to.result)
+    omega (arith, n.is, c.count_begun-more.ensures, c.if-begun-more.true, fewer_in_front c.args.body.now c.min-to.result)
 
 pub loop-block-preserved : goal.loop-block-preserved
 loop-block-preserved c =
@@ -44,5 +44,5 @@ loop-block-preserved c =
             subst (λ ps. Sampled body ps.items (c.loop-block.begun + c.count_begun-more.result) ((c.loop-block.block + 1) * 32)) (sym w.places-is)
             (passed body c.loop-block.places.items c.loop-block.begun from c.count_begun-more.result to _ h c.count_begun-more.ensures same (omega (arith, w.if-next-begun.false, c.len-next.ensures)))
       ];
-      most = omega (arith, c.if-begun-most.false);
+      most = omega (arith, c.if-begun-more.false);
     }
