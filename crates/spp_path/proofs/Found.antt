@@ -83,7 +83,7 @@ last_of (x ∷ xs) = inr (_, slice_get-get_or (x ∷ xs) (length (x ∷ xs) - 1)
 
 module _ (es : List Event) (wf : IsWellFormed es) (bd : Burdens) (ps : List ℕ) (p : IsPath es bd 0 (length es) ps) where
   -- a child spawned within another joins within it
-  join_inside : (s u : ℕ) → spawns (event_at es s) ≡ true → spawns (event_at es u) ≡ true → s < u → u ≤ partner es s → join es u ≤ partner es s
+  pub join_inside : (s u : ℕ) → spawns (event_at es s) ≡ true → spawns (event_at es u) ≡ true → s < u → u ≤ partner es s → join es u ≤ partner es s
   join_inside s u t v a b =
       let os = spawns_opens (event_at es s) t in
       let ou = spawns_opens (event_at es u) v in

@@ -39,3 +39,4 @@ pub mod Alike
 pub mod Placed
 pub mod MarkSteps
 pub mod MarkPass
+pub mod Hopping

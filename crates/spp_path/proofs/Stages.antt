@@ -52,7 +52,7 @@ left_kept d xs m k t r l a b h = record {
 }
 
 -- the last of the first m is the one before m
-last_taken : {X : Type 0} (xs : List X) (m : ℕ) (x : X) → m ≤ length xs → last (take m xs) ≡ Some x → (0 < m) × (slice_get xs (m - 1) ≡ Some x)
+pub last_taken : {X : Type 0} (xs : List X) (m : ℕ) (x : X) → m ≤ length xs → last (take m xs) ≡ Some x → (0 < m) × (slice_get xs (m - 1) ≡ Some x)
 last_taken xs m x l e =
     let n = length-take-le m xs l in
     let w = slice_get_within (take m xs) (length (take m xs) - 1) x e in
@@ -73,7 +73,7 @@ none_taken (x ∷ xs) (suc m) l e =
     let z : None ≡ Some (get_or (take (suc m) (x ∷ xs)) (length (take (suc m) (x ∷ xs)) - 1) x) = sym e ∙ s in
     cc
 
-contains_at : {X : Type 0} (xs : List X) (i : ℕ) (x : X) → slice_get xs i ≡ Some x → Contains xs x
+pub contains_at : {X : Type 0} (xs : List X) (i : ℕ) (x : X) → slice_get xs i ≡ Some x → Contains xs x
 contains_at xs i x e = (i, slice_get_within xs i x e, get_or_from_slice_get xs i x x e)
 
 -- the positions of the choices
@@ -161,8 +161,9 @@ module _ (es : List Event) (bd : Burdens) (ps : List ℕ) (wf : IsWellFormed es)
   }
 
   -- the last choice is an end
-  stage_ended : (m n : ℕ) (s : WayBack) (e : End) → m ≤ length ends → n ≤ length joins → 0 < m → slice_get ends (m - 1) ≡ Some e
-      → (0 < n → get_or (join_ats joins) (n - 1) 0 ≤ e.at) → Stage es ps from end ends joins m n s → Stage es ps from end ends joins (m - 1) n (record s { onward = ended e s.onward })
+  pub stage_ended : (m n : ℕ) (s : WayBack) (e : End) → m ≤ length ends → n ≤ length joins → 0 < m → slice_get ends (m - 1) ≡ Some e
+      → (0 < n → get_or (join_ats joins) (n - 1) 0 ≤ e.at) → Stage es ps from end ends joins m n s
+      → (g : Stage es ps from end ends joins (m - 1) n (record s { onward = ended e s.onward })) × (g.time ≡ 2 * e.at + 1)
   stage_ended m n s e lm ln pos is le g =
       let k : ℕ = 2 * e.at + 1 in
       let at = end_at ends (m - 1) e is in
@@ -175,17 +176,19 @@ module _ (es : List Event) (bd : Burdens) (ps : List ℕ) (wf : IsWellFormed es)
       let b = left_kept 0 (join_ats joins) n k g.time h.are_joins.rise (omega arith) below (λ z. let y = le z in omega arith) g.joins_left in
       let q = quiet m n k s g below (omega arith)
       (λ i z. elim (cases_lt i (m - 1)) [ inl y ↦ (let x = a.before i y in omega arith) | inr y ↦ subst (λ j. 2 * get_or (end_ats ends) j 0 + 1 ≤ k) (let x : m - 1 ≡ i = omega arith in x) (omega arith) ])
-      (λ i z. let y = b.before i z in omega arith) in
-      record {
-        time = k;
-        above = omega arith;
-        ends_left = a;
-        joins_left = b;
-        says = says_ended es wf bd ps p e k g.time was.0 refl q s.onward g.says;
-        found = found_down es ps k g.time below s.ahead.items s.behind.items (λ u t on x y. let z = q.joins u t on y in omega arith) g.found;
-        no_ends = λ u t x. g.no_ends u t (omega arith);
-        no_joins = λ u t on x. g.no_joins u t on (omega arith);
-      }
+      (λ i z. let y = b.before i z in omega arith) in (
+        record {
+          time = k;
+          above = omega arith;
+          ends_left = a;
+          joins_left = b;
+          says = says_ended es wf bd ps p e k g.time was.0 refl q s.onward g.says;
+          found = found_down es ps k g.time below s.ahead.items s.behind.items (λ u t on x y. let z = q.joins u t on y in omega arith) g.found;
+          no_ends = λ u t x. g.no_ends u t (omega arith);
+          no_joins = λ u t on x. g.no_joins u t on (omega arith);
+        },
+        refl,
+      )
 
   -- the last choice is a join
   module _ (m n : ℕ) (s : WayBack) (j : Choice) (lm : m ≤ length ends) (ln : n ≤ length joins) (pos : 0 < n) (is_last : slice_get joins (n - 1) ≡ Some j)
@@ -321,7 +324,7 @@ module _ (es : List Event) (bd : Burdens) (ps : List ℕ) (wf : IsWellFormed es)
 -- ---- the steps, for every run that has these choices
 
 -- the later of two notes, where it is an end: the other isn't after it
-later_end : (a : Option End) (b : Option Choice) (e : End) → later a b ≡ Some (note.End e) → (a ≡ Some e) × ((j : Choice) → b ≡ Some j → j.at ≤ e.at)
+pub later_end : (a : Option End) (b : Option Choice) (e : End) → later a b ≡ Some (note.End e) → (a ≡ Some e) × ((j : Choice) → b ≡ Some j → j.at ≤ e.at)
 later_end None None e q = cc
 later_end None (Some j) e q = cc
 later_end (Some d) None e q = (cc, λ j z. cc)
@@ -362,7 +365,7 @@ later_none (Some d) (Some j) q = pick (nat_lt d.at j.at) q
     pick false z = cc
 
 -- the last of the first m is there, where m isn't 0
-last_there : {X : Type 0} (xs : List X) (m : ℕ) (f : X → ℕ) → m ≤ length xs → 0 < m → (x : X) × (last (take m xs) ≡ Some x) × (get_or (map f xs) (m - 1) 0 ≡ f x)
+pub last_there : {X : Type 0} (xs : List X) (m : ℕ) (f : X → ℕ) → m ≤ length xs → 0 < m → (x : X) × (last (take m xs) ≡ Some x) × (get_or (map f xs) (m - 1) 0 ≡ f x)
 last_there [] m f l pos = absurd (omega arith)
 last_there (x ∷ xs) m f l pos =
     let n = length-take-le m (x ∷ xs) l in
@@ -370,16 +373,6 @@ last_there (x ∷ xs) m f l pos =
     let y = get_or (take m (x ∷ xs)) (length (take m (x ∷ xs)) - 1) x in
     let t = last_taken (x ∷ xs) m y l a in
     (y, a, get_or-map f (x ∷ xs) (m - 1) x 0 (omega arith) ∙ ap f (get_or_from_slice_get (x ∷ xs) (m - 1) y x t.1))
-
--- an end is taken
-pub settles_ended : (ends : List End) (joins : List Choice) (m n : ℕ) (old s : WayBack) (e : End) → m ≤ length ends → n ≤ length joins
-    → later (last (take m ends)) (last (take n joins)) ≡ Some (note.End e) → Settles ends joins m n old s → Settles ends joins (m - 1) n old (record s { onward = ended e s.onward })
-settles_ended ends joins m n old s e lm ln q g es bd ps from end wf p h c =
-    let l = later_end (last (take m ends)) (last (take n joins)) e q in
-    let t = last_taken ends m e lm l.0 in
-    stage_ended es bd ps wf p from end ends joins h m n s e lm ln t.0 t.1
-    (λ z. let j = last_there joins n (λ (j : Choice). j.at) ln z in let y = l.1 j.0 j.1 in omega (arith, j.2))
-    (g es bd ps from end wf p h c)
 
 -- a join is taken
 pub settles_joined : (ends : List End) (joins : List Choice) (m n : ℕ) (old s new : WayBack) (j : Choice) → m ≤ length ends → n ≤ length joins

@@ -12,3 +12,4 @@ pub mod Parts
 pub mod Beside
 pub mod Alike
 pub mod Marks
+pub mod Hops

@@ -13,6 +13,7 @@
 mod both;
 mod entered;
 mod flags;
+mod hops;
 mod marking;
 mod part;
 mod placing;

@@ -227,7 +227,8 @@ fn go_back(
 
 /// Settles one of the two paths of a run from its end, by the choices of its parts and the open frames where they begin:
 /// which spawned children it enters, and what of the open frames is on it. It takes time and memory linear in the numbers
-/// of parts, of their choices and of the nodes of the open frames.
+/// of parts, of their choices at most and of the nodes of the open frames: choices within children that the path goes
+/// beside are hopped over.
 ///
 /// # Errors
 ///

@@ -8,6 +8,7 @@ ghost use Rattle.spp_dag.specs.ChoiceLists.{AreEnds, AreJoins};
 ghost use Rattle.spp_maxplus.specs.declared.state.Burdens.{Burdens};
 ghost use Rattle.spp_path.specs.Entered.{AreEnteredIn};
 ghost use Rattle.spp_path.specs.Ways.{HasCome, AreNotesIn};
+ghost use Rattle.spp_path.specs.Hops.{beside as beside_of, skipped as skipped_by};
 ghost use Rattle.spp_path.specs.Settling.{
   last,
   later,
@@ -18,6 +19,7 @@ ghost use Rattle.spp_path.specs.Settling.{
   IsJoined,
 };
 
+use crate::hops::Left;
 use spp_dag::{Choice, End};
 use std::alloc::{AllocError, Global};
 
@@ -72,6 +74,28 @@ fn pass(end: End, onward: Onward) -> Onward
         Onward::Seek { .. } => onward,
         Onward::Skip { spawn } if spawn < end.at => onward,
         Onward::Live | Onward::Skip { .. } => Onward::Skip { spawn: end.spawn },
+    }
+}
+
+/// The spawn of the child that the path skips, if it skips one.
+fn skipped(onward: Onward) -> Option<u32>
+    ensures { result ≡ skipped_by onward }
+{
+    match onward {
+        Onward::Skip { spawn } => Some(spawn),
+        Onward::Live | Onward::Seek { .. } => None,
+    }
+}
+
+/// The spawn of the child that the path goes beside, where it goes on so after that return was taken; none where it comes to
+/// here. No choice between that spawn and here matters to it.
+fn beside(end: End, onward: Onward) -> Option<u32>
+    ensures { result ≡ beside_of end onward }
+{
+    match onward {
+        Onward::Live => None,
+        Onward::Skip { spawn } => Some(spawn),
+        Onward::Seek { .. } => Some(end.spawn),
     }
 }
 
@@ -135,20 +159,25 @@ impl WayBack {
         Ok(())
     }
 
-    /// The choices of a range are taken, from the last to the first.
+    /// The choices of a range are taken, from the last to the first. Those within a child that the path goes beside change
+    /// nothing, and are hopped over.
     pub(crate) fn back_over(&mut self, ends: &[End], joins: &[Choice]) -> Result<(), AllocError>
         ensures { OnOk result ((es : List Event) (burdens : Burdens) (ps : List ℕ) (from end : ℕ) → IsWellFormed es → IsPath es burdens 0 (length es) ps → AreNotesIn es burdens from end ends.now joins.now → HasCome es ps end self.old → HasCome es ps from self.new) }
     {
-        let mut ends_left = ends.len();
-        let mut joins_left = joins.len();
-        while let Some(note) = last_note(&ends[..ends_left], &joins[..joins_left]) {
+        let all = Left {
+            ends: ends.len(),
+            joins: joins.len(),
+        };
+        let mut left = all.before(ends, joins, skipped(self.onward));
+        while let Some(note) = last_note(&ends[..left.ends], &joins[..left.joins]) {
             match note {
                 Note::End(end) => {
-                    ends_left -= 1;
                     self.onward = pass(end, self.onward);
+                    left.ends -= 1;
+                    left = left.before(ends, joins, beside(end, self.onward));
                 }
                 Note::Join(join) => {
-                    joins_left -= 1;
+                    left.joins -= 1;
                     self.join(join)?;
                 }
             }
@@ -169,7 +198,8 @@ impl WayBack {
 
 /// Where the spawned children of a run that a path enters are spawned, rising, told by the returns of its spawned children
 /// and the choices of that path where they join, at the end of the run too. It goes over the choices once, from the last
-/// to the first; it takes time linear in their number, and memory for the children that are entered.
+/// to the first, and hops over those within children that it goes beside. The time is linear in the number of the others,
+/// and in the logarithm of how many it hops over at a time; memory is taken for the children that are entered.
 ///
 /// # Errors
 ///

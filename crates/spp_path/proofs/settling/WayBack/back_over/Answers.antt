@@ -1,29 +1,46 @@
-use Rattle.std.proofs.Common.{◌≡◌, ◌-◌, take, Some, None, sym, subst, arith}
+use Rattle.std.proofs.Common.{◌≡◌, ◌-◌, Option, ℕ, length, map, take, Some, None, sym, subst, arith}
+use Rattle.spp_dag.specs.declared.choices.End.{End}
+use Rattle.spp_dag.specs.declared.choices.Choice.{Choice}
+use Rattle.spp_path.specs.Hops.{AreBefore, skipped, beside}
 use Rattle.spp_path.specs.declared.settling.Note.TheVariants as note
 use Rattle.spp_path.specs.declared.settling.Onward.{Onward}
 use Rattle.spp_path.specs.declared.settling.WayBack.{WayBack}
-use Rattle.spp_path.specs.Settling.{last, later}
-use Rattle.spp_path.proofs.Stages.{Settles, settles_first, settles_ended, settles_joined, settled}
+use Rattle.spp_path.specs.Settling.{last, later, ended}
+use Rattle.spp_path.proofs.Stages.{Settles, settles_joined, settled}
+use Rattle.spp_path.proofs.Hopping.{settles_begun, settles_returned, before_most}
 use Rattle.spp_path.proofs.settling.WayBack.back_over.Goals as goal
 
 pub loop-note-init : goal.loop-note-init
-loop-note-init c = record {
-  ends = omega arith;
-  joins = omega arith;
-  settles = settles_first c.args.ends.now c.args.joins.now c.args.self.now;
-}
+loop-note-init c =
+    let ends = map (λ (e : End). e.at) c.args.ends.now in
+    let joins = map (λ (j : Choice). j.at) c.args.joins.now in
+    let x : AreBefore ends joins (record { ends = length c.args.ends.now; joins = length c.args.joins.now }) (skipped c.args.self.now.onward) c.before-left.result =
+    subst (λ (o : Option ℕ). AreBefore ends joins (record { ends = length c.args.ends.now; joins = length c.args.joins.now }) o c.before-left.result) c.skipped.ensures c.before-left.ensures in
+    let most = before_most ends joins _ _ _ x in
+    record {
+      ends = most.0;
+      joins = most.1;
+      settles = settles_begun c.args.ends.now c.args.joins.now c.before-left.result c.args.self.now x;
+    }
 
 pub loop-note-preserved-in-End : goal.loop-note-preserved-in-End
 loop-note-preserved-in-End c =
     let i = c.loop-note.invariant in
     let s : WayBack = c.loop-note.self in
+    let e = c.in-End.end in
     let was = c.in-Some.ensures in
-    let next : later (last (take c.loop-note.ends_left c.args.ends.now)) (last (take c.loop-note.joins_left c.args.joins.now)) ≡ Some (note.End c.in-End.end) = cc in
+    let next : later (last (take c.loop-note.left.ends c.args.ends.now)) (last (take c.loop-note.left.joins c.args.joins.now)) ≡ Some (note.End e) = cc in
+    let ends = map (λ (e : End). e.at) c.args.ends.now in
+    let joins = map (λ (j : Choice). j.at) c.args.joins.now in
+    let is : c.beside.result ≡ beside e (ended e s.onward) = subst (λ (w : Onward). c.beside.result ≡ beside e w) c.pass-self.ensures c.beside.ensures in
+    let x : AreBefore ends joins (record { ends = c.loop-note.left.ends - 1; joins = c.loop-note.left.joins }) (beside e (ended e s.onward)) c.before-left-in-End.result =
+    subst (λ (o : Option ℕ). AreBefore ends joins (record { ends = c.loop-note.left.ends - 1; joins = c.loop-note.left.joins }) o c.before-left-in-End.result) is c.before-left-in-End.ensures in
+    let most = before_most ends joins _ _ _ x in
     record {
-      ends = omega arith;
-      joins = i.joins;
-      settles = subst (λ (w : Onward). Settles c.args.ends.now c.args.joins.now (c.loop-note.ends_left - 1) c.loop-note.joins_left c.args.self.now (record s { onward = w })) (sym c.pass-self.ensures)
-          (settles_ended c.args.ends.now c.args.joins.now c.loop-note.ends_left c.loop-note.joins_left c.args.self.now s c.in-End.end i.ends i.joins next i.settles);
+      ends = omega (arith, i.ends, most.0);
+      joins = omega (arith, i.joins, most.1);
+      settles = subst (λ (w : Onward). Settles c.args.ends.now c.args.joins.now c.before-left-in-End.result.ends c.before-left-in-End.result.joins c.args.self.now (record s { onward = w })) (sym c.pass-self.ensures)
+          (settles_returned c.args.ends.now c.args.joins.now c.loop-note.left.ends c.loop-note.left.joins c.before-left-in-End.result c.args.self.now s e i.ends i.joins next x i.settles);
     }
 
 pub loop-note-preserved : goal.loop-note-preserved
@@ -31,16 +48,16 @@ loop-note-preserved c =
     let i = c.loop-note.invariant in
     let s : WayBack = c.loop-note.self in
     let was = c.in-Some.ensures in
-    let next : later (last (take c.loop-note.ends_left c.args.ends.now)) (last (take c.loop-note.joins_left c.args.joins.now)) ≡ Some (note.Join c.in-Join.join) = cc in
+    let next : later (last (take c.loop-note.left.ends c.args.ends.now)) (last (take c.loop-note.left.joins c.args.joins.now)) ≡ Some (note.Join c.in-Join.join) = cc in
     record {
       ends = i.ends;
       joins = omega arith;
-      settles = settles_joined c.args.ends.now c.args.joins.now c.loop-note.ends_left c.loop-note.joins_left c.args.self.now s c.join.new.self c.in-Join.join i.ends i.joins next c.in_ok-join-in-Join.ensures i.settles;
+      settles = settles_joined c.args.ends.now c.args.joins.now c.loop-note.left.ends c.loop-note.left.joins c.args.self.now s c.join.new.self c.in-Join.join i.ends i.joins next c.in_ok-join-in-Join.ensures i.settles;
     }
 
 pub returns : goal.returns
 returns c =
     let i = c.loop-note.invariant in
     let was = c.in_default.ensures in
-    let none : later (last (take c.loop-note.ends_left c.args.ends.now)) (last (take c.loop-note.joins_left c.args.joins.now)) ≡ None = cc in
-    settled c.args.ends.now c.args.joins.now c.loop-note.ends_left c.loop-note.joins_left c.args.self.now c.loop-note.self i.ends i.joins none i.settles
+    let none : later (last (take c.loop-note.left.ends c.args.ends.now)) (last (take c.loop-note.left.joins c.args.joins.now)) ≡ None = cc in
+    settled c.args.ends.now c.args.joins.now c.loop-note.left.ends c.loop-note.left.joins c.args.self.now c.loop-note.self i.ends i.joins none i.settles
