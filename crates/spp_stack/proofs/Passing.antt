@@ -1,5 +1,5 @@
 -- The returns and the frames of a part, one by one.
-use Rattle.std.proofs.Common.{◌≡◌, ℕ, ◌+◌, ◌<◌, ◌≤◌, List, [], ◌∷◌, length, get_or, take, reverse, None, sym, ap, subst, ◌∙◌, arith}
+use Rattle.std.proofs.Common.{◌≡◌, ℕ, zero, suc, ◌+◌, ◌<◌, ◌≤◌, List, [], ◌∷◌, length, get_or, drop, take, reverse, None, sym, ap, subst, ◌∙◌, arith}
 use Rattle.std.proofs.lemmas.List.{take_more, take_all, length-reverse, reverse-reverse}
 use Rattle.spp_maxplus.specs.declared.state.Burdens.{Burdens}
 use Rattle.spp_maxplus.specs.declared.state.State.{State}
@@ -164,3 +164,28 @@ open_returns burdens s x e h =
     let m = (entry_ops burdens).along s.middle y in
     let z = play_frames (entry_ops burdens) s.frames m in
     along_open y.frames s.middle y.work (frames_open burdens s.frames m (worked_open z.frames s.work z.work (subst (λ (n : Now). IsOpen n.frames) (played burdens s x e) h)))
+
+-- the next of those that are left behind the first k, and what is left then
+pub record NextOf (X : Type 0) (xs : List X) (k : ℕ) (x : X) (rest : List X) : Type 0 where
+  pub within : k < length xs
+  pub is : x ≡ get_or xs k x
+  pub left : rest ≡ drop (k + 1) xs
+
+pub next_of : {X : Type 0} (xs : List X) (k : ℕ) (x : X) (rest : List X) → drop k xs ≡ x ∷ rest → NextOf X xs k x rest
+next_of [] zero x rest e = cc
+next_of [] (suc k) x rest e = cc
+next_of (y ∷ ys) zero x rest e = (
+    let a : y ≡ x = cc in
+    let b : ys ≡ rest = cc in
+    record { within = omega arith; is = sym a; left = sym b }
+    )
+next_of (y ∷ ys) (suc k) x rest e =
+    let h = next_of ys k x rest e in
+    let w = h.within in
+    record { within = omega arith; is = h.is; left = h.left ∙ ap (λ (j : ℕ). drop j (y ∷ ys)) (let s : suc (k + 1) ≡ suc k + 1 = omega arith in s) }
+
+-- where none is left, all are behind
+pub none_of : {X : Type 0} (xs : List X) (k : ℕ) → drop k xs ≡ [] → length xs ≤ k
+none_of [] k e = omega arith
+none_of (y ∷ ys) zero e = cc
+none_of (y ∷ ys) (suc k) e = let h = none_of ys k e in omega arith

@@ -40,7 +40,6 @@ pub fn entries(alloc: Global, root: u32, summaries: &[Summary]) -> Result<Entrie
 {
     let mut builder = StackBuilder::start(alloc, root, most_nodes(summaries))?;
     let mut starts = Vec::with_capacity(alloc, summaries.len() + 1)?;
-    let mut frames = Vec::new(alloc);
     let mut at = 0;
     starts.push(Start {
         top: 0,
@@ -49,7 +48,7 @@ pub fn entries(alloc: Global, root: u32, summaries: &[Summary]) -> Result<Entrie
     })?;
     for summary in summaries {
         summary.burdens().are_small();
-        builder.pass(&mut frames, summary)?;
+        builder.pass(summary)?;
         at += summary.events();
         starts.push(Start {
             top: builder.last(),

@@ -113,20 +113,6 @@ fn nearest(marked: bool, number: u32, link: Option<u32>) -> Option<u32>
     if marked { Some(number) } else { link }
 }
 
-/// Reads the frames that a part leaves open into a list, the outermost first, in place of what it held. It takes time
-/// linear in their number, and memory only where the list has no room for so many: where no part before left more.
-fn read_open(frames: &mut Vec<Frame>, summary: &Summary) -> Result<(), AllocError>
-    ensures { OnOk result (frames.new.items ≡ reverse summary.now.sum.frames) }
-{
-    frames.clear();
-    frames.reserve_exact(summary.frame_count())?;
-    for frame in summary.frames() {
-        frames.push(frame)?;
-    }
-    frames.reverse();
-    Ok(())
-}
-
 impl StackBuilder {
     /// The root frame alone, before the first part, with room for so many nodes.
     pub(crate) fn start(alloc: Global, root: u32, room: usize) -> Result<StackBuilder, AllocError>
@@ -272,8 +258,8 @@ impl StackBuilder {
         }
     }
 
-    /// The frames that a part leaves open. They are read into the list.
-    fn open_all(&mut self, frames: &mut Vec<Frame>, summary: &Summary) -> Result<(), AllocError>
+    /// The frames that a part leaves open.
+    fn open_all(&mut self, summary: &Summary) -> Result<(), AllocError>
         requires stands { (x : Now) × Stands self.old x }
         requires kept { IsKept self.old }
         requires few { length self.old.nodes.items + length summary.now.sum.frames ≤ 2 ^ 32 }
@@ -284,19 +270,14 @@ impl StackBuilder {
         ensures count { OnOk result (length self.new.nodes.items ≡ length self.old.nodes.items + length summary.now.sum.frames) }
         ensures work { self.new.work ≡ self.old.work }
     {
-        read_open(frames, summary)?;
-        for k in 0..frames.len() {
-            self.open(&frames[k])?;
+        for frame in summary.outward_frames() {
+            self.open(&frame)?;
         }
         Ok(())
     }
 
-    /// A part. The frames that it leaves open are read into the list.
-    pub(crate) fn pass(
-        &mut self,
-        frames: &mut Vec<Frame>,
-        summary: &Summary,
-    ) -> Result<(), AllocError>
+    /// A part.
+    pub(crate) fn pass(&mut self, summary: &Summary) -> Result<(), AllocError>
         requires sound { summary.now.sum.fault ≡ None }
         requires stands { (x : Now) × Stands self.old x × IsOpen (play (entry_ops summary.now.burdens) summary.now.sum x).frames × (peaks x.frames + load summary.now.burdens summary.now.sum < 2 ^ 127) }
         requires few { length self.old.nodes.items + length summary.now.sum.frames < 2 ^ 32 }
@@ -310,7 +291,7 @@ impl StackBuilder {
         self.close_all(summary);
         self.along(&summary.middle());
         self.keep()?;
-        self.open_all(frames, summary)?;
+        self.open_all(summary)?;
         self.work += summary.work();
         Ok(())
     }

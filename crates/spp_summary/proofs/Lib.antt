@@ -5,3 +5,4 @@ pub mod ReadEvents
 pub mod Steps
 pub mod Totals
 pub mod Weights
+pub mod Outwards

@@ -1,12 +1,12 @@
 -- Two summaries as they are kept, one after the other.
-use Rattle.std.specs.Prelude.{◌≡◌, ℕ, ◌+◌, ◌-◌, ◌≤◌, ◌<◌, ◌^◌, min, take, reverse, List, [], ◌∷◌, length}
+use Rattle.std.specs.Prelude.{◌≡◌, ℕ, ◌+◌, ◌-◌, ◌≤◌, ◌<◌, ◌^◌, min, take, drop, reverse, List, [], ◌∷◌, length}
 use Rattle.std.specs.VecDeque.{deque_len, deque_capacity}
 use Rattle.spp_summary.specs.declared.opens.Open.{Open}
 use Rattle.spp_summary.specs.declared.opens.Kept.{Kept}
 use Rattle.spp_piece.specs.Bound.{load_frames}
 use Rattle.spp_maxplus.specs.declared.state.Burdens.{Burdens}
 use Rattle.spp_piece.specs.Summary.{Sum, summary_ops, play_returns}
-use Rattle.spp_summary.specs.KeptFrames.{frames_of, AreLaid}
+use Rattle.spp_summary.specs.KeptFrames.{frames_of, AreLaid, frames_out, work_within, AreLaidOut}
 use Rattle.spp_summary.specs.Returns.{HasReturnRoom}
 use Rattle.spp_summary.specs.declared.storage.Storage.{Storage}
 
@@ -60,4 +60,12 @@ pub record AreRead (run before left : ℕ) (opens : List Open) (kept : ℕ) (sta
   pub laid : AreLaid run before (reverse (take left opens)) (reverse (take kept states)) 0
   pub load : load_frames (frames_of run before (reverse (take left opens)) (reverse (take kept states))) < 2 ^ 127
   pub left_fits : left ≤ length opens
+  pub kept_fits : kept ≤ length states
+
+-- what is left to read of the frames from the outermost on, once so many of them and so many kept states were read
+pub record AreReadOut (run before read : ℕ) (opens : List Open) (kept : ℕ) (states : List Kept) : Type 0 where
+  pub laid : AreLaidOut run (drop read opens) (drop kept states)
+  pub load : load_frames (frames_out run before (drop read opens) (drop kept states)) < 2 ^ 127
+  pub work : work_within before (drop read opens) < 2 ^ 128
+  pub read_fits : read ≤ length opens
   pub kept_fits : kept ≤ length states

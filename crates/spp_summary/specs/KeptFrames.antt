@@ -71,3 +71,26 @@ abbrev pub AreLaid : ℕ → ℕ → List Open → List Kept → ℕ → Type 0
 AreLaid run before [] ks since = (since ≤ run) × (before ≡ 0) × (ks ≡ [])
 AreLaid run before (o ∷ os) ks since =
     ((kept_of o.kept ks).counted ≤ run) × (o.gap ≤ before) × HasKept o.kept ks × AreLaid o.gap (before - o.gap) os (past o.kept ks) since
+
+-- ---- the same, the outermost first
+
+-- what has run since a frame was opened, within which these were opened: up to the next one, or that
+abbrev pub run_within : ℕ → List Open → ℕ
+run_within run [] = run
+run_within run (o ∷ os) = o.gap
+
+-- the frames: work has run since the innermost was opened, and there is work before the frame around the outermost
+abbrev pub frames_out : ℕ → ℕ → List Open → List Kept → List Frame
+frames_out run before [] ks = []
+frames_out run before (o ∷ os) ks =
+    frame_of (run_within run os) (before + o.gap) o (kept_of o.kept ks) ∷ frames_out run (before + o.gap) os (past o.kept ks)
+
+-- the work before the innermost
+abbrev pub work_within : ℕ → List Open → ℕ
+work_within before [] = before
+work_within before (o ∷ os) = work_within (before + o.gap) os
+
+-- no more is counted than has run, and the kept states are those of the frames that have such
+abbrev pub AreLaidOut : ℕ → List Open → List Kept → Type 0
+AreLaidOut run [] ks = ks ≡ []
+AreLaidOut run (o ∷ os) ks = ((kept_of o.kept ks).counted ≤ run_within run os) × HasKept o.kept ks × AreLaidOut run os (past o.kept ks)

@@ -10,6 +10,7 @@
 mod frames;
 mod lists;
 mod opens;
+mod outward_frames;
 mod pending;
 mod reading;
 mod returns;
@@ -17,5 +18,6 @@ mod storage;
 mod summary;
 
 pub use frames::FrameReader;
+pub use outward_frames::OutwardFrames;
 pub use returns::ReturnReader;
 pub use summary::{JoinRefused, Summary};

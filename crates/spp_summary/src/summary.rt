@@ -16,6 +16,7 @@ ghost use Rattle.std.specs.List.{AllByRecursion};
 ghost use Rattle.spp_piece.specs.Bound.{cost, height, worst};
 
 use crate::frames::FrameReader;
+use crate::outward_frames::OutwardFrames;
 use crate::reading::Reading;
 use crate::returns::ReturnReader;
 use crate::storage::Storage;
@@ -186,6 +187,14 @@ impl Summary {
         ensures bound { AllByRecursion (λ f. height f.states < 2 ^ 94) self.now.sum.frames }
     {
         FrameReader::new(&self.storage)
+    }
+
+    /// The same frames, the outermost first, as their order was when they were opened: each in constant time and without
+    /// memory.
+    pub fn outward_frames(&self) -> OutwardFrames<'_>
+        ensures { result ≡ reverse self.now.sum.frames }
+    {
+        OutwardFrames::new(&self.storage)
     }
 
     /// The position of the first bad record, and its fault.
