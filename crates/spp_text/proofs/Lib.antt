@@ -12,3 +12,7 @@ pub mod FirstFault
 pub mod NameFaults
 pub mod EventFaults
 pub mod LineFaults
+pub mod FirstLines
+pub mod UsualNumbers
+pub mod UsualWords
+pub mod UsualLines

@@ -9,11 +9,11 @@ use Rattle.std.proofs.lemmas.List.Splits.{slice_split_at, slice_split-cons_yes, 
 use Rattle.spp_event.specs.Checks.{is_printable}
 use Rattle.spp_text.specs.Reading.{Said, read_line, go_on, read_lines, opening_fault, at_end}
 
-abbrev is_feed : ℕ → Bool
+abbrev pub is_feed : ℕ → Bool
 is_feed b = eqb b 10
 
 -- what lines the parts between line feeds make, of which there is one at least behind the first
-parts_more : (x : List ℕ) (text : List ℕ) → lines_of_parts (x ∷ slice_split is_feed text) ≡ strip_carriage_return x ∷ lines text
+pub parts_more : (x : List ℕ) (text : List ℕ) → lines_of_parts (x ∷ slice_split is_feed text) ≡ strip_carriage_return x ∷ lines text
 parts_more x [] = refl
 parts_more x (b ∷ bs) = by_first (is_feed b) refl
   where
@@ -35,7 +35,7 @@ no_return : (line : List ℕ) → is_printable line ≡ true → strip_carriage_
 no_return [] e = refl
 no_return (b ∷ bs) e = let last = printable_at (b ∷ bs) (length (b ∷ bs) - 1) 0 e (omega arith) in rw (ne_eqb (get_or (b ∷ bs) (length (b ∷ bs) - 1) 0) 13 (λ h. omega arith)) refl
 
-first_line : (line rest : List ℕ) → is_printable line ≡ true → lines (line ++ 10 ∷ rest) ≡ line ∷ lines rest
+pub first_line : (line rest : List ℕ) → is_printable line ≡ true → lines (line ++ 10 ∷ rest) ≡ line ∷ lines rest
 first_line line rest e =
     let no_feed = λ (k d : ℕ) (lt : k < length line). let low = printable_at line k d e lt in ne_eqb (get_or line k d) 10 (λ h. omega arith) in
     ap lines_of_parts (slice_split_at is_feed line 10 rest no_feed refl) ∙ parts_more line rest ∙ ap (λ (l : List ℕ). l ∷ lines rest) (no_return line e)

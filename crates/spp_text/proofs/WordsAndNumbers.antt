@@ -32,13 +32,13 @@ only_word word e pos =
 
 -- ---- numbers
 
-abbrev AreDigits : List ℕ → Type 0
+abbrev pub AreDigits : List ℕ → Type 0
 AreDigits word = list_all is_digit word ≡ true
 
 numerals : IsNumeralModel AreDigits (value_from 0)
 numerals = numerals_by_fold AreDigits (search rules) value_from (search rules)
 
-digits_printable : (word : List ℕ) → AreDigits word → is_printable word ≡ true
+pub digits_printable : (word : List ℕ) → AreDigits word → is_printable word ≡ true
 digits_printable [] e = refl
 digits_printable (b ∷ bs) e =
     let p = and_parts (is_digit b) (list_all is_digit bs) e in
@@ -46,7 +46,7 @@ digits_printable (b ∷ bs) e =
     let low = leb-true 48 b q.0 in let high = leb-true b 57 q.1 in
     and_from (is_in_range 32 126 b) (is_printable bs) (and_from (nat_le 32 b) (nat_le b 126) (le-leb 32 b (omega arith)) (le-leb b 126 (omega arith))) (digits_printable bs p.1)
 
-digits_solid : (word : List ℕ) → AreDigits word → is_solid word ≡ true
+pub digits_solid : (word : List ℕ) → AreDigits word → is_solid word ≡ true
 digits_solid [] e = refl
 digits_solid (b ∷ bs) e =
     let p = and_parts (is_digit b) (list_all is_digit bs) e in
@@ -67,9 +67,23 @@ number_of_decimal most n h le =
     let some : nat_lt 0 (length (decimal n)) ≡ true = lt-ltb 0 (length (decimal n)) (decimal_nonempty n h) in
     rw (some, digits_decimal numerals n h, digits_value-decimal numerals n h, le-leb n most le) refl
 
+-- the number that digits are
+pub number_of_digits : (most : ℕ) (digits : List ℕ) → AreDigits digits → 0 < length digits → value_from 0 digits ≤ most → number_in most digits ≡ Some (value_from 0 digits)
+unfolding number_in
+number_of_digits most digits e pos le = rw (lt-ltb 0 (length digits) pos, e, le-leb (value_from 0 digits) most le) refl
+
+-- the words of a line of a word and the digits of one number, or of two
+pub last_digits : (word digits : List ℕ) → is_solid word ≡ true → 0 < length word → AreDigits digits → 0 < length digits → words (word ++ 32 ∷ digits) ≡ word ∷ digits ∷ []
+last_digits word digits e pos d some = first_word word digits e pos ∙ ap (λ (ws : List (List ℕ)). word ∷ ws) (only_word digits (digits_solid digits d) some)
+
+pub two_of_digits : (word first second : List ℕ) → is_solid word ≡ true → 0 < length word → AreDigits first → 0 < length first → AreDigits second → 0 < length second
+    → words (word ++ 32 ∷ (first ++ 32 ∷ second)) ≡ word ∷ first ∷ second ∷ []
+two_of_digits word first second e pos d some f more =
+    first_word word (first ++ 32 ∷ second) e pos ∙ ap (λ (ws : List (List ℕ)). word ∷ ws) (last_digits first second (digits_solid first d) some f more)
+
 -- the words of a line of a word and one number, or two
 pub last_number : (word : List ℕ) (n : ℕ) → is_solid word ≡ true → 0 < length word → n < 2 ^ 64 → words (word ++ 32 ∷ decimal n) ≡ word ∷ decimal n ∷ []
-last_number word n e pos h = first_word word (decimal n) e pos ∙ ap (λ (ws : List (List ℕ)). word ∷ ws) (only_word (decimal n) (decimal_solid n h) (decimal_nonempty n h))
+last_number word n e pos h = last_digits word (decimal n) e pos (digits_decimal numerals n h) (decimal_nonempty n h)
 
 pub two_numbers : (word : List ℕ) (m n : ℕ) → is_solid word ≡ true → 0 < length word → m < 2 ^ 64 → n < 2 ^ 64 → words (word ++ 32 ∷ (decimal m ++ 32 ∷ decimal n)) ≡ word ∷ decimal m ∷ decimal n ∷ []
-two_numbers word m n e pos h k = first_word word (decimal m ++ 32 ∷ decimal n) e pos ∙ ap (λ (ws : List (List ℕ)). word ∷ ws) (last_number (decimal m) n (decimal_solid m h) (decimal_nonempty m h) k)
+two_numbers word m n e pos h k = two_of_digits word (decimal m) (decimal n) e pos (digits_decimal numerals m h) (decimal_nonempty m h) (digits_decimal numerals n k) (decimal_nonempty n k)

@@ -8,3 +8,4 @@ pub mod FaultTexts
 pub mod Steps
 pub mod Drafts
 pub mod Laws
+pub mod Usual

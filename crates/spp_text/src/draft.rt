@@ -1,6 +1,6 @@
 //! A trace while its lines are read.
 
-ghost use Rattle.std.specs.Prelude.{◌≡◌, ◌≢◌, if◌then◌else◌, not, true, None, List, ℕ, length, map, IfOk, OnErr, OnOk};
+ghost use Rattle.std.specs.Prelude.{◌≡◌, ◌≢◌, if◌then◌else◌, not, true, None, Some, List, ℕ, length, map, IfOk, OnErr, OnOk};
 ghost use Rattle.std.specs.List.{flat_map};
 ghost use Rattle.std.specs.Str.{bytes_eq};
 ghost use Rattle.spp_event.specs.NameSets.{has};
@@ -210,6 +210,18 @@ impl<'t> Draft<'t> {
         Ok(())
     }
 
+    /// A line is read as an event, or has this fault behind its first word.
+    pub(crate) fn add_read(&mut self, read: Result<Event, TextWhy>) -> Result<(), TextWhy>
+        requires fits { IfOk read (λ event. IsEvent event) }
+        ensures said { Reads result (read_event self.old (Some read)) self.new }
+        ensures stays { OnErr result (self.new ≡ self.old) }
+    {
+        if let Some(why) = self.opening_fault() {
+            return Err(why);
+        }
+        self.add_event(read?)
+    }
+
     /// A line has these words.
     fn add_words(&mut self, words: &[&[u8]]) -> Result<(), TextWhy>
         ensures said { Reads result (read_words self.old (map (λ w. w.now) words.now)) self.new }
@@ -224,10 +236,7 @@ impl<'t> Draft<'t> {
         let Some(event) = event_of(word, others) else {
             return Err(TextWhy::Word);
         };
-        if let Some(why) = self.opening_fault() {
-            return Err(why);
-        }
-        self.add_event(event?)
+        self.add_read(event)
     }
 
     /// The bytes of the trace: its header, and the records of its events.

@@ -5,8 +5,10 @@ mod draft;
 mod events;
 mod fault;
 mod laws;
+mod lines;
 mod parse;
 mod print;
+mod usual;
 mod words;
 
 pub use fault::{TextFault, TextWhy};

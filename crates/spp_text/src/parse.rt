@@ -1,11 +1,29 @@
 //! A trace out of its text.
 
-ghost use Rattle.std.specs.Prelude.{IfOk, IfErr};
+ghost use Rattle.std.specs.Prelude.{◌<◌, length, IfOk, IfErr};
 ghost use Rattle.spp_text.specs.Parsed.{IsEncoded, IsTextFault, IsLineReached};
+ghost use Rattle.spp_text.specs.Usual.{ReadsFirst};
 
 use crate::draft::Draft;
 use crate::fault::{TextFault, TextWhy};
+use crate::lines::first_line;
+use crate::usual::event_line;
 use std::alloc::Global;
+
+/// The first line of a text more; gives what follows it.
+#[inline(always)]
+fn add_first<'t>(draft: &mut Draft<'t>, alloc: Global, text: &'t [u8]) -> Result<&'t [u8], TextWhy>
+    requires { 0 < length text.now }
+    ensures { ReadsFirst result text.now draft.old draft.new }
+{
+    if let Some((event, rest)) = event_line(text) {
+        draft.add_read(Ok(event))?;
+        return Ok(rest);
+    }
+    let (line, rest) = first_line(text);
+    draft.add_line(alloc, line)?;
+    Ok(rest)
+}
 
 /// The bytes of the trace that a text names: its header and the record of each event, as they open as that trace.
 /// Whether its frames nest is not looked at.
@@ -25,10 +43,12 @@ pub fn parse_text(alloc: Global, text: &str) -> Result<Vec<u8>, TextFault>
 {
     let mut draft = Draft::new(alloc);
     let mut number: u32 = 1;
-    for line in text.lines() {
-        if let Err(why) = draft.add_line(alloc, line.as_bytes()) {
-            return Err(TextFault { line: number, why });
-        }
+    let mut rest = text.as_bytes();
+    while !rest.is_empty() {
+        rest = match add_first(&mut draft, alloc, rest) {
+            Ok(others) => others,
+            Err(why) => return Err(TextFault { line: number, why }),
+        };
         number = number.saturating_add(1);
     }
     if let Some(why) = draft.opening_fault() {

@@ -1,12 +1,9 @@
-use Rattle.std.proofs.Common.{◌≡◌, suc, length, take, drop, min}
-use Rattle.std.specs.Str.Lines.{lines}
-use Rattle.spp_text.specs.Reading.{nothing, read_lines, read_text}
-use Rattle.spp_text.specs.Parsed.{SaysSoFar}
+use Rattle.std.proofs.Common.{length}
+use Rattle.spp_text.proofs.LineByLine.{IsReadTo}
 use Rattle.spp_text.proofs.parse.parse_text.Given as goal
 
-abbrev pub invariant-loop-line : goal.invariant-loop-line
-invariant-loop-line l = record {
-  number : l.number ≡ min (suc (length l.yielded)) 4294967295;
-  so_far : SaysSoFar nothing (take (length l.yielded) (lines l.text)) l.draft;
-  read : read_lines l.draft (suc (length l.yielded)) (drop (length l.yielded) (lines l.text)) ≡ read_text l.text;
-}
+abbrev pub invariant-loop-rest : goal.invariant-loop-rest
+invariant-loop-rest l = IsReadTo l.text l.rest l.number l.draft
+
+abbrev pub decreases-loop-rest : goal.decreases-loop-rest
+decreases-loop-rest l = length l.rest

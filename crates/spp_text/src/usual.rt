@@ -1,0 +1,94 @@
+//! The lines of events as printing writes them, one space between words. They are read from the front of a text, with
+//! no list of their words.
+
+ghost use Rattle.std.specs.Prelude.{◌≡◌, ◌+◌, ◌*◌, ◌<◌, ◌≤◌, ◌^◌, ℕ, length, drop, IfSome};
+ghost use Rattle.spp_event.specs.declared.records.Event.{Event as AnEvent};
+ghost use Rattle.spp_text.specs.Usual.{IsNumberFront, IsNumberLine, AreNumbersLine, IsEventLine};
+
+use spp_event::Event;
+
+/// How many digits a number has that is read here, and one more byte: 10^18 is below 2^64.
+const WIDTH: usize = 19;
+
+/// The eight bytes at the front of a text, read as a number, begin with one of these words: `strand `, `return\n`,
+/// `spawn `, `call `, `sync\n`.
+const STRAND: u64 = 0x73_7472_616e_6420;
+
+const RETURN: u64 = 0x72_6574_7572_6e0a;
+
+const SPAWN: u64 = 0x7370_6177_6e20;
+
+const CALL: u64 = 0x63_616c_6c20;
+
+const SYNC: u64 = 0x73_796e_630a;
+
+/// The number whose digits a text begins with, and what follows them: at most 18 digits, and something follows.
+#[inline(always)]
+fn number_front(text: &[u8]) -> Option<(u64, &[u8])>
+    ensures { IfSome result (λ x. IsNumberFront text.now x.0 x.1.now) }
+{
+    let front = &text[..text.len().min(WIDTH)];
+    let mut n: u64 = 0;
+    for (i, b) in front.iter().enumerate() {
+        let digit = b.wrapping_sub(b'0');
+        if digit > 9 {
+            return if i == 0 { None } else { Some((n, &text[i..])) };
+        }
+        n = n * 10 + u64::from(digit);
+    }
+    None
+}
+
+/// The number that a text begins with, on the rest of a line, and what follows the line.
+#[inline(always)]
+fn number_line(text: &[u8]) -> Option<(u64, &[u8])>
+    ensures { IfSome result (λ x. IsNumberLine text.now x.0 x.1.now) }
+{
+    match number_front(text)? {
+        (n, [b'\n', rest @ ..]) => Some((n, rest)),
+        _ => None,
+    }
+}
+
+/// The two numbers of 32 bits that a text begins with, on the rest of a line, and what follows the line.
+#[inline(always)]
+fn numbers_line(text: &[u8]) -> Option<(u32, u32, &[u8])>
+    ensures { IfSome result (λ x. AreNumbersLine text.now x.0 x.1 x.2.now) }
+{
+    let (site, [b' ', others @ ..]) = number_front(text)? else {
+        return None;
+    };
+    let (func, rest) = number_line(others)?;
+    let (Ok(site), Ok(func)) = (u32::try_from(site), u32::try_from(func)) else {
+        return None;
+    };
+    Some((site, func, rest))
+}
+
+/// The event of the line that a text begins with, and what follows the line, where it is as printing writes it, its
+/// numbers have at most 18 digits, and enough follows it.
+#[inline(always)]
+pub(crate) fn event_line(text: &[u8]) -> Option<(Event, &[u8])>
+    ensures { IfSome result (λ x. IsEventLine text.now x.0 x.1.now) }
+{
+    let head = u64::from_be_bytes(*text.first_chunk::<8>()?);
+    if head >> 8 == STRAND {
+        let (count, rest) = number_line(&text[7..])?;
+        return Some((Event::Strand { count }, rest));
+    }
+    if head >> 8 == RETURN {
+        return Some((Event::Ret, &text[7..]));
+    }
+    if head >> 16 == SPAWN {
+        let (site, func, rest) = numbers_line(&text[6..])?;
+        return Some((Event::Spawn { site, func }, rest));
+    }
+    if head >> 24 == CALL {
+        let (site, func, rest) = numbers_line(&text[5..])?;
+        return Some((Event::Call { site, func }, rest));
+    }
+    if head >> 24 == SYNC {
+        return Some((Event::Sync, &text[5..]));
+    }
+    None
+}
