@@ -16,3 +16,4 @@ pub mod FirstLines
 pub mod UsualNumbers
 pub mod UsualWords
 pub mod UsualLines
+pub mod LastRecords

@@ -1,22 +1,34 @@
 //! A trace while its lines are read.
 
-ghost use Rattle.std.specs.Prelude.{◌≡◌, ◌≢◌, if◌then◌else◌, not, true, None, Some, List, ℕ, length, map, IfOk, OnErr, OnOk};
+ghost use Rattle.std.specs.Prelude.{◌≡◌, ◌≢◌, ◌<◌, ◌≤◌, ◌^◌, ◌++◌, take, drop, if◌then◌else◌, not, true, None, Some, List, ℕ, length, map, unwrap_or, IfOk, OnErr, OnOk};
 ghost use Rattle.std.specs.List.{flat_map};
 ghost use Rattle.std.specs.Str.{bytes_eq};
 ghost use Rattle.spp_event.specs.NameSets.{has};
-ghost use Rattle.spp_event.specs.Header.{IsTraceOf};
-ghost use Rattle.spp_event.specs.Records.{names_site, names_func, spelling, IsEvent};
+ghost use Rattle.spp_event.specs.Header.{IsTraceOf, header_spelling};
+ghost use Rattle.spp_event.specs.Records.{names_site, names_func, spelling, word, IsEvent};
 ghost use Rattle.spp_text.specs.Reading.{nothing, has_event, begins_with, number_in, event_in, opening_fault, read_func, read_site, read_root, set_root as set_root_to, add_event as adds_event, read_event, read_words, read_line};
 ghost use Rattle.spp_text.specs.Parsed.{Reads, recording_of};
+ghost use Rattle.spp_text.specs.Drafts.{begun, with_event};
 ghost use Rattle.spp_text.specs.Steps.{AfterFront};
 
 use crate::events::{event_of, short_number};
 use crate::fault::TextWhy;
 use crate::words::words_of;
-use spp_event::{Contents, Event, is_name, is_root_name, trace_bytes};
+use spp_event::{Contents, Event, is_name, is_root_name, record_of, trace_bytes};
 use std::alloc::{AllocError, Global};
 use std::collections::BTreeSet;
 use std::marker::Model;
+
+/// Where the bytes of a trace say how many events it has.
+const COUNT: usize = 20;
+
+/// Writes into the bytes of a trace how many events it has.
+fn set_count(bytes: &mut [u8], count: u32)
+    requires { 24 ≤ length bytes.old }
+    ensures { bytes.new ≡ take 20 bytes.old ++ (word count ++ drop 24 bytes.old) }
+{
+    bytes[COUNT..COUNT + 4].copy_from_slice(count.to_be_bytes().as_slice());
+}
 
 /// What the lines that were read have said of a trace.
 #[derive(Drop)]
@@ -25,13 +37,16 @@ pub(crate) struct Draft<'t> {
     sites: Vec<&'t [u8]>,
     site_names: BTreeSet<&'t [u8]>,
     root: Option<u32>,
-    events: Vec<Event>,
+    /// From the first event on, the bytes of the trace, which still say that it has no events.
+    bytes: Vec<u8>,
+    /// How many events have come.
+    count: u32,
 }
 
 impl<'t> Model for Draft<'t> {
     ghost use Rattle.std.specs.Prelude.{map, unwrap_or};
     ghost use Rattle.spp_text.specs.Reading.{Said};
-    ghost use Rattle.spp_text.specs.Drafts.{IsKept};
+    ghost use Rattle.spp_text.specs.Drafts.{IsKept, last_events};
 
     ghost Value = { Said };
 
@@ -39,11 +54,11 @@ impl<'t> Model for Draft<'t> {
       funcs = map (λ n. n.now) d.funcs.items;
       sites = map (λ n. n.now) d.sites.items;
       root = d.root;
-      events = d.events.items;
+      events = last_events d.count d.bytes.items;
     } };
 
     ghost invariant = { λ d.
-        IsKept d.site_names (map (λ n. n.now) d.funcs.items) (map (λ n. n.now) d.sites.items) (unwrap_or d.root 0) d.events.items };
+        IsKept d.site_names (map (λ n. n.now) d.funcs.items) (map (λ n. n.now) d.sites.items) (unwrap_or d.root 0) (last_events d.count d.bytes.items) d.bytes.items };
 }
 
 /// Notes a site's name, and says whether it was new.
@@ -72,15 +87,23 @@ impl<'t> Draft<'t> {
             sites: Vec::new(alloc),
             site_names: BTreeSet::new(alloc),
             root: None,
-            events: Vec::new(alloc),
+            bytes: Vec::new(alloc),
+            count: 0,
         }
+    }
+
+    /// How many events have come.
+    fn events(&self) -> u32
+        ensures { result ≡ length self.now.events }
+    {
+        self.count
     }
 
     /// Whether an event has come.
     fn has_event(&self) -> bool
         ensures { result ≡ has_event self.now }
     {
-        !self.events.is_empty()
+        self.events() > 0
     }
 
     /// What has to be said before the first event, or the end of a text without events, and hasn't been.
@@ -189,7 +212,60 @@ impl<'t> Draft<'t> {
         }
     }
 
+    /// The bytes of the trace of these names and this root function that has no events.
+    fn head(&self) -> Result<Vec<u8>, AllocError>
+        requires { opening_fault self.now ≡ None }
+        ensures { IfOk result (λ bytes. bytes.items ≡ header_spelling (begun self.now.funcs self.now.sites (unwrap_or self.now.root 0))) }
+    {
+        let contents = Contents {
+            funcs: self.funcs.as_slice(),
+            sites: self.sites.as_slice(),
+            root: self.root.unwrap_or(0),
+            events: &[],
+        };
+        trace_bytes(*self.bytes.allocator(), &contents)
+    }
+
+    /// The record of the first event, behind the bytes of the trace without events.
+    #[cold]
+    #[inline(never)]
+    fn push_first(&mut self, event: Event) -> Result<(), AllocError>
+        requires opened { opening_fault self.old ≡ None }
+        requires first { length self.old.events ≡ 0 }
+        requires fits { IsEvent event }
+        requires site { names_site (length self.old.sites) event ≡ true }
+        requires func { names_func (length self.old.funcs) event ≡ true }
+        ensures pushed { OnOk result (self.new ≡ with_event self.old event) }
+        ensures stays { OnErr result (self.new ≡ self.old) }
+    {
+        let mut bytes = self.head()?;
+        bytes.extend_from_slice(record_of(event).as_slice())?;
+        self.bytes = bytes;
+        self.count = 1;
+        Ok(())
+    }
+
+    /// The record of an event more.
+    #[inline(always)]
+    fn push(&mut self, event: Event) -> Result<(), AllocError>
+        requires opened { opening_fault self.old ≡ None }
+        requires few { length self.old.events < 2 ^ 28 }
+        requires fits { IsEvent event }
+        requires site { names_site (length self.old.sites) event ≡ true }
+        requires func { names_func (length self.old.funcs) event ≡ true }
+        ensures pushed { OnOk result (self.new ≡ with_event self.old event) }
+        ensures stays { OnErr result (self.new ≡ self.old) }
+    {
+        if self.events() == 0 {
+            return self.push_first(event);
+        }
+        self.bytes.extend_from_slice(record_of(event).as_slice())?;
+        self.count += 1;
+        Ok(())
+    }
+
     /// One event more.
+    #[inline(always)]
     #[tactic(auto, unfolding(crate::specs::Reading::add_event))]
     fn add_event(&mut self, event: Event) -> Result<(), TextWhy>
         requires opened { opening_fault self.old ≡ None }
@@ -197,7 +273,7 @@ impl<'t> Draft<'t> {
         ensures said { Reads result (adds_event self.old event) self.new }
         ensures stays { OnErr result (self.new ≡ self.old) }
     {
-        if self.events.len() >= 1 << 28 {
+        if self.events() >= 1 << 28 {
             return Err(TextWhy::Limits);
         }
         if !self.names_site(event) {
@@ -206,11 +282,12 @@ impl<'t> Draft<'t> {
         if !self.names_func(event) {
             return Err(TextWhy::Func);
         }
-        self.events.push(event)?;
+        self.push(event)?;
         Ok(())
     }
 
     /// A line is read as an event, or has this fault behind its first word.
+    #[inline(always)]
     pub(crate) fn add_read(&mut self, read: Result<Event, TextWhy>) -> Result<(), TextWhy>
         requires fits { IfOk read (λ event. IsEvent event) }
         ensures said { Reads result (read_event self.old (Some read)) self.new }
@@ -240,17 +317,20 @@ impl<'t> Draft<'t> {
     }
 
     /// The bytes of the trace: its header, and the records of its events.
-    pub(crate) fn to_bytes(&self, alloc: Global) -> Result<Vec<u8>, AllocError>
-        requires { opening_fault self.now ≡ None }
-        ensures { IfOk result (λ bytes. IsTraceOf bytes.items (recording_of self.now)) }
+    pub(crate) fn into_bytes(self) -> Result<Vec<u8>, AllocError>
+        requires { opening_fault self ≡ None }
+        ensures { IfOk result (λ bytes. IsTraceOf bytes.items (recording_of self.entry)) }
     {
-        let contents = Contents {
-            funcs: self.funcs.as_slice(),
-            sites: self.sites.as_slice(),
-            root: self.root.unwrap_or(0),
-            events: self.events.as_slice(),
-        };
-        trace_bytes(alloc, &contents)
+        if self.count == 0 {
+            return self.head();
+        }
+        let Draft {
+            mut bytes,
+            count,
+            ..
+        } = self;
+        set_count(bytes.as_mut_slice(), count);
+        Ok(bytes)
     }
 
     /// One line more. One that is refused leaves what was said as it was.

@@ -29,8 +29,8 @@ fn add_first<'t>(draft: &mut Draft<'t>, alloc: Global, text: &'t [u8]) -> Result
 /// Whether its frames nest is not looked at.
 ///
 /// The time is linear in the length of the text, but for about S log S comparisons of names, S being the number of
-/// sites. The memory is linear in the number of lines that name something: 16 bytes for each event while the text is
-/// read, and then the bytes.
+/// sites. The memory is linear in the number of lines that name something: from the first event on the bytes are
+/// written once, 16 for each event, into a list that doubles where it is full.
 ///
 /// # Errors
 ///
@@ -54,7 +54,7 @@ pub fn parse_text(alloc: Global, text: &str) -> Result<Vec<u8>, TextFault>
     if let Some(why) = draft.opening_fault() {
         return Err(TextFault { line: number, why });
     }
-    match draft.to_bytes(alloc) {
+    match draft.into_bytes() {
         Ok(bytes) => Ok(bytes),
         Err(_) => Err(TextFault {
             line: number,
