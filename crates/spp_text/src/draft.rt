@@ -13,8 +13,9 @@ ghost use Rattle.spp_text.specs.Steps.{AfterFront};
 
 use crate::events::{event_of, short_number};
 use crate::fault::TextWhy;
+use crate::record::push_record;
 use crate::words::words_of;
-use spp_event::{Contents, Event, is_name, is_root_name, record_of, trace_bytes};
+use spp_event::{Contents, Event, is_name, is_root_name, trace_bytes};
 use std::alloc::{AllocError, Global};
 use std::collections::BTreeSet;
 use std::marker::Model;
@@ -239,7 +240,7 @@ impl<'t> Draft<'t> {
         ensures stays { OnErr result (self.new ≡ self.old) }
     {
         let mut bytes = self.head()?;
-        bytes.extend_from_slice(record_of(event).as_slice())?;
+        push_record(&mut bytes, event)?;
         self.bytes = bytes;
         self.count = 1;
         Ok(())
@@ -259,7 +260,7 @@ impl<'t> Draft<'t> {
         if self.events() == 0 {
             return self.push_first(event);
         }
-        self.bytes.extend_from_slice(record_of(event).as_slice())?;
+        push_record(&mut self.bytes, event)?;
         self.count += 1;
         Ok(())
     }

@@ -8,6 +8,7 @@ mod laws;
 mod lines;
 mod parse;
 mod print;
+mod record;
 mod usual;
 mod words;
 

@@ -1,4 +1,4 @@
-use Rattle.std.proofs.Common.{◌≡◌, ℕ, ◌+◌, None, refl, ◌<◌, List, ◌++◌, length, true, map, unwrap_or, ap, sym, subst, ◌∙◌, arith}
+use Rattle.std.proofs.Common.{◌≡◌, ◌+◌, None, refl, ◌<◌, List, length, true, map, unwrap_or, ap, sym, subst, ◌∙◌, arith}
 use Rattle.spp_event.specs.declared.records.Event.{Event}
 use Rattle.spp_event.specs.Records.{names_site, names_func}
 use Rattle.spp_text.specs.Reading.{Said, opening_fault}
@@ -21,13 +21,13 @@ invariant_of-self-2 c =
     let count : d.count ≡ c.events.result = sym (length-last_events d.count d.bytes.items) ∙ subst (λ (s : Said). length s.events ≡ c.events.result) (sym c.self.view_is) (sym c.events.ensures) in
     let some : 0 < length (last_events d.count d.bytes.items) = omega (arith, length-last_events d.count d.bytes.items, c.if-events-eq0.false) in
     let few : length (last_events d.count d.bytes.items) < 268435456 = subst (λ (s : Said). length s.events < 268435456) (sym c.self.view_is) c.requires.few in
-    let pushed = kept_push d.site_names funcs sites (unwrap_or d.root 0) d.count (d.count + 1) d.bytes.items d.bytes.items c.extend_from_slice.new.self.items c.args.event c.self.invariant
+    let pushed = kept_push d.site_names funcs sites (unwrap_or d.root 0) d.count (d.count + 1) d.bytes.items d.bytes.items c.push_record.new.bytes.items c.args.event c.self.invariant
     (is_opened _ c.self.invariant.opened (subst (λ (s : Said). opening_fault s ≡ None) (sym c.self.view_is) c.requires.opened))
     (omega (arith, length-last_events d.count d.bytes.items)) c.requires.fits
     (subst (λ (s : Said). names_site (length s.sites) c.args.event ≡ true) (sym c.self.view_is) c.requires.site)
     (subst (λ (s : Said). names_func (length s.funcs) c.args.event ≡ true) (sym c.self.view_is) c.requires.func)
     (c.self.invariant.written some)
-    (c.in_ok-extend_from_slice.ensures.items ∙ ap (λ (r : List ℕ). d.bytes.items ++ r) (c.as_slice.ensures ∙ c.record_of.ensures))
+    c.in_ok-push_record.ensures.pushed
     refl in
     pushed.1
 
@@ -39,13 +39,13 @@ returns-clause-pushed c =
     let count : d.count ≡ c.events.result = sym (length-last_events d.count d.bytes.items) ∙ subst (λ (s : Said). length s.events ≡ c.events.result) (sym c.self.view_is) (sym c.events.ensures) in
     let some : 0 < length (last_events d.count d.bytes.items) = omega (arith, length-last_events d.count d.bytes.items, c.if-events-eq0.false) in
     let few : length (last_events d.count d.bytes.items) < 268435456 = subst (λ (s : Said). length s.events < 268435456) (sym c.self.view_is) c.requires.few in
-    let pushed = kept_push d.site_names funcs sites (unwrap_or d.root 0) d.count (d.count + 1) d.bytes.items d.bytes.items c.extend_from_slice.new.self.items c.args.event c.self.invariant
+    let pushed = kept_push d.site_names funcs sites (unwrap_or d.root 0) d.count (d.count + 1) d.bytes.items d.bytes.items c.push_record.new.bytes.items c.args.event c.self.invariant
     (is_opened _ c.self.invariant.opened (subst (λ (s : Said). opening_fault s ≡ None) (sym c.self.view_is) c.requires.opened))
     (omega (arith, length-last_events d.count d.bytes.items)) c.requires.fits
     (subst (λ (s : Said). names_site (length s.sites) c.args.event ≡ true) (sym c.self.view_is) c.requires.site)
     (subst (λ (s : Said). names_func (length s.funcs) c.args.event ≡ true) (sym c.self.view_is) c.requires.func)
     (c.self.invariant.written some)
-    (c.in_ok-extend_from_slice.ensures.items ∙ ap (λ (r : List ℕ). d.bytes.items ++ r) (c.as_slice.ensures ∙ c.record_of.ensures))
+    c.in_ok-push_record.ensures.pushed
     refl in
-    subst (λ (s : Said). record { funcs = funcs; sites = sites; root = d.root; events = last_events (d.count + 1) c.extend_from_slice.new.self.items } ≡ with_event s c.args.event) c.self.view_is
+    subst (λ (s : Said). record { funcs = funcs; sites = sites; root = d.root; events = last_events (d.count + 1) c.push_record.new.bytes.items } ≡ with_event s c.args.event) c.self.view_is
     (ap (λ (es : List Event). record { funcs = funcs; sites = sites; root = d.root; events = es }) pushed.0)
