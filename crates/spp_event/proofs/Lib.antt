@@ -14,6 +14,8 @@ pub mod RefusalsAreFaults
 pub mod OpenTraceAnswers
 pub mod FaultsAreRefused
 pub mod HeaderLaws
+pub mod RecordHeads
+pub mod JoinedRecords
 pub mod ItemCounts
 pub mod ItemSamples
 pub mod ItemBodies

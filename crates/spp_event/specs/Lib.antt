@@ -4,6 +4,7 @@ pub mod Recordings
 pub mod Places
 pub mod Readers
 pub mod Header
+pub mod Heads
 pub mod Checks
 pub mod NameSets
 pub mod Migrating

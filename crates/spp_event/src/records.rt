@@ -93,10 +93,14 @@ pub fn record_of(event: Event) -> [u8; 16]
     }
 }
 
-/// The event that a whole record spells, or the first fault of the record. It reads two numbers of 64 bits, which
-/// is three times as fast as sixteen bytes.
+/// The event that a whole record of version 1 spells, in a trace of so many sites and functions. The time is constant.
+/// It reads two numbers of 64 bits, which is three times as fast as sixteen bytes.
+///
+/// # Errors
+///
+/// The first fault of its bytes, in the order of [`EventFault`]; `Truncated` and `Operand` are none of them.
 #[inline(always)]
-pub(crate) fn event_of(r: &[u8; 16], sites: u32, funcs: u32) -> Result<Event, EventFault>
+pub fn event_of(r: &[u8; 16], sites: u32, funcs: u32) -> Result<Event, EventFault>
     ensures said { result ≡ read_record sites funcs r.now }
     ensures within { IfOk result (λ e. IsEventOf sites funcs e) }
 {

@@ -9,12 +9,8 @@ use Rattle.spp_event.specs.declared.records.Event.TheVariants.{Ret}
 use Rattle.spp_event.specs.declared.records.EventFault.TheVariants.{Truncated}
 use Rattle.spp_event.specs.Recordings.{Record, record_at}
 use Rattle.spp_frame.specs.declared.Why.TheVariants as why
+pub use Rattle.spp_frame.specs.Pieces.{Far, IsBadIn}
 use Rattle.spp_frame.specs.Nesting.{opens_frame, closes_frame, weight, work, depth, wrong, wrong_at, IsGoodBefore, IsFirstBad, IsWellFormed}
-
-pub record Far (rs : List Record) (i d w : ℕ) : Type 0 where
-  pub good : IsGoodBefore rs i
-  pub depth : count_by opens_frame (take i rs) ≡ d + count_by closes_frame (take i rs)
-  pub work : w ≡ sum_by weight (take i rs)
 
 depth_is : (rs : List Record) (i d w : ℕ) → Far rs i d w → depth rs i ≡ d
 depth_is rs i d w f = let h = f.depth in omega arith

@@ -5,9 +5,12 @@ ghost use Rattle.std.specs.Prelude.{◌≡◌, IfOk, IfErr, Some};
 ghost use Rattle.spp_frame.specs.Texts.{why_text, fault_text};
 ghost use Rattle.spp_frame.specs.Nesting.{IsWellFormed, IsFirstBad, work, FirstBadIsOne, WellFormedHasNone, WellFormedOrBad, WellFormedAreEvents};
 
+mod frames;
 mod profile_fault;
+mod record_check;
 
 pub use profile_fault::ProfileFault;
+pub use record_check::RecordCheck;
 use spp_event::{Event, EventFault, Events, Reader, Trace};
 use std::fmt;
 use thiserror::Error;

@@ -1,0 +1,134 @@
+//! Checking the records of a trace of version 1 that come piece by piece.
+
+ghost use Rattle.std.specs.Prelude.{◌≡◌, ◌+◌, ◌*◌, ◌/◌, ◌≤◌, ◌<◌, ◌^◌, ◌++◌, List, [], length, IfOk, IfErr, MatchResult};
+ghost use Rattle.spp_event.specs.declared.version.Version.TheVariants.{One};
+ghost use Rattle.spp_event.specs.Recordings.{Record, place, records_of};
+ghost use Rattle.spp_frame.specs.Nesting.{IsWellFormed, IsFirstBad, work};
+ghost use Rattle.spp_frame.specs.Pieces.{Far, IsBadIn};
+
+use crate::frames::Frames;
+use crate::{Fault, Why};
+use spp_event::{EventFault, event_of};
+
+/// The bytes of a record.
+const RECORD: usize = 16;
+
+/// The bytes of a record that is there.
+#[inline(always)]
+fn record_in(bytes: &[u8], k: u32) -> &[u8; RECORD]
+    requires { k * 16 + 16 ≤ length bytes.now }
+    ensures { result.now ≡ place bytes.now k }
+{
+    let first = k as usize * RECORD;
+    match bytes[first..first + RECORD].first_chunk() {
+        Some(record) => record,
+        None => unreachable!(),
+    }
+}
+
+/// The frames behind the whole records of these bytes, the first of which has the position `at`.
+///
+/// # Errors
+///
+/// The first bad event.
+fn walk(before: Frames, at: u32, bytes: &[u8], sites: u32, funcs: u32) -> Result<Frames, Fault>
+    requires room { at + length bytes.now / 16 < 2 ^ 32 }
+    requires deep { before.depth ≤ at }
+    requires small { before.work ≤ 18446744073709551616 * at }
+    ensures deep { IfOk result (λ f. f.depth ≤ at + length bytes.now / 16) }
+    ensures small { IfOk result (λ f. f.work ≤ 18446744073709551616 * (at + length bytes.now / 16)) }
+    ensures seen { (rs : List Record) → length rs ≡ at → Far rs (length rs) before.depth before.work
+        → let all = rs ++ records_of One sites funcs (length bytes.now / 16) bytes.now in
+        MatchResult result (λ f. Far all (length all) f.depth f.work) (λ fault. IsBadIn all fault) }
+{
+    let mut frames = before;
+    for k in 0..(bytes.len() / RECORD) as u32 {
+        if let Err(why) = frames.take(event_of(record_in(bytes, k), sites, funcs)) {
+            return Err(Fault { at: at + k, why });
+        }
+    }
+    Ok(frames)
+}
+
+/// Checks the records of a trace of version 1 that come piece by piece, as [`check`](crate::check) does those of an
+/// opened trace. It keeps none of them.
+#[derive(Clone, Copy)]
+pub struct RecordCheck {
+    at: u32,
+    frames: Frames,
+    bad: Option<Fault>,
+    ghost deep: { frames.depth ≤ at },
+    ghost small: { frames.work ≤ 18446744073709551616 * at },
+}
+
+impl RecordCheck {
+    ghost use Rattle.spp_frame.specs.RecordChecks.{HasSeen, EndsWith, seen_by};
+
+    /// A check that has seen no record.
+    pub fn new() -> RecordCheck
+        ensures { HasSeen result [] }
+    {
+        RecordCheck {
+            at: 0,
+            frames: Frames::ROOT,
+            bad: None,
+        }
+    }
+
+    /// The check behind the whole records of these bytes as well, in a trace of so many sites and functions. The time is
+    /// linear in them, or constant where a bad event was seen already.
+    pub fn followed_by(self, bytes: &[u8], sites: u32, funcs: u32) -> RecordCheck
+        requires { seen_by self + length bytes.now / 16 < 2 ^ 32 }
+        ensures count { seen_by result ≡ seen_by self + length bytes.now / 16 }
+        ensures seen { (rs : List Record) → HasSeen self rs → HasSeen result (rs ++ records_of One sites funcs (length bytes.now / 16) bytes.now) }
+    {
+        let RecordCheck { at, frames, bad } = self;
+        let behind = at + (bytes.len() / RECORD) as u32;
+        if let Some(fault) = bad {
+            return RecordCheck {
+                at: behind,
+                frames,
+                bad: Some(fault),
+            };
+        }
+        let walked = match walk(frames, at, bytes, sites, funcs) {
+            Ok(walked) => walked,
+            Err(fault) => {
+                return RecordCheck {
+                    at: behind,
+                    frames,
+                    bad: Some(fault),
+                };
+            }
+        };
+        RecordCheck {
+            at: behind,
+            frames: walked,
+            bad: None,
+        }
+    }
+
+    /// The work of a well-formed trace of `count` records, where it ends behind those that were seen. Where it has more,
+    /// the bytes end before the next one does.
+    ///
+    /// # Errors
+    ///
+    /// The first bad event.
+    pub fn end(self, count: u32) -> Result<u128, Fault>
+        requires { seen_by self ≤ count }
+        ensures work { (rs : List Record) → EndsWith self rs → length rs ≡ count → IfOk result (λ w. IsWellFormed rs × (w ≡ work rs)) }
+        ensures fault { (rs : List Record) → EndsWith self rs → length rs ≡ count → IfErr result (λ f. IsFirstBad rs f) }
+    {
+        let RecordCheck { at, frames, bad } = self;
+        if let Some(fault) = bad {
+            return Err(fault);
+        }
+        if at < count {
+            return Err(Fault {
+                at,
+                why: Why::Event(EventFault::Truncated),
+            });
+        }
+        frames.end(count)
+    }
+}
