@@ -77,6 +77,15 @@ two_digits a b n rest some small last end is =
     ∙ ap (λ (l : List ℕ). (l ++ (64 + (b - 64)) ∷ []) ++ rest) (sym d)
     ∙ ap (λ (l : List ℕ). l ++ rest) (operand_ends a (b - 64) (omega arith) ∙ ap operand (sym is))
 
+-- and one of three
+pub three_digits : (a b c n : ℕ) (rest : List ℕ) → 0 < a → a < 64 → b < 64 → 64 ≤ c → c < 128 → n ≡ (a * 64 + b) * 64 + (c - 64) → a ∷ b ∷ c ∷ rest ≡ operand n ++ rest
+three_digits a b c n rest some small middle last end is =
+    let d : digits_of 64 a ≡ a ∷ [] = sym (digits_more 0 a small (omega arith) ∙ ap (λ (k : ℕ). digits_of 64 k) (let s : 0 * 64 + a ≡ a = omega arith in s)) in
+    let e : digits_of 64 (a * 64 + b) ≡ a ∷ b ∷ [] = sym (digits_more a b middle (omega arith)) ∙ ap (λ (l : List ℕ). l ++ b ∷ []) d in
+    ap (λ (k : ℕ). a ∷ b ∷ k ∷ rest) (let s : c ≡ 64 + (c - 64) = omega arith in s)
+    ∙ ap (λ (l : List ℕ). (l ++ (64 + (c - 64)) ∷ []) ++ rest) (sym e)
+    ∙ ap (λ (l : List ℕ). l ++ rest) (operand_ends (a * 64 + b) (c - 64) (omega arith) ∙ ap operand (sym is))
+
 pub take_more : (bytes : List ℕ) (k b : ℕ) → k < length bytes → get_or bytes k 0 ≡ b → take (k + 1) bytes ≡ take k bytes ++ b ∷ []
 take_more bytes k b h e = ap (λ (j : ℕ). take j bytes) (let s : k + 1 ≡ suc k = omega arith in s) ∙ take-suc bytes k 0 h ∙ ap (λ (x : ℕ). take k bytes ++ x ∷ []) e
 

@@ -93,7 +93,7 @@ fn operand_of(bytes: &[u8]) -> Option<(u64, &[u8])>
     None
 }
 
-/// A number that the bytes begin with, and the bytes behind it, as [`operand_of`] finds it; numbers of one digit and of two,
+/// A number that the bytes begin with, and the bytes behind it, as [`operand_of`] finds it; numbers of one digit to three,
 /// which most are, without its loop.
 #[inline(always)]
 fn operand_in_front(bytes: &[u8]) -> Option<(u64, &[u8])>
@@ -108,6 +108,13 @@ fn operand_in_front(bytes: &[u8]) -> Option<(u64, &[u8])>
         let last = u64::from(*second);
         if digit > 0 && digit < BASE && last >= BASE && last < 2 * BASE {
             return Some((digit * BASE + (last - BASE), rest));
+        }
+        if let Some((third, rest)) = rest.split_first() {
+            let end = u64::from(*third);
+            if digit > 0 && digit < BASE && last < BASE && end >= BASE && end < 2 * BASE {
+                let front = digit * BASE + last;
+                return Some((front * BASE + (end - BASE), rest));
+            }
         }
     }
     operand_of(bytes)
