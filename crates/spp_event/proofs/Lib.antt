@@ -27,3 +27,4 @@ pub mod KnownRecords
 pub mod WrittenBytes
 pub mod GoodNames
 pub mod SpelledBodies
+pub mod KeyedNames

@@ -12,3 +12,4 @@ pub mod Texts
 pub mod Contents
 pub mod Samples
 pub mod Laws
+pub mod NameKeys

@@ -1,7 +1,7 @@
 //! The header of a trace, with the names of its functions and sites.
 
 ghost use Rattle.std.specs.Prelude.{◌≡◌, ◌≢◌, ◌<◌, ◌≤◌, ◌+◌, ◌^◌, [], Some, true, if◌then◌else◌, not, List, ℕ, length, map, take, None, false, IfOk, IfSome, IfErr, OnOk, MatchResult};
-ghost use Rattle.spp_event.specs.NameSets.{has};
+ghost use Rattle.spp_event.specs.NameKeys.{has_by_key};
 ghost use Rattle.std.specs.Str.{bytes_eq};
 ghost use Rattle.spp_event.specs.declared.header.HeaderFault.TheVariants.{Memory};
 ghost use Rattle.spp_event.specs.Records.{word_at};
@@ -11,6 +11,7 @@ ghost use Rattle.spp_event.specs.Header.{IsTraceOf, IsHeaderFault, magic, versio
 ghost use Rattle.spp_event.specs.Checks.{Gives, name_at, funcs_at, sites_at, trace_at, are_limits};
 
 use crate::layout::Layout;
+use crate::name_keys::key_of;
 use crate::names::{is_name, is_root_name};
 use crate::traces::Trace;
 use crate::version::Version;
@@ -122,12 +123,13 @@ fn funcs_of(alloc: Global, count: u32, bytes: &[u8]) -> Result<(Vec<&str>, &[u8]
     Ok((names, rest))
 }
 
-/// Notes a site's name, and says whether it was new.
-fn note<'a>(seen: &mut BTreeSet<&'a str>, name: &'a str) -> Result<bool, AllocError>
-    ensures new { IfOk result (λ new. new ≡ not (has seen.old name.now)) }
-    ensures has { OnOk result ((q : List ℕ) → has seen.new q ≡ (if bytes_eq name.now q then true else has seen.old q)) }
+/// Notes a site's name, and says whether it was new. Names are ordered by their keys first, since most pairs of names are
+/// told apart by these.
+fn note<'a>(seen: &mut BTreeSet<(u64, &'a str)>, name: &'a str) -> Result<bool, AllocError>
+    ensures new { IfOk result (λ new. new ≡ not (has_by_key seen.old name.now)) }
+    ensures has { OnOk result ((q : List ℕ) → has_by_key seen.new q ≡ (if bytes_eq name.now q then true else has_by_key seen.old q)) }
 {
-    Ok(seen.insert(name)?)
+    Ok(seen.insert((key_of(name.as_bytes()), name))?)
 }
 
 /// The names of the sites, and the bytes after them.
@@ -142,7 +144,7 @@ fn sites_of(
     ensures count { IfOk result (λ x. length x.0.items ≡ count) }
 {
     let mut names = Vec::new(alloc);
-    let mut seen: BTreeSet<&str> = BTreeSet::new(alloc);
+    let mut seen: BTreeSet<(u64, &str)> = BTreeSet::new(alloc);
     let mut rest = bytes;
     for number in 0..count {
         let (name, others) = name_of(first + number, rest)?;
@@ -231,9 +233,10 @@ fn checked<'a>(alloc: Global, bytes: &'a [u8]) -> Result<Trace<'a>, HeaderFault>
 /// Opens the bytes of a trace, whose names and records are borrowed from them.
 ///
 /// Events aren't looked at: a bad one is told when it is read ([`Trace::event_at`], [`Reader::read`]). The time is that
-/// of reading all names and of about S log S comparisons of names, S being the number of sites; for a trace of version
-/// 2 it is linear in the body besides. The memory is linear in the number of names that are there, and in version 2 it
-/// is 8 bytes for 64 items besides, or up to twice that: nothing is allocated for a number that the header only claims.
+/// of reading all names and of about S log S comparisons of numbers made from names, S being the number of sites, or of
+/// names where these numbers are equal; for a trace of version 2 it is linear in the body besides. The memory is linear
+/// in the number of names that are there, and in version 2 it is 8 bytes for 64 items besides, or up to twice that:
+/// nothing is allocated for a number that the header only claims.
 ///
 /// # Errors
 ///
