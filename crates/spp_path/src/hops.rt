@@ -35,10 +35,23 @@ impl Placed for Choice {
     }
 }
 
-/// How many of the first `left` of these choices, whose positions rise, stand at `spawn` or before it. It looks back from
-/// the last of them by steps that double, and then halves the last step: the time is that of the logarithm of how many it
-/// hops over.
+/// How many of the first `left` of these choices, whose positions rise, stand at `spawn` or before it. The time is that of
+/// the logarithm of how many it hops over; mostly it's none.
+#[inline(always)]
 fn hop<N: Placed>(choices: &[N], left: usize, spawn: u32) -> usize
+    requires { left ≤ length choices.now }
+    ensures { IsHop (map N.place choices.now) left spawn result }
+{
+    if left == 0 || choices[left - 1].place() <= spawn {
+        return left;
+    }
+    hop_far(choices, left, spawn)
+}
+
+/// The same, where there may be many: it looks back from the last of them by steps that double, and then halves the last
+/// step.
+#[inline(never)]
+fn hop_far<N: Placed>(choices: &[N], left: usize, spawn: u32) -> usize
     requires { left ≤ length choices.now }
     ensures { IsHop (map N.place choices.now) left spawn result }
 {
@@ -69,6 +82,7 @@ pub(crate) struct Left {
 
 impl Left {
     /// Those of them that stand at that spawn or before it, where there is one; else all.
+    #[inline(always)]
     pub(crate) fn before(self, ends: &[End], joins: &[Choice], spawn: Option<u32>) -> Left
         requires ends { self.ends ≤ length ends.now }
         requires joins { self.joins ≤ length joins.now }

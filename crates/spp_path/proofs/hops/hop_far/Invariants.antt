@@ -1,5 +1,5 @@
 use Rattle.std.proofs.Common.{◌-◌, ◌≤◌, ◌<◌, get_or, map}
-use Rattle.spp_path.proofs.hops.hop.Given as goal
+use Rattle.spp_path.proofs.hops.hop_far.Given as goal
 
 -- the one at `high`, if it is among those, stands after the spawn
 abbrev pub invariant-loop-step : goal.invariant-loop-step
