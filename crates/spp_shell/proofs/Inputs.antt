@@ -86,3 +86,20 @@ module _ {T : Type 0} (items : T → List ℕ) (g h : Giving) (bytes : List ℕ)
       → IfErr r (IsRefusedBy (inputs_of g h) place LineFor)
   told_first place LineFor (Ok text) within is = tt
   told_first place LineFor (Err e) within is = first_refused g h place LineFor unused bytes e gave within is
+
+-- what is answered for the one input that a task reads
+module _ {T : Type 0} (items : T → List ℕ) (g h : Giving) (unused : h.Untouched) where
+  pub answered_by : (TextFor : List (List ℕ) → List ℕ → Type 0) (r : Result T Refusal) → IfOk r (λ text. (bytes : List ℕ) × g.Gave bytes × TextFor (bytes ∷ []) (items text))
+      → IfOk r (λ text. (inputs : List (List ℕ)) × WasRead (inputs_of g h) inputs × TextFor inputs (items text))
+  answered_by TextFor (Ok text) (bytes, gave, is) = (bytes ∷ [], (gave, unused), is)
+  answered_by TextFor (Err e) is = tt
+
+  told_so : (place : Place) (LineFor : List (List ℕ) → List ℕ → Type 0) (e : Refusal) → IsInputRefused g place (λ bytes told. LineFor (bytes ∷ []) told) e → IsRefusedBy (inputs_of g h) place LineFor e
+  told_so place LineFor (refusal.Line told) (bytes, gave, line) = (bytes ∷ [], (gave, unused), line)
+  told_so place LineFor (refusal.Unread trouble) (fault, is, refused) = inl (fault, is, refused, unused)
+  told_so place LineFor refusal.Memory within = inl (within, unused)
+
+  pub told_by : (place : Place) (LineFor : List (List ℕ) → List ℕ → Type 0) (r : Result T Refusal) → IfErr r (IsInputRefused g place (λ bytes told. LineFor (bytes ∷ []) told))
+      → IfErr r (IsRefusedBy (inputs_of g h) place LineFor)
+  told_by place LineFor (Ok text) is = tt
+  told_by place LineFor (Err e) is = told_so place LineFor e is

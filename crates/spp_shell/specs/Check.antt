@@ -44,3 +44,7 @@ IsCheckText inputs text = (bytes : List ℕ) × (inputs ≡ bytes ∷ []) × Tel
 -- the line for one input that is refused
 abbrev pub IsCheckLine : List (List ℕ) → List ℕ → Type 0
 IsCheckLine inputs told = (bytes : List ℕ) × (inputs ≡ bytes ∷ []) × (TellsHeader bytes told ⊎ TellsEvent bytes told)
+
+-- the line for these bytes alone
+abbrev pub IsOneCheckLine : List ℕ → List ℕ → Type 0
+IsOneCheckLine bytes told = IsCheckLine (bytes ∷ []) told

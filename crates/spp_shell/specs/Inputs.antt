@@ -25,6 +25,11 @@ IsTroubleOf place Device told = told ≡ trouble.CannotRead place
 IsTroubleOf place TooLong told = told ≡ trouble.TooLong place
 IsTroubleOf place Memory told = ⊥
 
+-- what a run is refused with whose input could not be read whole
+abbrev pub TellsRead : Place → ReadFault → Refusal → Type 0
+TellsRead place Memory told = told ≡ refusal.Memory
+TellsRead place fault told = (trouble : Trouble) × (told ≡ refusal.Unread trouble) × IsTroubleOf place fault trouble
+
 -- why one input has no answer, where LineFor gives the lines of fault for bytes that are refused
 abbrev pub IsInputRefused : Giving → Place → (List ℕ → List ℕ → Type 0) → Refusal → Type 0
 IsInputRefused input place LineFor (refusal.Line told) = (bytes : List ℕ) × input.Gave bytes × LineFor bytes (string_bytes told)

@@ -1,9 +1,12 @@
 pub mod Places
 pub mod Troubles
 pub mod Reading
+pub mod Streams
 pub mod Refusals
 pub mod InSources
 pub mod Check
+pub mod Checked
+pub mod RecordStreams
 pub mod Encode
 pub mod Migrate
 pub mod Figures

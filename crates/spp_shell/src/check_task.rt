@@ -1,11 +1,25 @@
 //! The task `check`: the work of a trace, or its first fault.
-ghost use Rattle.std.specs.Prelude.{◌≡◌, [], ◌∷◌, IfOk, IfErr};
+ghost use Rattle.std.specs.Prelude.{◌≡◌, ◌≤◌, ◌^◌, ℕ, List, [], ◌∷◌, length, take, IfOk, IfErr};
+ghost use Rattle.spp_event.specs.Heads.{IsRecordHead};
+ghost use Rattle.spp_shell.specs.Devices.{giving_of};
+ghost use Rattle.spp_shell.specs.Inputs.{IsInputRefused};
+ghost use Rattle.spp_shell.specs.RecordStreams.{HasStreamed};
+ghost use Rattle.spp_shell.specs.Streams.{HasRead};
 ghost use Rattle.spp_shell.specs.Tasks.{IfLine};
+ghost use Rattle.spp_shell.specs.declared.place.Place.TheVariants.{Only};
 ghost use Rattle.std.specs.String.{string_bytes};
-ghost use Rattle.spp_shell.specs.Check.{IsCheckText, IsCheckLine, work_text};
+ghost use Rattle.spp_shell.specs.Check.{IsCheckText, IsCheckLine, IsOneCheckLine, work_text};
 
-use crate::opening::{open_or_refuse, refusal_of_event};
+use crate::header_end::HeaderEnd;
+use crate::input::refusal_of_read;
+use crate::opening::{open_or_refuse, refusal_of_event, refusal_of_header};
+use crate::place::Place;
+use crate::reading::{INPUT_LIMIT, make_first_room};
+use crate::reading_on::{Front, read_on};
+use crate::record_stream::{Head, RecordStream};
 use crate::refusal::Refusal;
+use crate::source::Source;
+use spp_event::HeaderFault;
 use spp_frame::check;
 use std::alloc::{AllocError, Global};
 
@@ -17,7 +31,7 @@ fn text_of_work(alloc: Global, work: u128) -> Result<String, AllocError>
 }
 
 /// The work of the trace whose bytes these are, as a text, or why there is none.
-pub(crate) fn answer_check(alloc: Global, bytes: &[u8]) -> Result<Vec<u8>, Refusal>
+fn answer_check(alloc: Global, bytes: &[u8]) -> Result<Vec<u8>, Refusal>
     ensures text { IfOk result (λ text. IsCheckText (bytes.now ∷ []) text.items) }
     ensures line { IfErr result (λ refusal. IfLine refusal (IsCheckLine (bytes.now ∷ []))) }
 {
@@ -25,5 +39,84 @@ pub(crate) fn answer_check(alloc: Global, bytes: &[u8]) -> Result<Vec<u8>, Refus
     match check(&trace) {
         Ok(work) => Ok(text_of_work(alloc, work)?.into_bytes()),
         Err(fault) => Err(refusal_of_event(alloc, fault)),
+    }
+}
+
+/// The same of a trace of version 1 whose records were checked as they came.
+fn answer_stream(alloc: Global, stream: RecordStream) -> Result<Vec<u8>, Refusal>
+    ensures text { (bytes : List ℕ) → HasStreamed stream bytes → IfOk result (λ text. IsCheckText (bytes ∷ []) text.items) }
+    ensures line { (bytes : List ℕ) → HasStreamed stream bytes → IfErr result (λ refusal. IfLine refusal (IsCheckLine (bytes ∷ []))) }
+{
+    if 16 * u64::from(stream.head.count) < stream.body_len() {
+        return Err(refusal_of_header(alloc, HeaderFault::Trailing));
+    }
+    match stream.check.end(stream.head.count) {
+        Ok(work) => Ok(text_of_work(alloc, work)?.into_bytes()),
+        Err(fault) => Err(refusal_of_event(alloc, fault)),
+    }
+}
+
+/// The same of an input that begins with the header of a trace of version 1, and of which these bytes came in so many
+/// reads.
+fn check_records<S: Source>(
+    alloc: Global,
+    source: &mut S,
+    head: Head,
+    first: Vec<u8>,
+    reads: u64,
+) -> Result<Vec<u8>, Refusal>
+    requires head { IsRecordHead (take head.len first.items) head.sites head.funcs head.count }
+    requires within { head.len ≤ length first.items }
+    requires few { length first.items ≤ 2 ^ 33 }
+    requires reads { reads ≤ 2 ^ 33 }
+    ensures text { (s : S) → HasRead S.answered S.failed S.failures reads s first.items source.old → IfOk result (λ text. (bytes : List ℕ) × (giving_of S.answered S.failed S.failures s source.new).Gave bytes × IsCheckText (bytes ∷ []) text.items) }
+    ensures refused { (s : S) → HasRead S.answered S.failed S.failures reads s first.items source.old → IfErr result (IsInputRefused (giving_of S.answered S.failed S.failures s source.new) Only IsOneCheckLine) }
+{
+    match RecordStream::start(head, first).read_rest(source, reads) {
+        Ok(stream) => answer_stream(alloc, stream),
+        Err(fault) => Err(refusal_of_read(fault, Place::Only)),
+    }
+}
+
+/// The same of any input of which these bytes came in so many reads: it is read whole first.
+fn check_whole<S: Source>(
+    alloc: Global,
+    source: &mut S,
+    first: Vec<u8>,
+    reads: u64,
+) -> Result<Vec<u8>, Refusal>
+    requires few { length first.items ≤ 2 ^ 33 }
+    requires reads { reads ≤ 2 ^ 33 }
+    ensures text { (s : S) → HasRead S.answered S.failed S.failures reads s first.items source.old → IfOk result (λ text. (bytes : List ℕ) × (giving_of S.answered S.failed S.failures s source.new).Gave bytes × IsCheckText (bytes ∷ []) text.items) }
+    ensures refused { (s : S) → HasRead S.answered S.failed S.failures reads s first.items source.old → IfErr result (IsInputRefused (giving_of S.answered S.failed S.failures s source.new) Only IsOneCheckLine) }
+{
+    let mut bytes = first;
+    make_first_room(&mut bytes, source.hint(), INPUT_LIMIT);
+    match read_on(source, bytes, reads, None) {
+        Ok(Front::Whole(bytes)) => answer_check(alloc, bytes.as_slice()),
+        Ok(Front::Part(_, _)) => unreachable!(),
+        Err(fault) => Err(refusal_of_read(fault, Place::Only)),
+    }
+}
+
+/// The work of the trace that an input is, as a text, or why there is none.
+///
+/// The records of a trace of version 1 are checked as they come: the memory is that of its header and of 65,536 bytes.
+/// Any other input is read whole.
+pub(crate) fn check_input<S: Source>(alloc: Global, source: &mut S) -> Result<Vec<u8>, Refusal>
+    ensures text { IfOk result (λ text. (bytes : List ℕ) × (giving_of S.answered S.failed S.failures source.old source.new).Gave bytes × IsCheckText (bytes ∷ []) text.items) }
+    ensures refused { IfErr result (IsInputRefused (giving_of S.answered S.failed S.failures source.old source.new) Only IsOneCheckLine) }
+{
+    let front = match read_on(source, Vec::new(alloc), 0, Some(HeaderEnd::new())) {
+        Ok(front) => front,
+        Err(fault) => return Err(refusal_of_read(fault, Place::Only)),
+    };
+    let (bytes, reads) = match front {
+        Front::Whole(bytes) => return answer_check(alloc, bytes.as_slice()),
+        Front::Part(bytes, reads) => (bytes, reads),
+    };
+    match Head::of(alloc, bytes.as_slice()) {
+        Some(head) => check_records(alloc, source, head, bytes, reads),
+        None => check_whole(alloc, source, bytes, reads),
     }
 }

@@ -1,7 +1,7 @@
 //! Reading an input whole.
 ghost use Rattle.std.specs.Prelude.{◌≡◌, IfOk, IfErr};
 ghost use Rattle.spp_shell.specs.Devices.{giving_of};
-ghost use Rattle.spp_shell.specs.Inputs.{IsInputRefused, NoLine};
+ghost use Rattle.spp_shell.specs.Inputs.{IsInputRefused, NoLine, TellsRead};
 
 use crate::place::Place;
 use crate::reading::{ReadFault, read_all};
@@ -9,6 +9,17 @@ use crate::refusal::Refusal;
 use crate::source::Source;
 use crate::trouble::Trouble;
 use std::alloc::Global;
+
+/// What an input is answered with that could not be read whole.
+pub(crate) fn refusal_of_read(fault: ReadFault, place: Place) -> Refusal
+    ensures { TellsRead place fault result }
+{
+    match fault {
+        ReadFault::Device => Refusal::Unread(Trouble::CannotRead(place)),
+        ReadFault::TooLong => Refusal::Unread(Trouble::TooLong(place)),
+        ReadFault::Memory => Refusal::Memory,
+    }
+}
 
 /// All bytes of an input, or why it could not be read whole.
 pub(crate) fn read_or_refuse<S: Source>(
@@ -21,8 +32,6 @@ pub(crate) fn read_or_refuse<S: Source>(
 {
     match read_all(alloc, input) {
         Ok(bytes) => Ok(bytes),
-        Err(ReadFault::Device) => Err(Refusal::Unread(Trouble::CannotRead(place))),
-        Err(ReadFault::TooLong) => Err(Refusal::Unread(Trouble::TooLong(place))),
-        Err(ReadFault::Memory) => Err(Refusal::Memory),
+        Err(fault) => Err(refusal_of_read(fault, place)),
     }
 }

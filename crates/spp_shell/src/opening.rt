@@ -25,7 +25,7 @@ fn line_of_event(alloc: Global, fault: Fault) -> Result<String, AllocError>
 }
 
 /// What bytes are answered with whose header has that fault.
-fn refusal_of_header(alloc: Global, fault: HeaderFault) -> Refusal
+pub(crate) fn refusal_of_header(alloc: Global, fault: HeaderFault) -> Refusal
     ensures { IfLine result (λ line. (fault ≢ HeaderFault.Memory) × (line ≡ header_line fault)) }
 {
     match fault {

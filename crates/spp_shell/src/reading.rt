@@ -31,7 +31,7 @@ const PIECE: usize = 65536;
 
 /// Makes room for the bytes that are likely to come, but for no more than `most`, and for one piece more, so that the
 /// end is seen. Where memory for it is refused, none is made.
-fn make_first_room(bytes: &mut Vec<u8>, hint: Option<u64>, most: u64)
+pub(crate) fn make_first_room(bytes: &mut Vec<u8>, hint: Option<u64>, most: u64)
     ensures { bytes.new.items ≡ bytes.old.items }
 {
     let Some(hint) = hint else {
@@ -45,7 +45,7 @@ fn make_first_room(bytes: &mut Vec<u8>, hint: Option<u64>, most: u64)
 
 /// Sees to it that there is room behind the first `filled` bytes. Where there is none it grows by a quarter, but by
 /// one piece at least.
-fn make_room(bytes: &mut Vec<u8>, filled: usize) -> Result<(), AllocError>
+pub(crate) fn make_room(bytes: &mut Vec<u8>, filled: usize) -> Result<(), AllocError>
     requires { filled ≤ length bytes.old.items }
     ensures room { OnOk result (filled < length bytes.new.items) }
     ensures kept { OnOk result (take filled bytes.new.items ≡ take filled bytes.old.items) }
@@ -60,7 +60,7 @@ fn make_room(bytes: &mut Vec<u8>, filled: usize) -> Result<(), AllocError>
 }
 
 /// Reads into the room behind the first `filled` bytes.
-fn pull_behind<S: Source>(
+pub(crate) fn pull_behind<S: Source>(
     source: &mut S,
     bytes: &mut Vec<u8>,
     filled: usize,

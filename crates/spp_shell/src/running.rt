@@ -6,7 +6,7 @@ ghost use Rattle.spp_shell.specs.Inputs.{IsRefusedBy, first_place};
 ghost use Rattle.spp_shell.specs.Requests.{text_for, line_for};
 ghost use Rattle.spp_shell.specs.Tasks.{IfLine};
 
-use crate::check_task::answer_check;
+use crate::check_task::check_input;
 use crate::compare_task::answer_compare;
 use crate::encode_task::answer_encode;
 use crate::figures_task::answer_figures;
@@ -38,10 +38,7 @@ fn answer<R: Threads + Wait + Sync + RandomSource, S: Source, T: Source>(
     ensures refused { IfErr result (IsRefusedBy (inputs_of (giving_of S.answered S.failed S.failures first.old first.new) (giving_of T.answered T.failed T.failures second.old second.new)) (first_place request.now.command) (line_for request.now.command)) }
 {
     match request.command {
-        Command::Check => {
-            let bytes = read_or_refuse(alloc, first, Place::Only)?;
-            answer_check(alloc, bytes.as_slice())
-        }
+        Command::Check => check_input(alloc, first),
         Command::Figures => {
             let bytes = read_or_refuse(alloc, first, Place::Only)?;
             answer_figures(rt, alloc, request, bytes.as_slice())

@@ -6,40 +6,36 @@ use Rattle.spp_shell.specs.Migrate.{IsMigrateText, IsMigrateLine}
 use Rattle.spp_shell.specs.Figures.{IsFiguresText}
 use Rattle.spp_shell.specs.Profiles.{IsProfileText}
 use Rattle.spp_shell.specs.declared.place.Place.TheVariants.{Only}
-use Rattle.spp_shell.proofs.Inputs.{answered_first, told_first}
+use Rattle.spp_shell.proofs.Inputs.{answered_by, answered_first, told_by, told_first}
 use Rattle.spp_shell.proofs.running.answer.Goals as goal
 
-pub returns-in_ok-bytes-in-Check-clause-text : goal.returns-in_ok-bytes-in-Check-clause-text
-returns-in_ok-bytes-in-Check-clause-text g c =
-    let first : Giving = giving_of g.S.Source.answered g.S.Source.failed g.S.Source.failures c.args.first.now c.read_or_refuse.new.input in
+pub returns-in-Check-clause-text : goal.returns-in-Check-clause-text
+returns-in-Check-clause-text g c =
+    let first : Giving = giving_of g.S.Source.answered g.S.Source.failed g.S.Source.failures c.args.first.now c.check_input.new.source in
     let second : Giving = giving_of g.T.Source.answered g.T.Source.failed g.T.Source.failures c.args.second.now c.args.second.now in
-    let bytes = c.in_ok-bytes-in-Check.bytes.items in
-    let gave = c.in_ok-bytes-in-Check.ensures.read in
-    rw c.in-Check.is (answered_first (λ text. text.items) first second bytes gave refl IsCheckText c.answer_check.result (rw c.as_slice.ensures.value at c.answer_check.ensures.text))
+    rw c.in-Check.is (answered_by (λ text. text.items) first second refl IsCheckText c.check_input.result c.check_input.ensures.text)
 
-pub returns-in_ok-bytes-in-Check-clause-refused : goal.returns-in_ok-bytes-in-Check-clause-refused
-returns-in_ok-bytes-in-Check-clause-refused g c =
-    let first : Giving = giving_of g.S.Source.answered g.S.Source.failed g.S.Source.failures c.args.first.now c.read_or_refuse.new.input in
+pub returns-in-Check-clause-refused : goal.returns-in-Check-clause-refused
+returns-in-Check-clause-refused g c =
+    let first : Giving = giving_of g.S.Source.answered g.S.Source.failed g.S.Source.failures c.args.first.now c.check_input.new.source in
     let second : Giving = giving_of g.T.Source.answered g.T.Source.failed g.T.Source.failures c.args.second.now c.args.second.now in
-    let bytes = c.in_ok-bytes-in-Check.bytes.items in
-    let gave = c.in_ok-bytes-in-Check.ensures.read in
-    rw c.in-Check.is (told_first (λ text. text.items) first second bytes gave refl Only IsCheckLine c.answer_check.result (inr (bytes, gave)) (rw c.as_slice.ensures.value at c.answer_check.ensures.line))
+    rw c.in-Check.is (told_by (λ text. text.items) first second refl Only IsCheckLine c.check_input.result c.check_input.ensures.refused)
 
 pub returns-in_ok-bytes-in-Figures-clause-text : goal.returns-in_ok-bytes-in-Figures-clause-text
 returns-in_ok-bytes-in-Figures-clause-text g c =
-    let first : Giving = giving_of g.S.Source.answered g.S.Source.failed g.S.Source.failures c.args.first.now c.read_or_refuse-in-Figures.new.input in
+    let first : Giving = giving_of g.S.Source.answered g.S.Source.failed g.S.Source.failures c.args.first.now c.read_or_refuse.new.input in
     let second : Giving = giving_of g.T.Source.answered g.T.Source.failed g.T.Source.failures c.args.second.now c.args.second.now in
     let bytes = c.in_ok-bytes-in-Figures.bytes.items in
     let gave = c.in_ok-bytes-in-Figures.ensures.read in
-    rw c.in-Figures.is (answered_first (λ text. text.items) first second bytes gave refl (IsFiguresText c.args.request.now.burdens) c.answer_figures.result (rw c.as_slice-in-Figures.ensures.value at c.answer_figures.ensures.text))
+    rw c.in-Figures.is (answered_first (λ text. text.items) first second bytes gave refl (IsFiguresText c.args.request.now.burdens) c.answer_figures.result (rw c.as_slice.ensures.value at c.answer_figures.ensures.text))
 
 pub returns-in_ok-bytes-in-Figures-clause-refused : goal.returns-in_ok-bytes-in-Figures-clause-refused
 returns-in_ok-bytes-in-Figures-clause-refused g c =
-    let first : Giving = giving_of g.S.Source.answered g.S.Source.failed g.S.Source.failures c.args.first.now c.read_or_refuse-in-Figures.new.input in
+    let first : Giving = giving_of g.S.Source.answered g.S.Source.failed g.S.Source.failures c.args.first.now c.read_or_refuse.new.input in
     let second : Giving = giving_of g.T.Source.answered g.T.Source.failed g.T.Source.failures c.args.second.now c.args.second.now in
     let bytes = c.in_ok-bytes-in-Figures.bytes.items in
     let gave = c.in_ok-bytes-in-Figures.ensures.read in
-    rw c.in-Figures.is (told_first (λ text. text.items) first second bytes gave refl Only IsCheckLine c.answer_figures.result (inr (bytes, gave)) (rw c.as_slice-in-Figures.ensures.value at c.answer_figures.ensures.line))
+    rw c.in-Figures.is (told_first (λ text. text.items) first second bytes gave refl Only IsCheckLine c.answer_figures.result (inr (bytes, gave)) (rw c.as_slice.ensures.value at c.answer_figures.ensures.line))
 
 pub returns-in_ok-bytes-in-Profile-clause-text : goal.returns-in_ok-bytes-in-Profile-clause-text
 returns-in_ok-bytes-in-Profile-clause-text g c =
