@@ -1,11 +1,11 @@
 //! A trace while its lines are read.
 
-ghost use Rattle.std.specs.Prelude.{◌≡◌, ◌≢◌, ◌<◌, ◌≤◌, ◌^◌, ◌++◌, take, drop, if◌then◌else◌, not, true, None, Some, List, ℕ, length, map, unwrap_or, IfOk, OnErr, OnOk};
+ghost use Rattle.std.specs.Prelude.{◌≡◌, ◌≢◌, ◌<◌, ◌^◌, if◌then◌else◌, not, true, None, Some, List, ℕ, length, map, unwrap_or, IfOk, OnErr, OnOk};
 ghost use Rattle.std.specs.List.{flat_map};
 ghost use Rattle.std.specs.Str.{bytes_eq};
 ghost use Rattle.spp_event.specs.NameSets.{has};
 ghost use Rattle.spp_event.specs.Header.{IsTraceOf, header_spelling};
-ghost use Rattle.spp_event.specs.Records.{names_site, names_func, spelling, word, IsEvent};
+ghost use Rattle.spp_event.specs.Records.{names_site, names_func, spelling, IsEvent};
 ghost use Rattle.spp_text.specs.Reading.{nothing, has_event, begins_with, number_in, event_in, opening_fault, read_func, read_site, read_root, set_root as set_root_to, add_event as adds_event, read_event, read_words, read_line};
 ghost use Rattle.spp_text.specs.Parsed.{Reads, recording_of};
 ghost use Rattle.spp_text.specs.Drafts.{begun, with_event};
@@ -13,23 +13,12 @@ ghost use Rattle.spp_text.specs.Steps.{AfterFront};
 
 use crate::events::{event_of, short_number};
 use crate::fault::TextWhy;
-use crate::record::push_record;
+use crate::record::{push_record, set_count};
 use crate::words::words_of;
 use spp_event::{Contents, Event, is_name, is_root_name, trace_bytes};
 use std::alloc::{AllocError, Global};
 use std::collections::BTreeSet;
 use std::marker::Model;
-
-/// Where the bytes of a trace say how many events it has.
-const COUNT: usize = 20;
-
-/// Writes into the bytes of a trace how many events it has.
-fn set_count(bytes: &mut [u8], count: u32)
-    requires { 24 ≤ length bytes.old }
-    ensures { bytes.new ≡ take 20 bytes.old ++ (word count ++ drop 24 bytes.old) }
-{
-    bytes[COUNT..COUNT + 4].copy_from_slice(count.to_be_bytes().as_slice());
-}
 
 /// What the lines that were read have said of a trace.
 #[derive(Drop)]

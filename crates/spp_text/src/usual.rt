@@ -1,25 +1,27 @@
 //! The lines of events as printing writes them, one space between words. They are read from the front of a text, with
 //! no list of their words.
 
-ghost use Rattle.std.specs.Prelude.{◌≡◌, ◌+◌, ◌*◌, ◌<◌, ◌≤◌, ◌^◌, ℕ, length, drop, IfSome};
-ghost use Rattle.spp_event.specs.declared.records.Event.{Event as AnEvent};
+ghost use Rattle.std.specs.Prelude.{IfSome};
 ghost use Rattle.spp_text.specs.Usual.{IsNumberFront, IsNumberLine, AreNumbersLine, IsEventLine};
 
 use spp_event::Event;
 
-/// How many digits a number has that is read here, and one more byte: 10^18 is below 2^64.
+/// How many bytes are looked at for the digits of a number: one more than it may have, since 10^18 is below 2^64.
 const WIDTH: usize = 19;
 
-/// The eight bytes at the front of a text, read as a number, begin with one of these words: `strand `, `return\n`,
-/// `spawn `, `call `, `sync\n`.
+/// `strand ` as a number, each byte eight bits of it, as are the words below.
 const STRAND: u64 = 0x73_7472_616e_6420;
 
+/// `return` and a line feed.
 const RETURN: u64 = 0x72_6574_7572_6e0a;
 
+/// `spawn `.
 const SPAWN: u64 = 0x7370_6177_6e20;
 
+/// `call `.
 const CALL: u64 = 0x63_616c_6c20;
 
+/// `sync` and a line feed.
 const SYNC: u64 = 0x73_796e_630a;
 
 /// The number whose digits a text begins with, and what follows them: at most 18 digits, and something follows.
@@ -65,8 +67,9 @@ fn numbers_line(text: &[u8]) -> Option<(u32, u32, &[u8])>
     Some((site, func, rest))
 }
 
-/// The event of the line that a text begins with, and what follows the line, where it is as printing writes it, its
-/// numbers have at most 18 digits, and enough follows it.
+/// The event of the line that a text begins with, and what follows the line. None where it isn't as printing writes it,
+/// has a number of more than 18 digits, or the text has fewer than eight bytes: then the line is to be read word by
+/// word. It looks at no more than 44 bytes, and takes no memory.
 #[inline(always)]
 pub(crate) fn event_line(text: &[u8]) -> Option<(Event, &[u8])>
     ensures { IfSome result (λ x. IsEventLine text.now x.0 x.1.now) }

@@ -1,7 +1,7 @@
 use Rattle.std.proofs.Common.{ℕ, List, ◌++◌, take, drop, ap, ◌∙◌}
 use Rattle.std.proofs.lemmas.List.{drop-drop}
 use Rattle.spp_event.specs.Records.{word}
-use Rattle.spp_text.proofs.draft.set_count.Goals as goal
+use Rattle.spp_text.proofs.record.set_count.Goals as goal
 
 pub returns : goal.returns
 returns c =
