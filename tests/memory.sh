@@ -136,30 +136,39 @@ each_refused 'check, version 2' 0 0 'work 32744' '' "$examples/nqueens.compact" 
 each_refused 'profile, version 2' 0 10 'work 32744*' '' "$examples/nqueens.compact" "$spprof" profile
 # An input of 69 MB, for the peaks below.
 awk 'BEGIN { print "func f"; for (n = 0; n < 4300000; n++) print "strand", n % 7 }' | "$spprof" encode > "$folder/long"
-peak_of() { # WORDS..: the peak memory in KiB of the program, which reads standard input
+peak_of() { # STATUS WORDS..: the peak memory in KiB of the program, which reads standard input and ends with that status
     python3 -c 'import resource, subprocess, sys
-subprocess.run(sys.argv[1:], stdout=subprocess.DEVNULL, check=True)
-print(resource.getrusage(resource.RUSAGE_CHILDREN).ru_maxrss)' "$spprof" "$@"
+status = subprocess.run(sys.argv[2:], stdout=subprocess.DEVNULL, stderr=subprocess.DEVNULL).returncode
+print(resource.getrusage(resource.RUSAGE_CHILDREN).ru_maxrss if status == int(sys.argv[1]) else f"memory, with status {status}")' \
+        "$1" "$spprof" "${@:2}"
 }
-# `check` takes at most 1.3 times the input's size from a pipe, and 1.1 times by name, where its length is known. So much is used
-# at most, and where no more can be had, but for 10 MB that the program itself takes, nothing is refused. The size is a
-# little more than 2^26 bytes: room that doubles would be nearly twice that, and room that isn't made once passes 1.1.
-size=$(($(stat -c %s "$folder/long") / 1024))
-for words in check "check $folder/long"; do
-    [ "$words" = check ] && bound=$((size * 13 / 10)) || bound=$((size * 11 / 10))
-    peak=$(cat "$folder/long" | peak_of $words)
-    cat "$folder/long" | (ulimit -v $((bound + 10000)) && exec "$spprof" $words > "$folder/out" 2> "$folder/err")
+peaks_within() { # BOUND STATUS INPUT WORDS..: so many KiB are used at most, and where no more can be had, but for 10 MB that the
+    # program itself takes, nothing is refused
+    local bound=$1 wanted=$2 input=$3 status peak
+    shift 3
+    peak=$(cat "$input" | peak_of "$wanted" "$@")
+    cat "$input" | (ulimit -v $((bound + 10000)) && exec "$spprof" "$@" > "$folder/out" 2> "$folder/err")
     status=$?
-    if [ "$peak" -lt "$bound" ] && [ $status -eq 0 ]; then
-        echo "memory: ${words%% *} of $size KiB takes $peak KiB, $([ "$words" = check ] && echo 'from a pipe' || echo 'by name')"
+    if [ "$peak" -lt "$bound" ] && [ $status -eq "$wanted" ]; then
+        echo "memory: ${*//$folder\//} of $size KiB takes $peak KiB"
         passed=$((passed + 1))
     else
-        fails "$words of $size KiB takes $peak KiB, and ends with status $status where $bound KiB and little more can be had"
+        fails "$* of $size KiB takes $peak KiB, and ends with status $status where $bound KiB and little more can be had"
     fi
-done
+}
+# Bytes that are no trace are read whole: `check` takes at most 1.3 times their size from a pipe, and 1.1 times by name, where
+# the length is known. The size is a little more than 2^26 bytes: room that doubles would be nearly twice that, and room that
+# isn't made once passes 1.1. Of a trace of version 1 `check` keeps the header and a piece: most of what is measured then is
+# the process that starts the program.
+size=$(($(stat -c %s "$folder/long") / 1024))
+tr '\0' '\1' < "$folder/long" > "$folder/none"
+peaks_within $((size * 13 / 10)) 1 "$folder/none" check
+peaks_within $((size * 11 / 10)) 1 "$folder/none" check "$folder/none"
+peaks_within 20000 0 "$folder/long" check
+peaks_within 20000 0 "$folder/long" check "$folder/long"
 # The first run's bytes are let go before the second is read: the peak is that of the larger run, and not of both.
-one=$(peak_of profile "$folder/long")
-both=$(peak_of compare "$folder/long" "$folder/long")
+one=$(peak_of 0 profile "$folder/long")
+both=$(peak_of 0 compare "$folder/long" "$folder/long")
 if [ "$both" -lt $((one + 20000)) ]; then
     echo "memory: a profile takes $one KiB, and compare of two such runs $both KiB"
     passed=$((passed + 1))
