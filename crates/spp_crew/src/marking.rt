@@ -16,7 +16,7 @@ use spp_cut::{Cut, events_before, lend};
 use spp_frame::ProfileFault;
 use spp_jobs::{Tabled, entries_of};
 use spp_maxplus::Burdens;
-use spp_path::{Settled, Under, mark_part, settle};
+use spp_path::{Settled, Under, mark_part, settle_by_hops};
 use spp_stack::Entries;
 use std::alloc::{AllocError, Global};
 use std::sync::Wait;
@@ -175,7 +175,7 @@ pub fn marks<R: Threads + Wait + Sync, G: Gate>(
     drop(found.summaries);
     let Tabled { choices, .. } = tabled(rt, alloc, cut, &stacks, workers, burdens, gate)?;
     let choices = choices.into_vec();
-    let settled = settle(alloc, &stacks, &choices, Under::Zero)?;
+    let settled = settle_by_hops(alloc, &stacks, &choices, Under::Zero)?;
     mark_range(
         rt, alloc, cut, 0, count, &stacks, &settled, workers, gate, marks,
     )?;

@@ -24,7 +24,7 @@ use spp_dag::{Choices, Figures, Row};
 use spp_frame::ProfileFault;
 use spp_jobs::{PathJob, Pathed, TableJob, Tabled, entries_of};
 use spp_maxplus::Burdens;
-use spp_path::{Settled, Under, settle};
+use spp_path::{Settled, Under, settle_by_hops};
 use spp_site::{ClosedFrame, Profile, Table};
 use spp_stack::Entries;
 use std::alloc::{AllocError, Global};
@@ -89,8 +89,8 @@ fn settle_both<'e, R: Threads>(
     ensures burdened { IfOk result (λ p. IsSettledBy stacks.now choices.now UnderBurdens p.1) }
 {
     if workers < 2 {
-        let path = settle(alloc, stacks, choices, Under::Zero)?;
-        let burdened = settle(alloc, stacks, choices, Under::Burdens)?;
+        let path = settle_by_hops(alloc, stacks, choices, Under::Zero)?;
+        let burdened = settle_by_hops(alloc, stacks, choices, Under::Burdens)?;
         return Ok((path, burdened));
     }
     let (burdened, path) = join(
@@ -98,11 +98,11 @@ fn settle_both<'e, R: Threads>(
         move || -> Result<Settled<'_>, AllocError>
             requires { length stacks.now.starts ≡ length choices.now + 1 }
             ensures { IfOk result (λ s. IsSettledBy stacks.entry.now choices.entry.now UnderBurdens s) }
-        { settle(alloc, stacks, choices, Under::Burdens) },
+        { settle_by_hops(alloc, stacks, choices, Under::Burdens) },
         move || -> Result<Settled<'_>, AllocError>
             requires { length stacks.now.starts ≡ length choices.now + 1 }
             ensures { IfOk result (λ s. IsSettledBy stacks.entry.now choices.entry.now Zero s) }
-        { settle(alloc, stacks, choices, Under::Zero) },
+        { settle_by_hops(alloc, stacks, choices, Under::Zero) },
     );
     Ok((path?, burdened?))
 }

@@ -13,12 +13,14 @@ use Rattle.spp_dag.proofs.Depth.{closed}
 use Rattle.spp_dag.proofs.Crossing.{nested}
 use Rattle.spp_dag.specs.declared.choices.End.{End}
 use Rattle.spp_dag.specs.declared.choices.Choice.{Choice}
-use Rattle.spp_path.specs.Hops.{IsHop, AreBefore, skipped, beside}
+use Rattle.spp_path.specs.Hops.{IsHop, AreBefore, skipped, beside, hopped}
 use Rattle.spp_path.specs.declared.hops.Left.{Left}
 use Rattle.spp_path.specs.Settling.{last, later, ended}
 use Rattle.spp_path.specs.Ways.{Says, Skipping, Seeking, AreFound, AreNotesIn}
 use Rattle.spp_path.specs.declared.settling.Note.TheVariants as note
 use Rattle.spp_path.specs.declared.settling.Onward.{Onward}
+use Rattle.spp_path.specs.declared.settling.Pace.{Pace}
+use Rattle.spp_path.specs.declared.settling.Pace.TheVariants.{Each, Hops}
 use Rattle.spp_path.specs.declared.settling.Onward.TheVariants.{Live, Skip, Seek}
 use Rattle.spp_path.specs.declared.settling.WayBack.{WayBack}
 use Rattle.spp_path.proofs.Passing.{passes_join, passes_within, passes_after}
@@ -168,34 +170,35 @@ abbrev joins_at : List Choice → List ℕ
 joins_at joins = map (λ (j : Choice). j.at) joins
 
 -- where it begins, maybe in a child that it skips
-pub settles_begun : (ends : List End) (joins : List Choice) (left : Left) (s : WayBack)
-    → AreBefore (ats ends) (joins_at joins) (record { ends = length ends; joins = length joins }) (skipped s.onward) left → Settles ends joins left.ends left.joins s s
-settles_begun ends joins left s x es bd ps from end wf p h c =
+pub settles_begun : (ends : List End) (joins : List Choice) (left : Left) (s : WayBack) (pace : Pace)
+    → AreBefore (ats ends) (joins_at joins) (record { ends = length ends; joins = length joins }) (hopped pace (skipped s.onward)) left → Settles ends joins left.ends left.joins s s
+settles_begun ends joins left s pace x es bd ps from end wf p h c =
     let first = settles_first ends joins s es bd ps from end wf p h c in
-    by s.onward refl x first
+    by pace s.onward refl x first
   where
-    same : (w : Onward) → skipped w ≡ None → left ≡ record { ends = length ends; joins = length joins } → Stage es ps from end ends joins (length ends) (length joins) s → Stage es ps from end ends joins left.ends left.joins s
-    same w n e g = subst (λ (l : Left). Stage es ps from end ends joins l.ends l.joins s) (sym e) g
+    same : left ≡ record { ends = length ends; joins = length joins } → Stage es ps from end ends joins (length ends) (length joins) s → Stage es ps from end ends joins left.ends left.joins s
+    same e g = subst (λ (l : Left). Stage es ps from end ends joins l.ends l.joins s) (sym e) g
 
-    by : (w : Onward) → s.onward ≡ w → AreBefore (ats ends) (joins_at joins) (record { ends = length ends; joins = length joins }) (skipped w) left
+    by : (q : Pace) (w : Onward) → s.onward ≡ w → AreBefore (ats ends) (joins_at joins) (record { ends = length ends; joins = length joins }) (hopped q (skipped w)) left
         → Stage es ps from end ends joins (length ends) (length joins) s → Stage es ps from end ends joins left.ends left.joins s
-    by Live e y g = same Live refl y g
-    by (Seek u) e y g = same (Seek u) refl y g
-    by (Skip u) e y g = stage_skipped es bd ps wf p from end ends joins h (length ends) (length joins) left.ends left.joins u s (omega arith) (omega arith) g e y.0 y.1
+    by Each w e y g = same y g
+    by Hops Live e y g = same y g
+    by Hops (Seek u) e y g = same y g
+    by Hops (Skip u) e y g = stage_skipped es bd ps wf p from end ends joins h (length ends) (length joins) left.ends left.joins u s (omega arith) (omega arith) g e y.0 y.1
 
 -- where an end is taken, and maybe it goes beside a child then
-pub settles_returned : (ends : List End) (joins : List Choice) (m n : ℕ) (left : Left) (old s : WayBack) (e : End) → m ≤ length ends → n ≤ length joins
+pub settles_returned : (ends : List End) (joins : List Choice) (m n : ℕ) (left : Left) (old s : WayBack) (e : End) (pace : Pace) → m ≤ length ends → n ≤ length joins
     → later (last (take m ends)) (last (take n joins)) ≡ Some (note.End e)
-    → AreBefore (ats ends) (joins_at joins) (record { ends = m - 1; joins = n }) (beside e (ended e s.onward)) left
+    → AreBefore (ats ends) (joins_at joins) (record { ends = m - 1; joins = n }) (hopped pace (beside e (ended e s.onward))) left
     → Settles ends joins m n old s → Settles ends joins left.ends left.joins old (record s { onward = ended e s.onward })
-settles_returned ends joins m n left old s e lm ln q x g es bd ps from end wf p h c =
+settles_returned ends joins m n left old s e pace lm ln q x g es bd ps from end wf p h c =
     let l = later_end (last (take m ends)) (last (take n joins)) e q in
     let t = last_taken ends m e lm l.0 in
     let end_is = (h.are_ends.are e).0 (contains_at ends (m - 1) e t.1) in
     let stage = stage_ended es bd ps wf p from end ends joins h m n s e lm ln t.0 t.1
     (λ z. let j = last_there joins n (λ (j : Choice). j.at) ln z in let y = l.1 j.0 j.1 in omega (arith, j.2))
     (g es bd ps from end wf p h c) in
-    go (ended e s.onward) refl x stage.0 stage.1 end_is.0
+    go pace (ended e s.onward) refl x stage.0 stage.1 end_is.0
   where
     new : WayBack
     new = record s { onward = ended e s.onward }
@@ -214,11 +217,12 @@ settles_returned ends joins m n left old s e lm ln q x g es bd ps from end wf p 
         seek true a z = cc
         seek false a z = (let same : f ≡ d = cc in both_ways (nat_eq f e.spawn) a (eq-eqb f e.spawn (same ∙ r)))
 
-    go : (v : Onward) → ended e s.onward ≡ v → AreBefore (ats ends) (joins_at joins) (record { ends = m - 1; joins = n }) (beside e v) left
+    go : (q : Pace) (v : Onward) → ended e s.onward ≡ v → AreBefore (ats ends) (joins_at joins) (record { ends = m - 1; joins = n }) (hopped q (beside e v)) left
         → (stage : Stage es ps from end ends joins (m - 1) n new) → stage.time ≡ 2 * e.at + 1 → IsEnd es e → Stage es ps from end ends joins left.ends left.joins new
-    go Live i y stage time end_is = subst (λ (l : Left). Stage es ps from end ends joins l.ends l.joins new) (sym y) stage
-    go (Skip d) i y stage time end_is = stage_skipped es bd ps wf p from end ends joins h (m - 1) n left.ends left.joins d new (omega arith) ln stage i y.0 y.1
-    go (Seek d) i y stage time end_is =
+    go Each v i y stage time end_is = subst (λ (l : Left). Stage es ps from end ends joins l.ends l.joins new) (sym y) stage
+    go Hops Live i y stage time end_is = subst (λ (l : Left). Stage es ps from end ends joins l.ends l.joins new) (sym y) stage
+    go Hops (Skip d) i y stage time end_is = stage_skipped es bd ps wf p from end ends joins h (m - 1) n left.ends left.joins d new (omega arith) ln stage i y.0 y.1
+    go Hops (Seek d) i y stage time end_is =
         stage_passed_by es bd ps wf p from end ends joins h (m - 1) n left.ends left.joins d e new (omega arith) ln stage time end_is i (λ r. other s.onward d i r) y.0 y.1
 
 -- no more are left than there were

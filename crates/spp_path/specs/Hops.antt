@@ -3,6 +3,8 @@ use Rattle.std.specs.Prelude.{◌≡◌, ℕ, ◌-◌, ◌≤◌, ◌<◌, List,
 use Rattle.spp_dag.specs.declared.choices.End.{End}
 use Rattle.spp_path.specs.declared.hops.Left.{Left}
 use Rattle.spp_path.specs.declared.settling.Onward.{Onward}
+use Rattle.spp_path.specs.declared.settling.Pace.{Pace}
+use Rattle.spp_path.specs.declared.settling.Pace.TheVariants.{Each, Hops}
 use Rattle.spp_path.specs.declared.settling.Onward.TheVariants.{Live, Skip, Seek}
 
 -- Of the first m of these positions the first n are left: the last of those stands at `spawn` or before it, and the next
@@ -29,3 +31,8 @@ abbrev pub beside : End → Onward → Option ℕ
 beside e Live = None
 beside e (Skip s) = Some s
 beside e (Seek s) = Some e.spawn
+
+-- the spawn to hop to at that pace, where that one may be hopped to
+abbrev pub hopped : Pace → Option ℕ → Option ℕ
+hopped Each o = None
+hopped Hops o = o

@@ -5,7 +5,8 @@
 //! Which children the path enters is settled from the end backwards, by the choices of the run alone. A second reading of
 //! the events keeps the weights of each open frame, 48 bytes, for its span, and 48 bytes more of a frame on the path.
 //!
-//! Both go by the parts of a trace too: [`settle`] goes back over the choices of all parts, and tells of each what it
+//! Both go by the parts of a trace too: [`settle`] goes back over the choices of all parts ([`settle_by_hops`] over those
+//! that matter to the path), and tells of each what it
 //! needs to know of the path, so that [`part_rows`] and [`mark_part`] can read the parts in any order. The latter tells
 //! which events of a part are on the path.
 #![tactic(auto)]
@@ -28,6 +29,6 @@ pub use both::both_part_rows;
 pub use flags::{Flag, Flags};
 pub use marking::mark_part;
 pub use part::part_rows;
-pub use settled::{Settled, Under, settle};
+pub use settled::{Settled, Under, settle, settle_by_hops};
 pub use settling::settle_whole;
 pub use whole::path_table;

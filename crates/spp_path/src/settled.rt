@@ -26,7 +26,7 @@ ghost use Rattle.spp_path.specs.Settled.{
 
 use crate::flags::Flags;
 use crate::placing::places;
-use crate::settling::{Onward, WayBack};
+use crate::settling::{Onward, Pace, WayBack};
 use spp_dag::{Choice, Choices};
 use spp_stack::{Entries, Entry};
 use std::alloc::{AllocError, Global};
@@ -196,12 +196,13 @@ struct Course {
     onwards: Vec<Onward>,
 }
 
-/// Goes back along the path, over the choices of all parts.
+/// Goes back along the path, over the choices of all parts, at that pace.
 fn go_back(
     alloc: Global,
     entries: &Entries,
     choices: &[Choices],
     under: Under,
+    pace: Pace,
 ) -> Result<Course, AllocError>
     requires count { length entries.now.starts ≡ length choices.now + 1 }
     ensures count { IfOk result (λ r. length r.onwards.items ≡ length entries.now.starts) }
@@ -210,13 +211,13 @@ fn go_back(
 {
     let mut onwards = vec![in alloc; Onward::Live; choices.len() + 1]?;
     let mut way = WayBack::new(alloc);
-    way.back_over(&[], choice_at_end(entries, under).as_slice())?;
+    way.back_over(&[], choice_at_end(entries, under).as_slice(), pace)?;
     let mut part = choices.len();
     onwards[part] = way.onward;
     while part > 0 {
         part -= 1;
         let here = &choices[part];
-        way.back_over(&here.ends, joins_of(here, under))?;
+        way.back_over(&here.ends, joins_of(here, under), pace)?;
         onwards[part] = way.onward;
     }
     Ok(Course {
@@ -225,10 +226,33 @@ fn go_back(
     })
 }
 
+/// Settles a path at that pace.
+fn settle_at<'e>(
+    alloc: Global,
+    entries: &'e Entries,
+    choices: &[Choices],
+    under: Under,
+    pace: Pace,
+) -> Result<Settled<'e>, AllocError>
+    requires count { length entries.now.starts ≡ length choices.now + 1 }
+    ensures stacks { IfOk result (λ s. s.stacks ≡ entries.now) }
+    ensures count { IfOk result (λ s. length s.starts ≡ length entries.now.starts) }
+    ensures settled { IfOk result (λ s. (es : List Event) (burdens : BurdensValue) (root : ℕ) → AreOfRun es burdens root entries.now choices.now → IsSettled es (burdens_under under burdens) s) }
+{
+    // For what it states: nodes below come before those above.
+    let _nodes = entries.nodes();
+    let course = go_back(alloc, entries, choices, under, pace)?;
+    let starts = places(alloc, entries, &course.onwards, &course.spawns)?;
+    Ok(Settled {
+        entries,
+        spawns: course.spawns,
+        starts,
+    })
+}
+
 /// Settles one of the two paths of a run from its end, by the choices of its parts and the open frames where they begin:
 /// which spawned children it enters, and what of the open frames is on it. It takes time and memory linear in the numbers
-/// of parts, of their choices at most and of the nodes of the open frames: choices within children that the path goes
-/// beside are hopped over.
+/// of parts, of their choices and of the nodes of the open frames.
 ///
 /// # Errors
 ///
@@ -244,13 +268,27 @@ pub fn settle<'e>(
     ensures count { IfOk result (λ s. length s.starts ≡ length entries.now.starts) }
     ensures settled { IfOk result (λ s. (es : List Event) (burdens : BurdensValue) (root : ℕ) → AreOfRun es burdens root entries.now choices.now → IsSettled es (burdens_under under burdens) s) }
 {
-    // For what it states: nodes below come before those above.
-    let _nodes = entries.nodes();
-    let course = go_back(alloc, entries, choices, under)?;
-    let starts = places(alloc, entries, &course.onwards, &course.spawns)?;
-    Ok(Settled {
-        entries,
-        spawns: course.spawns,
-        starts,
-    })
+    settle_at(alloc, entries, choices, under, Pace::Each)
+}
+
+/// Settles one of the two paths of a run, as [`settle`] does and by the same clauses, but hops over choices within children
+/// that the path goes beside. The time is linear in the numbers of parts, of the other choices and of the nodes of the
+/// open frames, and in the logarithm of how many choices it hops over at a time; the memory is that of `settle`. Of choices
+/// that belong to no run, of which the clauses say nothing, it may make something else than `settle` does.
+///
+/// # Errors
+///
+/// Where an allocation failed.
+pub fn settle_by_hops<'e>(
+    alloc: Global,
+    entries: &'e Entries,
+    choices: &[Choices],
+    under: Under,
+) -> Result<Settled<'e>, AllocError>
+    requires count { length entries.now.starts ≡ length choices.now + 1 }
+    ensures stacks { IfOk result (λ s. s.stacks ≡ entries.now) }
+    ensures count { IfOk result (λ s. length s.starts ≡ length entries.now.starts) }
+    ensures settled { IfOk result (λ s. (es : List Event) (burdens : BurdensValue) (root : ℕ) → AreOfRun es burdens root entries.now choices.now → IsSettled es (burdens_under under burdens) s) }
+{
+    settle_at(alloc, entries, choices, under, Pace::Hops)
 }

@@ -8,7 +8,7 @@ ghost use Rattle.spp_dag.specs.ChoiceLists.{AreEnds, AreJoins};
 ghost use Rattle.spp_maxplus.specs.declared.state.Burdens.{Burdens};
 ghost use Rattle.spp_path.specs.Entered.{AreEnteredIn};
 ghost use Rattle.spp_path.specs.Ways.{HasCome, AreNotesIn};
-ghost use Rattle.spp_path.specs.Hops.{beside as beside_of, skipped as skipped_by};
+ghost use Rattle.spp_path.specs.Hops.{beside as beside_of, skipped as skipped_by, hopped as hopped_over};
 ghost use Rattle.spp_path.specs.Settling.{
   last,
   later,
@@ -32,6 +32,15 @@ pub(crate) enum Onward {
     Skip { spawn: u32 },
     /// It comes to the join of a child that it enters, spawned at that position, whose return is yet to be found.
     Seek { spawn: u32 },
+}
+
+/// How the way back goes over choices.
+#[derive(Clone, Copy, Debug)]
+pub(crate) enum Pace {
+    /// It takes one after the other.
+    Each,
+    /// It hops over those within a child that the path goes beside: of one run, none of them matters to it.
+    Hops,
 }
 
 /// One of the choices of a run.
@@ -99,6 +108,16 @@ fn beside(end: End, onward: Onward) -> Option<u32>
     }
 }
 
+/// The spawn to hop to, if this one may be hopped to and the pace is to hop.
+fn hopped(pace: Pace, spawn: Option<u32>) -> Option<u32>
+    ensures { result ≡ hopped_over pace spawn }
+{
+    match pace {
+        Pace::Each => None,
+        Pace::Hops => spawn,
+    }
+}
+
 /// The way back along a path, from its end.
 #[derive(Drop)]
 pub(crate) struct WayBack {
@@ -159,22 +178,26 @@ impl WayBack {
         Ok(())
     }
 
-    /// The choices of a range are taken, from the last to the first. Those within a child that the path goes beside change
-    /// nothing, and are hopped over.
-    pub(crate) fn back_over(&mut self, ends: &[End], joins: &[Choice]) -> Result<(), AllocError>
+    /// The choices of a range are taken, from the last to the first, at that pace.
+    pub(crate) fn back_over(
+        &mut self,
+        ends: &[End],
+        joins: &[Choice],
+        pace: Pace,
+    ) -> Result<(), AllocError>
         ensures { OnOk result ((es : List Event) (burdens : Burdens) (ps : List ℕ) (from end : ℕ) → IsWellFormed es → IsPath es burdens 0 (length es) ps → AreNotesIn es burdens from end ends.now joins.now → HasCome es ps end self.old → HasCome es ps from self.new) }
     {
         let all = Left {
             ends: ends.len(),
             joins: joins.len(),
         };
-        let mut left = all.before(ends, joins, skipped(self.onward));
+        let mut left = all.before(ends, joins, hopped(pace, skipped(self.onward)));
         while let Some(note) = last_note(&ends[..left.ends], &joins[..left.joins]) {
             match note {
                 Note::End(end) => {
                     self.onward = pass(end, self.onward);
                     left.ends -= 1;
-                    left = left.before(ends, joins, beside(end, self.onward));
+                    left = left.before(ends, joins, hopped(pace, beside(end, self.onward)));
                 }
                 Note::Join(join) => {
                     left.joins -= 1;
@@ -198,8 +221,7 @@ impl WayBack {
 
 /// Where the spawned children of a run that a path enters are spawned, rising, told by the returns of its spawned children
 /// and the choices of that path where they join, at the end of the run too. It goes over the choices once, from the last
-/// to the first, and hops over those within children that it goes beside. The time is linear in the number of the others,
-/// and in the logarithm of how many it hops over at a time; memory is taken for the children that are entered.
+/// to the first; it takes time linear in their number, and memory for the children that are entered.
 ///
 /// # Errors
 ///
@@ -208,6 +230,6 @@ pub fn settle_whole(alloc: Global, ends: &[End], joins: &[Choice]) -> Result<Vec
     ensures { IfOk result (λ spawns. (es : List Event) (burdens : Burdens) → IsWellFormed es → AreEnds es ends.now → AreJoins es burdens joins.now → AreEnteredIn es burdens 0 (length es) spawns.items) }
 {
     let mut way = WayBack::new(alloc);
-    way.back_over(ends, joins)?;
+    way.back_over(ends, joins, Pace::Each)?;
     way.finish()
 }

@@ -8,8 +8,8 @@ use Rattle.spp_crew.proofs.Halves.{all_can}
 use Rattle.spp_crew.proofs.Profiled.{table_of, all_choices}
 use Rattle.spp_crew.proofs.marking.marks.Goals as goal
 
-pub settle-requires : goal.settle-requires
-settle-requires g c =
+pub settle_by_hops-requires : goal.settle_by_hops-requires
+settle_by_hops-requires g c =
     let e = c.in_ok-stacks.ensures.entries c.equal-burdens.result (c.deref.ensures.value ∙ c.in_ok-found.ensures.each) in
     let items : c.deref-2.result.now ≡ c.in_ok-choices.field-0.choices.items = (c.deref-2.ensures.value ∙ c.into_vec-choices.ensures.items) in
     let n : length c.deref-2.result.now ≡ length c.args.cut.now.parts =

@@ -1,7 +1,7 @@
-use Rattle.std.proofs.Common.{◌≡◌, ◌-◌, Option, ℕ, length, map, take, Some, None, sym, subst, arith}
+use Rattle.std.proofs.Common.{◌≡◌, ◌-◌, Option, ℕ, length, map, take, Some, None, sym, ap, ◌∙◌, subst, arith}
 use Rattle.spp_dag.specs.declared.choices.End.{End}
 use Rattle.spp_dag.specs.declared.choices.Choice.{Choice}
-use Rattle.spp_path.specs.Hops.{AreBefore, skipped, beside}
+use Rattle.spp_path.specs.Hops.{AreBefore, skipped, beside, hopped}
 use Rattle.spp_path.specs.declared.settling.Note.TheVariants as note
 use Rattle.spp_path.specs.declared.settling.Onward.{Onward}
 use Rattle.spp_path.specs.declared.settling.WayBack.{WayBack}
@@ -14,13 +14,13 @@ pub loop-note-init : goal.loop-note-init
 loop-note-init c =
     let ends = map (λ (e : End). e.at) c.args.ends.now in
     let joins = map (λ (j : Choice). j.at) c.args.joins.now in
-    let x : AreBefore ends joins (record { ends = length c.args.ends.now; joins = length c.args.joins.now }) (skipped c.args.self.now.onward) c.before-left.result =
-    subst (λ (o : Option ℕ). AreBefore ends joins (record { ends = length c.args.ends.now; joins = length c.args.joins.now }) o c.before-left.result) c.skipped.ensures c.before-left.ensures in
+    let x : AreBefore ends joins (record { ends = length c.args.ends.now; joins = length c.args.joins.now }) (hopped c.args.pace (skipped c.args.self.now.onward)) c.before-left.result =
+    subst (λ (o : Option ℕ). AreBefore ends joins (record { ends = length c.args.ends.now; joins = length c.args.joins.now }) o c.before-left.result) (c.hopped.ensures ∙ ap (λ o. hopped c.args.pace o) c.skipped.ensures) c.before-left.ensures in
     let most = before_most ends joins _ _ _ x in
     record {
       ends = most.0;
       joins = most.1;
-      settles = settles_begun c.args.ends.now c.args.joins.now c.before-left.result c.args.self.now x;
+      settles = settles_begun c.args.ends.now c.args.joins.now c.before-left.result c.args.self.now c.args.pace x;
     }
 
 pub loop-note-preserved-in-End : goal.loop-note-preserved-in-End
@@ -33,14 +33,14 @@ loop-note-preserved-in-End c =
     let ends = map (λ (e : End). e.at) c.args.ends.now in
     let joins = map (λ (j : Choice). j.at) c.args.joins.now in
     let is : c.beside.result ≡ beside e (ended e s.onward) = subst (λ (w : Onward). c.beside.result ≡ beside e w) c.pass-self.ensures c.beside.ensures in
-    let x : AreBefore ends joins (record { ends = c.loop-note.left.ends - 1; joins = c.loop-note.left.joins }) (beside e (ended e s.onward)) c.before-left-in-End.result =
-    subst (λ (o : Option ℕ). AreBefore ends joins (record { ends = c.loop-note.left.ends - 1; joins = c.loop-note.left.joins }) o c.before-left-in-End.result) is c.before-left-in-End.ensures in
+    let x : AreBefore ends joins (record { ends = c.loop-note.left.ends - 1; joins = c.loop-note.left.joins }) (hopped c.args.pace (beside e (ended e s.onward))) c.before-left-in-End.result =
+    subst (λ (o : Option ℕ). AreBefore ends joins (record { ends = c.loop-note.left.ends - 1; joins = c.loop-note.left.joins }) o c.before-left-in-End.result) (c.hopped-in-End.ensures ∙ ap (λ o. hopped c.args.pace o) is) c.before-left-in-End.ensures in
     let most = before_most ends joins _ _ _ x in
     record {
       ends = omega (arith, i.ends, most.0);
       joins = omega (arith, i.joins, most.1);
       settles = subst (λ (w : Onward). Settles c.args.ends.now c.args.joins.now c.before-left-in-End.result.ends c.before-left-in-End.result.joins c.args.self.now (record s { onward = w })) (sym c.pass-self.ensures)
-          (settles_returned c.args.ends.now c.args.joins.now c.loop-note.left.ends c.loop-note.left.joins c.before-left-in-End.result c.args.self.now s e i.ends i.joins next x i.settles);
+          (settles_returned c.args.ends.now c.args.joins.now c.loop-note.left.ends c.loop-note.left.joins c.before-left-in-End.result c.args.self.now s e c.args.pace i.ends i.joins next x i.settles);
     }
 
 pub loop-note-preserved : goal.loop-note-preserved

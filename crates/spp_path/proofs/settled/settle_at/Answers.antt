@@ -7,7 +7,7 @@ use Rattle.spp_path.specs.declared.settling.Onward.{Onward}
 use Rattle.spp_path.specs.Entered.{AreEnteredIn}
 use Rattle.spp_path.specs.Settled.{burdens_under, IsSettled}
 use Rattle.spp_path.proofs.Right.{settled_right}
-use Rattle.spp_path.proofs.settled.settle.Goals as goal
+use Rattle.spp_path.proofs.settled.settle_at.Goals as goal
 
 pub returns-clause-count : goal.returns-clause-count
 returns-clause-count c =
