@@ -78,12 +78,14 @@ fn check_records<S: Source>(
     }
 }
 
-/// The same of any input of which these bytes came in so many reads: it is read whole first.
+/// The same of any input of which these bytes came in so many reads, and about so many were to come: it is read whole
+/// first.
 fn check_whole<S: Source>(
     alloc: Global,
     source: &mut S,
     first: Vec<u8>,
     reads: u64,
+    hint: Option<u64>,
 ) -> Result<Vec<u8>, Refusal>
     requires few { length first.items ≤ 2 ^ 33 }
     requires reads { reads ≤ 2 ^ 33 }
@@ -91,7 +93,7 @@ fn check_whole<S: Source>(
     ensures refused { (s : S) → HasRead S.answered S.failed S.failures reads s first.items source.old → IfErr result (IsInputRefused (giving_of S.answered S.failed S.failures s source.new) Only IsOneCheckLine) }
 {
     let mut bytes = first;
-    make_first_room(&mut bytes, source.hint(), INPUT_LIMIT);
+    make_first_room(&mut bytes, hint, INPUT_LIMIT);
     match read_on(source, bytes, reads, None) {
         Ok(Front::Whole(bytes)) => answer_check(alloc, bytes.as_slice()),
         Ok(Front::Part(_, _)) => unreachable!(),
@@ -107,6 +109,7 @@ pub(crate) fn check_input<S: Source>(alloc: Global, source: &mut S) -> Result<Ve
     ensures text { IfOk result (λ text. (bytes : List ℕ) × (giving_of S.answered S.failed S.failures source.old source.new).Gave bytes × IsCheckText (bytes ∷ []) text.items) }
     ensures refused { IfErr result (IsInputRefused (giving_of S.answered S.failed S.failures source.old source.new) Only IsOneCheckLine) }
 {
+    let hint = source.hint();
     let front = match read_on(source, Vec::new(alloc), 0, Some(HeaderEnd::new())) {
         Ok(front) => front,
         Err(fault) => return Err(refusal_of_read(fault, Place::Only)),
@@ -117,6 +120,6 @@ pub(crate) fn check_input<S: Source>(alloc: Global, source: &mut S) -> Result<Ve
     };
     match Head::of(alloc, bytes.as_slice()) {
         Some(head) => check_records(alloc, source, head, bytes, reads),
-        None => check_whole(alloc, source, bytes, reads),
+        None => check_whole(alloc, source, bytes, reads, hint),
     }
 }
