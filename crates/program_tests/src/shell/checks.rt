@@ -1,0 +1,265 @@
+//! Runs of `check` over inputs that come in pieces of all sizes, beside the check of all their bytes at once.
+
+use super::commands::request_for;
+use super::fakes::{empty_cup, unread};
+use spp_event::{Event, open_trace, record_of};
+use spp_frame::check;
+use spp_request::Command;
+use spp_shell::{InSource, run};
+use std::alloc::{AllocError, Global};
+use std::io;
+use std::io::{ErrorKind, Read};
+use std::random::RandomSource;
+use std::sync::Wait;
+use std::test::Fail;
+use std::thread::Threads;
+
+/// One of std's readers that gives pieces of these sizes in turn, and is interrupted where one is 0. It fails at the read
+/// of number `fails_at`, from 0.
+#[derive(Drop)]
+struct Pieces<'a> {
+    bytes: &'a [u8],
+    sizes: &'a [usize],
+    reads: usize,
+    fails_at: usize,
+}
+
+impl Read for Pieces<'_> {
+    fn read(&mut self, buf: &mut [u8]) -> io::Result<usize> {
+        let read = self.reads;
+        self.reads = read.saturating_add(1);
+        if read == self.fails_at {
+            return Err(ErrorKind::Other.into());
+        }
+        let turn = read.checked_rem(self.sizes.len()).unwrap_or(0);
+        let size = self.sizes.get(turn).copied().unwrap_or(1);
+        if size == 0 {
+            return Err(ErrorKind::Interrupted.into());
+        }
+        let n = size.min(buf.len()).min(self.bytes.len());
+        let (piece, rest) = self.bytes.split_at(n);
+        buf[..n].copy_from_slice(piece);
+        self.bytes = rest;
+        Ok(n)
+    }
+}
+
+/// Sizes of pieces that cut records in all ways, for a small trace.
+const SMALL: &[&[usize]] = &[&[1], &[16], &[7, 0, 0, 25], &[100, 3, 15], &[65536]];
+
+/// Sizes near those that are read at a time, for a large one.
+const LARGE: &[&[usize]] = &[&[4099], &[65535, 0, 2], &[65536], &[1000000]];
+
+/// What a run ends with: its status, its output and its line of fault.
+#[derive(Drop)]
+struct Ending {
+    status: u8,
+    text: Vec<u8>,
+    line: Vec<u8>,
+}
+
+impl Ending {
+    fn is(&self, other: &Ending) -> bool {
+        self.status == other.status
+            && self.text.as_slice() == other.text.as_slice()
+            && self.line.as_slice() == other.line.as_slice()
+    }
+}
+
+/// What `check` says of all the bytes at once.
+fn wanted(alloc: Global, bytes: &[u8]) -> Result<Ending, AllocError> {
+    let line = match open_trace(alloc, bytes) {
+        Err(fault) => format!(in alloc; "bad header: {fault}\n")?,
+        Ok(trace) => match check(&trace) {
+            Err(fault) => format!(in alloc; "bad event {fault}\n")?,
+            Ok(work) => {
+                let text = format!(in alloc; "work {work}\n")?.into_bytes();
+                return Ok(Ending {
+                    status: 0,
+                    text,
+                    line: Vec::new(alloc),
+                });
+            }
+        },
+    };
+    Ok(Ending {
+        status: 1,
+        text: Vec::new(alloc),
+        line: line.into_bytes(),
+    })
+}
+
+/// What the program ends with over the bytes in pieces of these sizes.
+fn got<R: Threads + Wait + Sync + RandomSource + AllocGlobal>(
+    rt: &R,
+    bytes: &[u8],
+    sizes: &[usize],
+    fails_at: usize,
+    hint: Option<u64>,
+) -> Ending {
+    let alloc = rt.alloc();
+    let request = request_for(alloc, Command::Check);
+    let (mut out, mut err) = (empty_cup(alloc, 2000), empty_cup(alloc, 100));
+    let reader = Pieces {
+        bytes,
+        sizes,
+        reads: 0,
+        fails_at,
+    };
+    let (mut first, mut second) = (InSource::with_hint(reader, hint), unread());
+    let status = run(
+        rt,
+        alloc,
+        &request,
+        &mut first,
+        &mut second,
+        &mut out,
+        &mut err,
+    );
+    Ending {
+        status,
+        text: out.taken,
+        line: err.taken,
+    }
+}
+
+/// Whether pieces of these sizes end as all the bytes at once, and so do the bytes of a file whose length is known.
+fn ends_alike<R: Threads + Wait + Sync + RandomSource + AllocGlobal>(
+    rt: &R,
+    bytes: &[u8],
+    all_sizes: &[&[usize]],
+) -> Result<bool, AllocError> {
+    let wanted = wanted(rt.alloc(), bytes)?;
+    for sizes in all_sizes {
+        if !wanted.is(&got(rt, bytes, sizes, usize::MAX, None)) {
+            return Ok(false);
+        }
+    }
+    let hint = Some(bytes.len() as u64);
+    Ok(wanted.is(&got(rt, bytes, &[65536], usize::MAX, hint)))
+}
+
+/// The first 24 bytes of a trace of two functions, so many sites and so many events.
+fn numbers(alloc: Global, sites: u32, events: u32) -> Result<Vec<u8>, AllocError> {
+    let mut bytes = b"SPTRACE1\x00\x00\x00\x02".as_slice().to_vec(alloc)?;
+    for number in [sites, 1, events] {
+        bytes.extend_from_slice(&number.to_be_bytes())?;
+    }
+    Ok(bytes)
+}
+
+/// The header of a trace of so many sites, whose names have six bytes, and of so many events.
+fn header(alloc: Global, sites: u32, events: u32) -> Result<Vec<u8>, AllocError> {
+    let mut bytes = numbers(alloc, sites, events)?;
+    bytes.extend_from_slice(b"\x00\x04main\x00\x01f")?;
+    for site in 0..sites {
+        bytes.extend_from_slice(b"\x00\x06")?;
+        for place in [100000, 10000, 1000, 100, 10, 1] {
+            bytes.push(b'0' + (site / place % 10) as u8)?;
+        }
+    }
+    Ok(bytes)
+}
+
+/// The event at a position: five that open and close a frame, again and again.
+fn event_at(at: u32) -> Event {
+    match at % 5 {
+        0 => Event::Strand {
+            count: u64::from(at) + 1,
+        },
+        1 => Event::Spawn { site: 0, func: 1 },
+        2 => Event::Strand { count: u64::MAX },
+        3 => Event::Ret,
+        _ => Event::Sync,
+    }
+}
+
+/// A trace of so many sites and events.
+fn trace(alloc: Global, sites: u32, events: u32) -> Result<Vec<u8>, AllocError> {
+    let mut bytes = header(alloc, sites, events)?;
+    for at in 0..events {
+        bytes.extend_from_slice(record_of(event_at(at)).as_slice())?;
+    }
+    Ok(bytes)
+}
+
+#[test]
+fn a_small_trace_is_cut_off_at_each_byte(rt: HostRuntime) -> Result<(), Fail> {
+    let bytes = trace(rt.alloc(), 2, 10)?;
+    for len in 0..bytes.len() + 1 {
+        assert!(rt; ends_alike(&rt, &bytes[..len], SMALL)?, "{len}");
+    }
+    Ok(())
+}
+
+#[test]
+fn a_small_trace_has_more_bytes_behind_it(rt: HostRuntime) -> Result<(), Fail> {
+    let mut bytes = trace(rt.alloc(), 2, 10)?;
+    for more in 0..40u8 {
+        bytes.push(more)?;
+        assert!(rt; ends_alike(&rt, bytes.as_slice(), SMALL)?, "{more}");
+    }
+    Ok(())
+}
+
+#[test]
+fn each_byte_of_a_small_trace_is_another(rt: HostRuntime) -> Result<(), Fail> {
+    let mut bytes = trace(rt.alloc(), 2, 5)?;
+    for at in 0..bytes.len() {
+        let before = bytes[at];
+        for byte in [0, 3, 50] {
+            bytes.as_mut_slice()[at] = byte;
+            assert!(rt; ends_alike(&rt, bytes.as_slice(), SMALL)?, "{at} {byte}");
+        }
+        bytes.as_mut_slice()[at] = before;
+    }
+    Ok(())
+}
+
+#[test]
+fn a_header_is_longer_than_a_piece(rt: HostRuntime) -> Result<(), Fail> {
+    let bytes = trace(rt.alloc(), 20000, 10000)?;
+    assert!(rt; 200000 < bytes.len());
+    for less in [0, 1, 16, 17, 65536, 159999, 160000, 160001, 170000] {
+        let len = bytes.len().saturating_sub(less);
+        assert!(rt; ends_alike(&rt, &bytes[..len], LARGE)?, "{less}");
+    }
+    Ok(())
+}
+
+#[test]
+fn a_bad_event_is_told_wherever_it_stands(rt: HostRuntime) -> Result<(), Fail> {
+    let mut bytes = trace(rt.alloc(), 1, 20000)?;
+    let body = bytes.len().saturating_sub(320000);
+    for record in [0usize, 4093, 4094, 4095, 8190, 19999] {
+        let tag = body.saturating_add(record.saturating_mul(16));
+        assert!(rt; tag < bytes.len());
+        let before = bytes[tag];
+        for byte in [1, 3, 9] {
+            bytes.as_mut_slice()[tag] = byte;
+            assert!(rt;
+                ends_alike(&rt, bytes.as_slice(), LARGE)?,
+                "{record} {byte}"
+            );
+        }
+        bytes.as_mut_slice()[tag] = before;
+    }
+    Ok(())
+}
+
+/// A device that fails, whatever came before: the trace is good, has a bad event, or too many bytes.
+#[test]
+fn a_failure_is_told_before_what_came(rt: HostRuntime) -> Result<(), Fail> {
+    let mut bytes = trace(rt.alloc(), 2, 10)?;
+    bytes.push(0)?;
+    bytes.extend_from_slice(record_of(Event::Ret).as_slice())?;
+    let line = b"cannot read input\n".as_slice();
+    for sizes in [[1usize].as_slice(), [16].as_slice(), [50, 0, 9].as_slice()] {
+        for fails_at in 0..5 {
+            let ending = got(&rt, bytes.as_slice(), sizes, fails_at, None);
+            let is_told = ending.text.is_empty() && ending.line.as_slice() == line;
+            assert_eq!(rt; (ending.status, is_told), (3, true));
+        }
+    }
+    Ok(())
+}
