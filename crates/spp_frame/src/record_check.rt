@@ -108,8 +108,8 @@ impl RecordCheck {
         }
     }
 
-    /// The work of a well-formed trace of `count` records, where it ends behind those that were seen. Where it has more,
-    /// the bytes end before the next one does.
+    /// The work of a well-formed trace of `count` records, where all of them were seen. Where fewer were, the bytes end
+    /// before the next one does, and it is told as cut off.
     ///
     /// # Errors
     ///

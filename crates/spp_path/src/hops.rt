@@ -36,7 +36,7 @@ impl Placed for Choice {
 }
 
 /// How many of the first `left` of these choices, whose positions rise, stand at `spawn` or before it. The time is that of
-/// the logarithm of how many it hops over; mostly it's none.
+/// the logarithm of how many it hops over; mostly there is none.
 #[inline(always)]
 fn hop<N: Placed>(choices: &[N], left: usize, spawn: u32) -> usize
     requires { left ≤ length choices.now }
@@ -81,7 +81,7 @@ pub(crate) struct Left {
 }
 
 impl Left {
-    /// Those of them that stand at that spawn or before it, where there is one; else all.
+    /// Those of them that stand at that spawn or before it, where a spawn is given; else all.
     #[inline(always)]
     pub(crate) fn before(self, ends: &[End], joins: &[Choice], spawn: Option<u32>) -> Left
         requires ends { self.ends ≤ length ends.now }

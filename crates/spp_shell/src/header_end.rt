@@ -72,7 +72,7 @@ impl HeaderEnd {
         self.at
     }
 
-    /// Whether the header ends within these bytes, or is none; they are those of the calls before and more. All calls
+    /// Whether the header ends within these bytes, or they begin none; they are those of the calls before and more. All calls
     /// together take a time linear in the number of names, and of calls.
     pub(crate) fn is_in(&mut self, bytes: &[u8]) -> bool {
         let Some(mut at) = self.begun(bytes) else {

@@ -16,8 +16,8 @@ pub(crate) enum Front {
     Part(Vec<u8>, u64),
 }
 
-/// One read more, behind the first `filled` of these bytes, before which `before` others came: how many are filled then,
-/// or `None` at the end.
+/// One read more, behind the first `filled` of these bytes, before which `before` others came: how many are filled then
+/// (as many as before, where it was interrupted), or `None` at the end.
 ///
 /// # Errors
 ///

@@ -82,7 +82,7 @@ fn receive_child(state: &mut State, kind: FrameKind, at: u32, weight: u128, burd
     }
 }
 
-/// The frame `child` that `parent` opened returns to it. What stays of the parent isn't moved.
+/// The frame `child` that `parent` opened returns to it. The parent is changed where it lies.
 fn receive(burdens: Burdens, child: &EntryFrame, parent: &mut EntryFrame)
     requires plain { parent.old.state.spine + peak child.now.state < 2 ^ 127 }
     requires burdened { parent.old.burdened.spine + peak child.now.burdened < 2 ^ 127 }

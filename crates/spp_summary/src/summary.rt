@@ -189,7 +189,7 @@ impl Summary {
         FrameReader::new(&self.storage)
     }
 
-    /// The same frames, the outermost first, as their order was when they were opened: each in constant time and without
+    /// The same frames, the outermost first, in the order in which they were opened: each in constant time and without
     /// memory.
     pub fn outward_frames(&self) -> OutwardFrames<'_>
         ensures { result ≡ reverse self.now.sum.frames }

@@ -216,7 +216,7 @@ impl<'t> Draft<'t> {
         trace_bytes(*self.bytes.allocator(), &contents)
     }
 
-    /// The record of the first event, behind the bytes of the trace without events.
+    /// Writes the bytes of the trace without events, and the record of the first event behind them.
     #[cold]
     #[inline(never)]
     fn push_first(&mut self, event: Event) -> Result<(), AllocError>

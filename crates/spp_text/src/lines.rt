@@ -15,7 +15,7 @@ fn without_return(line: &[u8]) -> &[u8]
     }
 }
 
-/// The first line of a text that isn't empty, and what follows it.
+/// The first line of a non-empty text, and what follows it.
 pub(crate) fn first_line(text: &[u8]) -> (&[u8], &[u8])
     requires { 0 < length text.now }
     ensures first { lines text.now ≡ result.0.now ∷ lines result.1.now }

@@ -26,7 +26,7 @@ const SYNC: u64 = 0x0400_0000_0000_0000;
 const COUNT: usize = 20;
 
 /// The two halves of the record of an event, each as the number of its eight bytes, the highest first. Written so, a
-/// record takes two stores; its sixteen bytes would take as many.
+/// record takes two stores; byte by byte it would take sixteen.
 #[inline(always)]
 fn halves_of(event: Event) -> (u64, u64)
     requires { IsEvent event }

@@ -6,7 +6,8 @@ ghost use Rattle.spp_text.specs.Usual.{IsNumberFront, IsNumberLine, AreNumbersLi
 
 use spp_event::Event;
 
-/// How many bytes are looked at for the digits of a number: one more than it may have, since 10^18 is below 2^64.
+/// How many bytes are looked at for the digits of a number: it may have 18, which always fit in 64 bits, and one byte
+/// more shows where they end.
 const WIDTH: usize = 19;
 
 /// `strand ` as a number, each byte eight bits of it, as are the words below.
@@ -41,7 +42,7 @@ fn number_front(text: &[u8]) -> Option<(u64, &[u8])>
     None
 }
 
-/// The number that a text begins with, on the rest of a line, and what follows the line.
+/// The number that a text begins with, where it fills the rest of its line, and what follows the line.
 #[inline(always)]
 fn number_line(text: &[u8]) -> Option<(u64, &[u8])>
     ensures { IfSome result (λ x. IsNumberLine text.now x.0 x.1.now) }
@@ -52,7 +53,7 @@ fn number_line(text: &[u8]) -> Option<(u64, &[u8])>
     }
 }
 
-/// The two numbers of 32 bits that a text begins with, on the rest of a line, and what follows the line.
+/// The two numbers of 32 bits that a text begins with, where they fill the rest of its line, and what follows the line.
 #[inline(always)]
 fn numbers_line(text: &[u8]) -> Option<(u32, u32, &[u8])>
     ensures { IfSome result (λ x. AreNumbersLine text.now x.0 x.1 x.2.now) }
