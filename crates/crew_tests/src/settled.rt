@@ -3,14 +3,14 @@
 ghost use Rattle.std.specs.Prelude.{◌≡◌, ◌+◌, ◌<◌, length};
 
 use crate::calls::{CREWS, Crew, THREE, stacks_of};
-use crate::worked::{BESIDE, EQUAL, IN_CALL, RET, S2, S7, SPAWN, WAITED};
+use crate::worked::{BESIDE, EQUAL, IN_CALL, RET, S1, S2, S5, S7, SPAWN, SYNC, WAITED};
 use spp_crew::{OpenGate, tabled};
 use spp_cut::{Cut, cut_at};
 use spp_dag::Choices;
 use spp_event::{Event, open_trace, trace_of};
 use spp_frame::ProfileFault;
 use spp_jobs::Tabled;
-use spp_path::{Flag, Settled, Under, settle};
+use spp_path::{Flag, Settled, Under, settle, settle_by_hops};
 use spp_stack::Entries;
 use std::alloc::{AllocError, Global};
 use std::sync::Wait;
@@ -189,7 +189,22 @@ fn has_flags(alloc: Global, settled: &Settled<'_>, wanted: &[&[Flag]]) -> Result
     Ok(true)
 }
 
-/// Whether the path of a case is settled so over these stacks and choices.
+/// Whether a path over so many parts is that of a case.
+fn is_path_of(
+    alloc: Global,
+    settled: &Settled<'_>,
+    parts: usize,
+    case: &Case,
+) -> Result<bool, AllocError>
+    requires parts { length settled.now.starts ≡ parts + 1 }
+    requires flags { length case.now.flags.now ≡ parts + 1 }
+{
+    let entered = entered_in(alloc, settled, parts)?;
+    let flags = has_flags(alloc, settled, case.flags)?;
+    Ok(flags && entered.as_slice() == case.entered)
+}
+
+/// Whether the path of a case is settled so over these stacks and choices, with hops and without.
 fn is_settled(
     alloc: Global,
     stacks: &Entries,
@@ -201,9 +216,8 @@ fn is_settled(
         return Ok(false);
     }
     let settled = settle(alloc, stacks, choices, case.under)?;
-    let entered = entered_in(alloc, &settled, parts)?;
-    let flags = has_flags(alloc, &settled, case.flags)?;
-    Ok(flags && entered.as_slice() == case.entered)
+    let hopped = settle_by_hops(alloc, stacks, choices, case.under)?;
+    Ok(is_path_of(alloc, &settled, parts, case)? && is_path_of(alloc, &hopped, parts, case)?)
 }
 
 /// Whether it is where so many workers tell the stacks and the choices.
@@ -238,6 +252,63 @@ fn each_part_is_told_where_the_path_goes(rt: HostRuntime) -> Result<(), Fail> {
     for (i, case) in CASES.iter().enumerate() {
         let settled = all_settle(&rt, rt.alloc(), case);
         assert_eq!(rt; settled, Some(true), "case {i}");
+    }
+    Ok(())
+}
+
+/// A run whose root spawns a child in which so many children are spawned and joined, one after the other, goes on for so
+/// many instructions, and waits.
+fn with_joins(alloc: Global, joins: u32, after: u64) -> Result<Vec<Event>, AllocError> {
+    let mut events = Vec::new(alloc);
+    events.push(SPAWN)?;
+    for _join in 0..joins {
+        events.extend_from_slice(&[SPAWN, S5, RET, S1, SYNC])?;
+    }
+    events.extend_from_slice(&[RET, Event::Strand { count: after }, SYNC])?;
+    Ok(events)
+}
+
+/// How many children the path without burdens enters in a run that is cut at that position, if it enters the same with
+/// hops and without.
+fn entered_either_way<R: Threads + Wait + Sync>(
+    rt: &R,
+    alloc: Global,
+    events: &[Event],
+    cut: u32,
+) -> Option<usize> {
+    let bytes = trace_of(alloc, events).ok()?;
+    let trace = open_trace(alloc, &bytes).ok()?;
+    let cut = cut_at(alloc, &trace, &[cut]).ok()?;
+    let stacks = stacks_of(rt, alloc, &cut, CREWS[0]).ok()?;
+    let workers = CREWS[0].workers();
+    let Tabled { choices, .. } = tabled(rt, alloc, &cut, &stacks, workers, THREE, &OpenGate).ok()?;
+    let choices = choices.into_vec();
+    let parts = choices.len();
+    if stacks.parts() != parts {
+        return None;
+    }
+    let settled = settle(alloc, &stacks, &choices, Under::Zero).ok()?;
+    let hopped = settle_by_hops(alloc, &stacks, &choices, Under::Zero).ok()?;
+    let entered = entered_in(alloc, &settled, parts).ok()?;
+    let by_hops = entered_in(alloc, &hopped, parts).ok()?;
+    (entered == by_hops).then_some(entered.len())
+}
+
+// The child is hopped over where it's long enough, whether it has so much within or not.
+#[test]
+fn hops_enter_the_same_children(rt: HostRuntime) -> Result<(), Fail> {
+    for joins in 0..12_u32 {
+        for cut in 0..5 * joins + 4 {
+            for (after, wanted) in [(0, 1 + joins as usize), (1000, 0)] {
+                let events = with_joins(rt.alloc(), joins, after)?;
+                let entered = entered_either_way(&rt, rt.alloc(), &events, cut);
+                assert_eq!(rt;
+                    entered,
+                    Some(wanted),
+                    "{joins} joins, cut at {cut}, {after} after"
+                );
+            }
+        }
     }
     Ok(())
 }

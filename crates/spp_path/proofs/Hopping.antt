@@ -13,7 +13,7 @@ use Rattle.spp_dag.proofs.Depth.{closed}
 use Rattle.spp_dag.proofs.Crossing.{nested}
 use Rattle.spp_dag.specs.declared.choices.End.{End}
 use Rattle.spp_dag.specs.declared.choices.Choice.{Choice}
-use Rattle.spp_path.specs.Hops.{IsHop, AreBefore, skipped, beside, hopped}
+use Rattle.spp_path.specs.Hops.{IsHop, AreBefore, child_skipped, child_beside, hop_to}
 use Rattle.spp_path.specs.declared.hops.Left.{Left}
 use Rattle.spp_path.specs.Settling.{last, later, ended}
 use Rattle.spp_path.specs.Ways.{Says, Skipping, Seeking, AreFound, AreNotesIn}
@@ -171,7 +171,7 @@ joins_at joins = map (λ (j : Choice). j.at) joins
 
 -- where it begins, maybe in a child that it skips
 pub settles_begun : (ends : List End) (joins : List Choice) (left : Left) (s : WayBack) (pace : Pace)
-    → AreBefore (ats ends) (joins_at joins) (record { ends = length ends; joins = length joins }) (hopped pace (skipped s.onward)) left → Settles ends joins left.ends left.joins s s
+    → AreBefore (ats ends) (joins_at joins) (record { ends = length ends; joins = length joins }) (hop_to pace (child_skipped s.onward)) left → Settles ends joins left.ends left.joins s s
 settles_begun ends joins left s pace x es bd ps from end wf p h c =
     let first = settles_first ends joins s es bd ps from end wf p h c in
     by pace s.onward refl x first
@@ -179,7 +179,7 @@ settles_begun ends joins left s pace x es bd ps from end wf p h c =
     same : left ≡ record { ends = length ends; joins = length joins } → Stage es ps from end ends joins (length ends) (length joins) s → Stage es ps from end ends joins left.ends left.joins s
     same e g = subst (λ (l : Left). Stage es ps from end ends joins l.ends l.joins s) (sym e) g
 
-    by : (q : Pace) (w : Onward) → s.onward ≡ w → AreBefore (ats ends) (joins_at joins) (record { ends = length ends; joins = length joins }) (hopped q (skipped w)) left
+    by : (q : Pace) (w : Onward) → s.onward ≡ w → AreBefore (ats ends) (joins_at joins) (record { ends = length ends; joins = length joins }) (hop_to q (child_skipped w)) left
         → Stage es ps from end ends joins (length ends) (length joins) s → Stage es ps from end ends joins left.ends left.joins s
     by Each w e y g = same y g
     by Hops Live e y g = same y g
@@ -189,7 +189,7 @@ settles_begun ends joins left s pace x es bd ps from end wf p h c =
 -- where an end is taken, and maybe it goes beside a child then
 pub settles_returned : (ends : List End) (joins : List Choice) (m n : ℕ) (left : Left) (old s : WayBack) (e : End) (pace : Pace) → m ≤ length ends → n ≤ length joins
     → later (last (take m ends)) (last (take n joins)) ≡ Some (note.End e)
-    → AreBefore (ats ends) (joins_at joins) (record { ends = m - 1; joins = n }) (hopped pace (beside e (ended e s.onward))) left
+    → AreBefore (ats ends) (joins_at joins) (record { ends = m - 1; joins = n }) (hop_to pace (child_beside e (ended e s.onward))) left
     → Settles ends joins m n old s → Settles ends joins left.ends left.joins old (record s { onward = ended e s.onward })
 settles_returned ends joins m n left old s e pace lm ln q x g es bd ps from end wf p h c =
     let l = later_end (last (take m ends)) (last (take n joins)) e q in
@@ -217,7 +217,7 @@ settles_returned ends joins m n left old s e pace lm ln q x g es bd ps from end 
         seek true a z = cc
         seek false a z = (let same : f ≡ d = cc in both_ways (nat_eq f e.spawn) a (eq-eqb f e.spawn (same ∙ r)))
 
-    go : (q : Pace) (v : Onward) → ended e s.onward ≡ v → AreBefore (ats ends) (joins_at joins) (record { ends = m - 1; joins = n }) (hopped q (beside e v)) left
+    go : (q : Pace) (v : Onward) → ended e s.onward ≡ v → AreBefore (ats ends) (joins_at joins) (record { ends = m - 1; joins = n }) (hop_to q (child_beside e v)) left
         → (stage : Stage es ps from end ends joins (m - 1) n new) → stage.time ≡ 2 * e.at + 1 → IsEnd es e → Stage es ps from end ends joins left.ends left.joins new
     go Each v i y stage time end_is = subst (λ (l : Left). Stage es ps from end ends joins l.ends l.joins new) (sym y) stage
     go Hops Live i y stage time end_is = subst (λ (l : Left). Stage es ps from end ends joins l.ends l.joins new) (sym y) stage

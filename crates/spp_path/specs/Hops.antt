@@ -20,19 +20,19 @@ AreBefore ends joins old None new = new ≡ old
 AreBefore ends joins old (Some spawn) new = IsHop ends old.ends spawn new.ends × IsHop joins old.joins spawn new.joins
 
 -- the child that a path skips, if it skips one
-abbrev pub skipped : Onward → Option ℕ
-skipped Live = None
-skipped (Skip s) = Some s
-skipped (Seek s) = None
+abbrev pub child_skipped : Onward → Option ℕ
+child_skipped Live = None
+child_skipped (Skip s) = Some s
+child_skipped (Seek s) = None
 
 -- The child that a path which goes on so after that return was taken goes beside, if it goes beside one: the one that it
 -- skips; or, where it seeks another, the one that returns there.
-abbrev pub beside : End → Onward → Option ℕ
-beside e Live = None
-beside e (Skip s) = Some s
-beside e (Seek s) = Some e.spawn
+abbrev pub child_beside : End → Onward → Option ℕ
+child_beside e Live = None
+child_beside e (Skip s) = Some s
+child_beside e (Seek s) = Some e.spawn
 
 -- the spawn to hop to at that pace, where that one may be hopped to
-abbrev pub hopped : Pace → Option ℕ → Option ℕ
-hopped Each o = None
-hopped Hops o = o
+abbrev pub hop_to : Pace → Option ℕ → Option ℕ
+hop_to Each o = None
+hop_to Hops o = o

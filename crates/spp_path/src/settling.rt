@@ -1,6 +1,6 @@
 //! A path is settled from its end: which spawned children it enters.
 
-ghost use Rattle.std.specs.Prelude.{◌≡◌, ℕ, suc, List, length, IfOk, OnOk};
+ghost use Rattle.std.specs.Prelude.{◌≡◌, ◌≤◌, ℕ, suc, List, length, map, IfOk, OnOk};
 ghost use Rattle.spp_event.specs.declared.records.Event.{Event};
 ghost use Rattle.spp_dag.specs.Trace.{IsWellFormed};
 ghost use Rattle.spp_dag.specs.Dag.{IsPath};
@@ -8,7 +8,7 @@ ghost use Rattle.spp_dag.specs.ChoiceLists.{AreEnds, AreJoins};
 ghost use Rattle.spp_maxplus.specs.declared.state.Burdens.{Burdens};
 ghost use Rattle.spp_path.specs.Entered.{AreEnteredIn};
 ghost use Rattle.spp_path.specs.Ways.{HasCome, AreNotesIn};
-ghost use Rattle.spp_path.specs.Hops.{beside as beside_of, skipped as skipped_by, hopped as hopped_over};
+ghost use Rattle.spp_path.specs.Hops.{AreBefore, child_beside as beside_of, child_skipped as skipped_by, hop_to as hop_of};
 ghost use Rattle.spp_path.specs.Settling.{
   last,
   later,
@@ -87,7 +87,7 @@ fn pass(end: End, onward: Onward) -> Onward
 }
 
 /// The spawn of the child that the path skips, if it skips one.
-fn skipped(onward: Onward) -> Option<u32>
+fn child_skipped(onward: Onward) -> Option<u32>
     ensures { result ≡ skipped_by onward }
 {
     match onward {
@@ -98,7 +98,7 @@ fn skipped(onward: Onward) -> Option<u32>
 
 /// The spawn of the child that the path goes beside, where it goes on so after that return was taken; none where it comes to
 /// here. No choice between that spawn and here matters to it.
-fn beside(end: End, onward: Onward) -> Option<u32>
+fn child_beside(end: End, onward: Onward) -> Option<u32>
     ensures { result ≡ beside_of end onward }
 {
     match onward {
@@ -108,14 +108,29 @@ fn beside(end: End, onward: Onward) -> Option<u32>
     }
 }
 
+/// The fewest positions from the spawn of a child to its return over which hopping pays: in a shorter child few choices
+/// stand.
+const LEAST_HOP: u32 = 16;
+
 /// The spawn to hop to, if this one may be hopped to and the pace is to hop.
-fn hopped(pace: Pace, spawn: Option<u32>) -> Option<u32>
-    ensures { result ≡ hopped_over pace spawn }
+fn hop_to(pace: Pace, spawn: Option<u32>) -> Option<u32>
+    ensures { result ≡ hop_of pace spawn }
 {
     match pace {
         Pace::Each => None,
         Pace::Hops => spawn,
     }
+}
+
+/// Those that are left behind the return of a child, after which the path goes so: without what stands within the child
+/// that it goes beside, where the pace is to hop. It stands apart, since most children are short.
+#[inline(never)]
+fn behind(ends: &[End], joins: &[Choice], left: Left, end: End, onward: Onward, pace: Pace) -> Left
+    requires ends { left.ends ≤ length ends.now }
+    requires joins { left.joins ≤ length joins.now }
+    ensures { AreBefore (map (λ e. e.at) ends.now) (map (λ j. j.at) joins.now) left (hop_of pace (beside_of end onward)) result }
+{
+    left.before(ends, joins, hop_to(pace, child_beside(end, onward)))
 }
 
 /// The way back along a path, from its end.
@@ -191,13 +206,15 @@ impl WayBack {
             ends: ends.len(),
             joins: joins.len(),
         };
-        let mut left = all.before(ends, joins, hopped(pace, skipped(self.onward)));
+        let mut left = all.before(ends, joins, hop_to(pace, child_skipped(self.onward)));
         while let Some(note) = last_note(&ends[..left.ends], &joins[..left.joins]) {
             match note {
                 Note::End(end) => {
                     self.onward = pass(end, self.onward);
                     left.ends -= 1;
-                    left = left.before(ends, joins, hopped(pace, beside(end, self.onward)));
+                    if end.at.wrapping_sub(end.spawn) >= LEAST_HOP {
+                        left = behind(ends, joins, left, end, self.onward, pace);
+                    }
                 }
                 Note::Join(join) => {
                     left.joins -= 1;
