@@ -306,7 +306,8 @@ impl<'t> Draft<'t> {
         self.add_read(event)
     }
 
-    /// The bytes of the trace: its header, and the records of its events.
+    /// The bytes of the trace: its header, and the records of its events. The list has no room for more, unless the memory
+    /// for a smaller one is refused.
     pub(crate) fn into_bytes(self) -> Result<Vec<u8>, AllocError>
         requires { opening_fault self ≡ None }
         ensures { IfOk result (λ bytes. IsTraceOf bytes.items (recording_of self.entry)) }
@@ -320,6 +321,7 @@ impl<'t> Draft<'t> {
             ..
         } = self;
         set_count(bytes.as_mut_slice(), count);
+        bytes.shrink_to_fit();
         Ok(bytes)
     }
 

@@ -3,8 +3,6 @@
 ghost use Rattle.std.specs.Prelude.{◌≡◌, ◌∷◌, ◌<◌, length};
 ghost use Rattle.std.specs.Str.Lines.{lines, strip_carriage_return};
 
-use memchr::memchr;
-
 /// A line without the one carriage return before its line feed.
 fn without_return(line: &[u8]) -> &[u8]
     ensures { result.now ≡ strip_carriage_return line.now }
@@ -21,8 +19,10 @@ pub(crate) fn first_line(text: &[u8]) -> (&[u8], &[u8])
     ensures first { lines text.now ≡ result.0.now ∷ lines result.1.now }
     ensures shorter { length result.1.now < length text.now }
 {
-    match memchr(b'\n', text) {
-        Some(feed) => (without_return(&text[..feed]), &text[feed + 1..]),
-        None => (text, &text[text.len()..]),
+    for (feed, byte) in text.iter().enumerate() {
+        if *byte == b'\n' {
+            return (without_return(&text[..feed]), &text[feed + 1..]);
+        }
     }
+    (text, &text[text.len()..])
 }

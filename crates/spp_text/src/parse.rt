@@ -30,7 +30,8 @@ fn add_first<'t>(draft: &mut Draft<'t>, alloc: Global, text: &'t [u8]) -> Result
 ///
 /// The time is linear in the length of the text, but for about S log S comparisons of names, S being the number of
 /// sites. The memory is linear in the number of lines that declare a name or are an event: from the first event on the
-/// bytes are written once, 16 for each event, into a list that doubles where it is full, and may have room for more.
+/// bytes are written once, 16 for each event, into a list that doubles where it is full and gives back the rest of its
+/// room at the end.
 ///
 /// # Errors
 ///

@@ -38,5 +38,6 @@ returns c =
     let set : c.set_count.new.bytes ≡ take 20 d.bytes.items ++ (word d.count ++ drop 24 d.bytes.items) = c.set_count.ensures ∙ ap (λ (b : List ℕ). take 20 b ++ (word d.count ++ drop 24 b)) c.as_mut_slice.ensures.value in
     let kept_length : length c.set_count.new.bytes ≡ d.bytes.len =
     omega (arith, ap length set, length-append (take 20 d.bytes.items) (word d.count ++ drop 24 d.bytes.items), length-take 20 d.bytes.items, length-drop 24 d.bytes.items, ap length c.as_mut_slice.ensures.value, c.as_mut_slice.ensures.len) in
-    rw (take_at c.set_count.new.bytes (drop (length c.set_count.new.bytes) d.bytes.items) d.bytes.len kept_length)
+    let same = c.shrink_to_fit.ensures.items ∙ take_at c.set_count.new.bytes (drop (length c.set_count.new.bytes) d.bytes.items) d.bytes.len kept_length in
+    rw same
     (is_written d.site_names s d.bytes.items c.set_count.new.bytes kept c.requires (counted_bytes s d.count d.bytes.items c.set_count.new.bytes (kept.written some) count set))
