@@ -104,7 +104,8 @@ fn check_whole<S: Source>(
 /// The work of the trace that an input is, as a text, or why there is none.
 ///
 /// The records of a trace of version 1 are checked as they come: the memory is that of its header, with room up to a
-/// quarter more, and of 65,536 bytes. Any other input is read whole, and so is one for whose names memory is refused.
+/// quarter more, that of 65,536 bytes, and, until the header is opened, that for its names, linear in their number. Any
+/// other input is read whole, and so is one for whose names memory is refused.
 pub(crate) fn check_input<S: Source>(alloc: Global, source: &mut S) -> Result<Vec<u8>, Refusal>
     ensures text { IfOk result (λ text. (bytes : List ℕ) × (giving_of S.answered S.failed S.failures source.old source.new).Gave bytes × IsCheckText (bytes ∷ []) text.items) }
     ensures refused { IfErr result (IsInputRefused (giving_of S.answered S.failed S.failures source.old source.new) Only IsOneCheckLine) }

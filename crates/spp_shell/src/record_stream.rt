@@ -49,9 +49,9 @@ impl Head {
     }
 }
 
-/// Goes on behind the whole records in these bytes from `from` to `filled`, and moves what is left of a record to their
+/// Checks the whole records in these bytes from `from` to `filled`, and moves what is left of a record to their
 /// front: how many bytes that are.
-fn settle(
+fn check_piece(
     check: RecordCheck,
     head: Head,
     bytes: &mut Vec<u8>,
@@ -106,7 +106,7 @@ impl RecordStream {
     {
         let mut bytes = first;
         let filled = bytes.len();
-        let (check, left) = settle(RecordCheck::new(), head, &mut bytes, head.len, filled);
+        let (check, left) = check_piece(RecordCheck::new(), head, &mut bytes, head.len, filled);
         bytes.truncate(left);
         RecordStream {
             head,
@@ -164,7 +164,7 @@ impl RecordStream {
                 }
                 Ok(Some(more)) => more,
             };
-            let (behind, left) = settle(check, head, &mut bytes, 0, more);
+            let (behind, left) = check_piece(check, head, &mut bytes, 0, more);
             check = behind;
             before += (more - left) as u64;
             filled = left;

@@ -36,9 +36,9 @@ returns-in-Ok-None-clause-read g c = λ s xs h st.
 pub loop-preserved : goal.loop-preserved
 loop-preserved g c =
     let more = c.in-Ok-Some.more in
-    let left = c.settle-left.result.1 in
+    let left = c.check_piece-left.result.1 in
     let within = rw c.in-Ok-Some.field-0-is at c.in-Ok-Some.ensures.within in
-    let settled = c.settle-left.ensures in
+    let checked = c.check_piece-left.ensures in
     record {
       read = λ s xs h st.
           let q = c.loop.invariant.read s xs h st in
@@ -53,16 +53,16 @@ loop-preserved g c =
             record {
               header = p.header;
               done = p.done ++ slice_range new 0 (more - left);
-              parts = parts_moved p.header p.done new (take left c.settle-left.new.bytes.items) more left (omega (arith, settled.within)) settled.kept;
+              parts = parts_moved p.header p.done new (take left c.check_piece-left.new.bytes.items) more left (omega (arith, checked.within)) checked.kept;
               is_head = p.is_head;
               len = p.len;
-              checked = settled.seen p.done p.checked;
+              checked = checked.seen p.done p.checked;
             },
           );
-      held = omega (arith, settled.within, settled.room, within.1);
-      cut = settled.left;
-      within = omega (arith, settled.within, within.2);
-      seen = let e = c.loop.invariant.seen in omega (arith, settled.within, settled.count);
+      held = omega (arith, checked.within, checked.room, within.1);
+      cut = checked.left;
+      within = omega (arith, checked.within, within.2);
+      seen = let e = c.loop.invariant.seen in omega (arith, checked.within, checked.count);
     }
 
 pub returns-clause-refused : goal.returns-clause-refused

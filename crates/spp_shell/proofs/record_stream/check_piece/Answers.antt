@@ -6,7 +6,7 @@ use Rattle.spp_event.specs.Recordings.{records_of}
 use Rattle.spp_frame.specs.RecordChecks.{HasSeen, seen_by}
 use Rattle.spp_shell.specs.Checked.{IsChecked}
 use Rattle.spp_shell.proofs.RecordStreams.{checked_more}
-use Rattle.spp_shell.proofs.record_stream.settle.Goals as goal
+use Rattle.spp_shell.proofs.record_stream.check_piece.Goals as goal
 
 pub returns-clause-seen : goal.returns-clause-seen
 returns-clause-seen c = λ xs checked.
