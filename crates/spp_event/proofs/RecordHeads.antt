@@ -13,10 +13,6 @@ use Rattle.spp_event.specs.Header.{magic, name_spelling, header_spelling, IsName
 use Rattle.spp_event.specs.Heads.{IsRecordHead}
 use Rattle.spp_event.proofs.RecordPlaces.{length-records_of}
 
--- a trace of version 1 begins with such a header
-pub head_found : (bytes : List ℕ) (t : Recording) → IsTraceOf bytes t → t.version ≡ One → IsRecordHead (header_spelling t) (length t.sites) (length t.funcs) (length t.records)
-head_found bytes t h one = record { trace = t; spelled = refl; version = one; limits = h.limits; names = h.names; sites_are = refl; funcs_are = refl; count_is = refl }
-
 -- the same trace with another body
 abbrev with_body : Recording → List ℕ → Recording
 with_body t body = record { funcs = t.funcs; sites = t.sites; root = t.root; records = records_of One (length t.sites) (length t.funcs) (length t.records) body; version = One; body = body }

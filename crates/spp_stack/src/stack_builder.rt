@@ -270,7 +270,7 @@ impl StackBuilder {
         ensures count { OnOk result (length self.new.nodes.items ≡ length self.old.nodes.items + length summary.now.sum.frames) }
         ensures work { self.new.work ≡ self.old.work }
     {
-        for frame in summary.outward_frames() {
+        for frame in summary.inward_frames() {
             self.open(&frame)?;
         }
         Ok(())

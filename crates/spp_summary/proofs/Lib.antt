@@ -5,4 +5,4 @@ pub mod ReadEvents
 pub mod Steps
 pub mod Totals
 pub mod Weights
-pub mod Outwards
+pub mod Inwards

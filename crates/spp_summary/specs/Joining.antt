@@ -6,7 +6,7 @@ use Rattle.spp_summary.specs.declared.opens.Kept.{Kept}
 use Rattle.spp_piece.specs.Bound.{load_frames}
 use Rattle.spp_maxplus.specs.declared.state.Burdens.{Burdens}
 use Rattle.spp_piece.specs.Summary.{Sum, summary_ops, play_returns}
-use Rattle.spp_summary.specs.KeptFrames.{frames_of, AreLaid, frames_out, work_within, AreLaidOut}
+use Rattle.spp_summary.specs.KeptFrames.{frames_of, AreLaid, frames_inwards, work_within, AreLaidInwards}
 use Rattle.spp_summary.specs.Returns.{HasReturnRoom}
 use Rattle.spp_summary.specs.declared.storage.Storage.{Storage}
 
@@ -63,9 +63,9 @@ pub record AreRead (run before left : ℕ) (opens : List Open) (kept : ℕ) (sta
   pub kept_fits : kept ≤ length states
 
 -- what is left to read of the frames from the outermost on, once so many of them and so many kept states were read
-pub record AreReadOut (run before read : ℕ) (opens : List Open) (kept : ℕ) (states : List Kept) : Type 0 where
-  pub laid : AreLaidOut run (drop read opens) (drop kept states)
-  pub load : load_frames (frames_out run before (drop read opens) (drop kept states)) < 2 ^ 127
+pub record AreReadInwards (run before read : ℕ) (opens : List Open) (kept : ℕ) (states : List Kept) : Type 0 where
+  pub laid : AreLaidInwards run (drop read opens) (drop kept states)
+  pub load : load_frames (frames_inwards run before (drop read opens) (drop kept states)) < 2 ^ 127
   pub work : work_within before (drop read opens) < 2 ^ 128
   pub read_fits : read ≤ length opens
   pub kept_fits : kept ≤ length states

@@ -80,10 +80,10 @@ run_within run [] = run
 run_within run (o ∷ os) = o.gap
 
 -- the frames: work has run since the innermost was opened, and there is work before the frame around the outermost
-abbrev pub frames_out : ℕ → ℕ → List Open → List Kept → List Frame
-frames_out run before [] ks = []
-frames_out run before (o ∷ os) ks =
-    frame_of (run_within run os) (before + o.gap) o (kept_of o.kept ks) ∷ frames_out run (before + o.gap) os (past o.kept ks)
+abbrev pub frames_inwards : ℕ → ℕ → List Open → List Kept → List Frame
+frames_inwards run before [] ks = []
+frames_inwards run before (o ∷ os) ks =
+    frame_of (run_within run os) (before + o.gap) o (kept_of o.kept ks) ∷ frames_inwards run (before + o.gap) os (past o.kept ks)
 
 -- the work before the innermost
 abbrev pub work_within : ℕ → List Open → ℕ
@@ -91,6 +91,6 @@ work_within before [] = before
 work_within before (o ∷ os) = work_within (before + o.gap) os
 
 -- no more is counted than has run, and the kept states are those of the frames that have such
-abbrev pub AreLaidOut : ℕ → List Open → List Kept → Type 0
-AreLaidOut run [] ks = ks ≡ []
-AreLaidOut run (o ∷ os) ks = ((kept_of o.kept ks).counted ≤ run_within run os) × HasKept o.kept ks × AreLaidOut run os (past o.kept ks)
+abbrev pub AreLaidInwards : ℕ → List Open → List Kept → Type 0
+AreLaidInwards run [] ks = ks ≡ []
+AreLaidInwards run (o ∷ os) ks = ((kept_of o.kept ks).counted ≤ run_within run os) × HasKept o.kept ks × AreLaidInwards run os (past o.kept ks)

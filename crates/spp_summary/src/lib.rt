@@ -8,9 +8,9 @@
 #![tactic(auto)]
 
 mod frames;
+mod inward_frames;
 mod lists;
 mod opens;
-mod outward_frames;
 mod pending;
 mod reading;
 mod returns;
@@ -18,6 +18,6 @@ mod storage;
 mod summary;
 
 pub use frames::FrameReader;
-pub use outward_frames::OutwardFrames;
+pub use inward_frames::InwardFrames;
 pub use returns::ReturnReader;
 pub use summary::{JoinRefused, Summary};

@@ -16,7 +16,7 @@ ghost use Rattle.std.specs.List.{AllByRecursion};
 ghost use Rattle.spp_piece.specs.Bound.{cost, height, worst};
 
 use crate::frames::FrameReader;
-use crate::outward_frames::OutwardFrames;
+use crate::inward_frames::InwardFrames;
 use crate::reading::Reading;
 use crate::returns::ReturnReader;
 use crate::storage::Storage;
@@ -191,10 +191,10 @@ impl Summary {
 
     /// The same frames, the outermost first, in the order in which they were opened: each in constant time and without
     /// memory.
-    pub fn outward_frames(&self) -> OutwardFrames<'_>
+    pub fn inward_frames(&self) -> InwardFrames<'_>
         ensures { result ≡ reverse self.now.sum.frames }
     {
-        OutwardFrames::new(&self.storage)
+        InwardFrames::new(&self.storage)
     }
 
     /// The position of the first bad record, and its fault.

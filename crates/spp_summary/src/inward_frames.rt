@@ -12,7 +12,7 @@ use std::marker::Model;
 /// Reads the open frames of a summary, the outermost first. Contracts see the frames that are left. It takes a constant
 /// time for each, and no memory.
 #[derive(Drop)]
-pub struct OutwardFrames<'a> {
+pub struct InwardFrames<'a> {
     opens: &'a VecDeque<Open>,
     states: &'a VecDeque<Kept>,
     /// How many of the frames were read.
@@ -25,20 +25,20 @@ pub struct OutwardFrames<'a> {
     before: u128,
 }
 
-impl<'a> Model for OutwardFrames<'a> {
+impl<'a> Model for InwardFrames<'a> {
     ghost use Rattle.std.specs.Prelude.{List, drop};
     ghost use Rattle.spp_piece.specs.declared.pieces.Frame.{Frame};
-    ghost use Rattle.spp_summary.specs.KeptFrames.{frames_out};
-    ghost use Rattle.spp_summary.specs.Joining.{AreReadOut};
+    ghost use Rattle.spp_summary.specs.KeptFrames.{frames_inwards};
+    ghost use Rattle.spp_summary.specs.Joining.{AreReadInwards};
 
     ghost Value = { List Frame };
 
-    ghost view = { λ r. frames_out r.run r.before (drop r.read r.opens.now.items) (drop r.kept r.states.now.items) };
+    ghost view = { λ r. frames_inwards r.run r.before (drop r.read r.opens.now.items) (drop r.kept r.states.now.items) };
 
-    ghost invariant = { λ r. AreReadOut r.run r.before r.read r.opens.now.items r.kept r.states.now.items };
+    ghost invariant = { λ r. AreReadInwards r.run r.before r.read r.opens.now.items r.kept r.states.now.items };
 }
 
-impl<'a> OutwardFrames<'a> {
+impl<'a> InwardFrames<'a> {
     pub(crate) fn new(storage: &'a Storage) -> Self
         requires laid { IsLaid storage.now }
         requires load { load_frames (seen storage.now).frames < 2 ^ 127 }
@@ -46,7 +46,7 @@ impl<'a> OutwardFrames<'a> {
     {
         // For its bound: the work before the innermost.
         let _all = storage.before;
-        OutwardFrames {
+        InwardFrames {
             opens: &storage.opens,
             states: &storage.states,
             read: 0,
@@ -57,7 +57,7 @@ impl<'a> OutwardFrames<'a> {
     }
 }
 
-impl<'a> Iterator for OutwardFrames<'a> {
+impl<'a> Iterator for InwardFrames<'a> {
     ghost use Rattle.std.specs.Iterator.{YieldsFirst, item_count};
 
     type Item = Frame;

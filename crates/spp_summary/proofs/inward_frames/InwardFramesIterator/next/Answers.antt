@@ -1,8 +1,8 @@
 use Rattle.std.proofs.Common.{◌≡◌, ◌+◌, ◌<◌, ◌∷◌, ◌^◌, drop, List, subst, arith}
 use Rattle.spp_summary.specs.declared.opens.Open.{Open}
 use Rattle.spp_summary.specs.KeptFrames.{work_within}
-use Rattle.spp_summary.proofs.Outwards.{work_grows, drop_next}
-use Rattle.spp_summary.proofs.outward_frames.OutwardFramesIterator.next.Goals as goal
+use Rattle.spp_summary.proofs.Inwards.{work_grows, drop_next}
+use Rattle.spp_summary.proofs.inward_frames.InwardFramesIterator.next.Goals as goal
 
 pub overflow_add-self-2 : goal.overflow_add-self-2
 overflow_add-self-2 c =

@@ -1,6 +1,6 @@
 use Rattle.std.proofs.Common.{sym, arith}
-use Rattle.spp_summary.proofs.Outwards.{from_outside}
-use Rattle.spp_summary.proofs.outward_frames.OutwardFrames.new.Goals as goal
+use Rattle.spp_summary.proofs.Inwards.{from_outside}
+use Rattle.spp_summary.proofs.inward_frames.InwardFrames.new.Goals as goal
 
 pub invariant_of-result : goal.invariant_of-result
 invariant_of-result c =
