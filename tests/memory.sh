@@ -156,16 +156,20 @@ peaks_within() { # BOUND STATUS INPUT WORDS..: so many KiB are used at most, and
         fails "$* of $size KiB takes $peak KiB, and ends with status $status where $bound KiB and little more can be had"
     fi
 }
-# Bytes that are no trace are read whole: `check` takes at most 1.3 times their size from a pipe, and 1.1 times by name, where
-# the length is known. The size is a little more than 2^26 bytes: room that doubles would be nearly twice that, and room that
-# isn't made once passes 1.1. Of a trace of version 1 `check` keeps the header and a piece: most of what is measured then is
-# the process that starts the program.
+# Where all of an input is read, that takes at most 1.3 times its size from a pipe, and 1.1 times by name, where its length
+# is known. The size is a little more than 2^26 bytes: room that doubles would be nearly twice that, and room that isn't made
+# once passes 1.1. `figures` reads all, and `check` all of a trace of version 2.
 size=$(($(stat -c %s "$folder/long") / 1024))
-tr '\0' '\1' < "$folder/long" > "$folder/none"
-peaks_within $((size * 13 / 10)) 1 "$folder/none" check
-peaks_within $((size * 11 / 10)) 1 "$folder/none" check "$folder/none"
+peaks_within $((size * 13 / 10)) 0 "$folder/long" figures --workers 1
+peaks_within $((size * 11 / 10)) 0 "$folder/long" figures --workers 1 "$folder/long"
+# Of a trace of version 1 `check` keeps the header and a piece: most of what is measured is the process that starts the
+# program.
 peaks_within 20000 0 "$folder/long" check
 peaks_within 20000 0 "$folder/long" check "$folder/long"
+{ echo 'func f' && yes "strand $((2 ** 63 - 1))" | head -n 5800000; } | "$spprof" encode | "$spprof" migrate > "$folder/compact"
+size=$(($(stat -c %s "$folder/compact") / 1024))
+peaks_within $((size * 13 / 10)) 0 "$folder/compact" check
+peaks_within $((size * 11 / 10)) 0 "$folder/compact" check "$folder/compact"
 # The first run's bytes are let go before the second is read: the peak is that of the larger run, and not of both.
 one=$(peak_of 0 profile "$folder/long")
 both=$(peak_of 0 compare "$folder/long" "$folder/long")
