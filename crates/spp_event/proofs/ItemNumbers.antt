@@ -86,6 +86,14 @@ three_digits a b c n rest some small middle last end is =
     ∙ ap (λ (l : List ℕ). (l ++ (64 + (c - 64)) ∷ []) ++ rest) (sym e)
     ∙ ap (λ (l : List ℕ). l ++ rest) (operand_ends (a * 64 + b) (c - 64) (omega arith) ∙ ap operand (sym is))
 
+-- three digits that go on
+pub digits_three : (a b c n : ℕ) → 0 < a → a < 64 → b < 64 → c < 64 → n ≡ (a * 64 + b) * 64 + c → digits_of 64 n ≡ a ∷ b ∷ c ∷ []
+digits_three a b c n some small middle last is =
+    let one : digits_of 64 a ≡ a ∷ [] = sym (digits_more 0 a small (omega arith) ∙ ap (λ (k : ℕ). digits_of 64 k) (let s : 0 * 64 + a ≡ a = omega arith in s)) in
+    ap (λ (k : ℕ). digits_of 64 k) is
+    ∙ sym (digits_more (a * 64 + b) c last (omega arith))
+    ∙ ap (λ (l : List ℕ). l ++ c ∷ []) (sym (digits_more a b middle (omega arith)) ∙ ap (λ (l : List ℕ). l ++ b ∷ []) one)
+
 pub take_more : (bytes : List ℕ) (k b : ℕ) → k < length bytes → get_or bytes k 0 ≡ b → take (k + 1) bytes ≡ take k bytes ++ b ∷ []
 take_more bytes k b h e = ap (λ (j : ℕ). take j bytes) (let s : k + 1 ≡ suc k = omega arith in s) ∙ take-suc bytes k 0 h ∙ ap (λ (x : ℕ). take k bytes ++ x ∷ []) e
 
@@ -138,6 +146,22 @@ too_high bytes rest k n m r in_bytes high e =
     let small : b < 128 = seam (digits_of 64 n) (digits_of 64 (m / 64)) (drop (k + 1) bytes) rest b (64 + m % 64)
     (all_below_base_digits_of 64 n (omega arith)) (all_below_base_digits_of 64 (m / 64) (omega arith)) (omega arith) (omega arith) same in
     absurd (omega arith)
+
+-- ---- a number whose first digits were read before
+
+-- the digits of n are those of the number in front and the bytes before place k
+pub record Behind (front : ℕ) (bytes : List ℕ) (k n : ℕ) : Type 0 where
+  pub digits : digits_of 64 front ++ take k bytes ≡ digits_of 64 n
+  pub some : 0 < n
+
+pub behind_more : (front : ℕ) (bytes : List ℕ) (k n d : ℕ) → Behind front bytes k n → k < length bytes → get_or bytes k 0 ≡ d → d < 64 → Behind front bytes (k + 1) (n * 64 + d)
+behind_more front bytes k n d r within is low = record {
+  digits = ap (λ (l : List ℕ). digits_of 64 front ++ l) (take_more bytes k d within is)
+      ∙ sym (append_assoc (digits_of 64 front) (take k bytes) (d ∷ []))
+      ∙ ap (λ (l : List ℕ). l ++ d ∷ []) r.digits
+      ∙ digits_more n d low (let s = r.some in omega arith);
+  some = let s = r.some in omega arith;
+}
 
 -- ---- two readings of one list
 

@@ -93,8 +93,29 @@ fn operand_of(bytes: &[u8]) -> Option<(u64, &[u8])>
     None
 }
 
-/// A number that the bytes begin with, and the bytes behind it, as [`operand_of`] finds it; numbers of one digit to three,
-/// which most are, without its loop.
+/// The number whose digits are those of `front` and then those that the bytes begin with, and the bytes behind it; none
+/// where that is no number below 2^64.
+#[inline(never)]
+fn operand_behind(front: u64, bytes: &[u8]) -> Option<(u64, &[u8])>
+    requires some { 0 < front }
+    ensures { IfSome result (λ x. digits_of 64 front ++ bytes.now ≡ operand x.0 ++ x.1.now) }
+{
+    let mut n = front;
+    for k in 0..bytes.len() {
+        let digit = u64::from(bytes[k]);
+        if n >= 1 << 58 || digit >= 2 * BASE {
+            return None;
+        }
+        if digit >= BASE {
+            return Some((n * BASE + (digit - BASE), &bytes[k + 1..]));
+        }
+        n = n * BASE + digit;
+    }
+    None
+}
+
+/// The number that [`operand_of`] finds, and the bytes behind it; those of one digit to three, which most are, without a
+/// loop.
 #[inline(always)]
 fn operand_in_front(bytes: &[u8]) -> Option<(u64, &[u8])>
     ensures { IfSome result (λ x. bytes.now ≡ operand x.0 ++ x.1.now) }
@@ -104,20 +125,24 @@ fn operand_in_front(bytes: &[u8]) -> Option<(u64, &[u8])>
     if digit >= BASE && digit < 2 * BASE {
         return Some((digit - BASE, rest));
     }
-    if let Some((second, rest)) = rest.split_first() {
-        let last = u64::from(*second);
-        if digit > 0 && digit < BASE && last >= BASE && last < 2 * BASE {
-            return Some((digit * BASE + (last - BASE), rest));
-        }
-        if let Some((third, rest)) = rest.split_first() {
-            let end = u64::from(*third);
-            if digit > 0 && digit < BASE && last < BASE && end >= BASE && end < 2 * BASE {
-                let front = digit * BASE + last;
-                return Some((front * BASE + (end - BASE), rest));
-            }
-        }
+    let (second, rest) = rest.split_first()?;
+    let last = u64::from(*second);
+    if digit == 0 || digit >= BASE || last >= 2 * BASE {
+        return None;
     }
-    operand_of(bytes)
+    if last >= BASE {
+        return Some((digit * BASE + (last - BASE), rest));
+    }
+    let front = digit * BASE + last;
+    let (third, rest) = rest.split_first()?;
+    let end = u64::from(*third);
+    if end >= 2 * BASE {
+        return None;
+    }
+    if end >= BASE {
+        return Some((front * BASE + (end - BASE), rest));
+    }
+    operand_behind(front * BASE + end, rest)
 }
 
 /// The one number that the bytes are; none where they are no number below 2^64 in its one spelling.
