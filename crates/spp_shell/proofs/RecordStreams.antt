@@ -1,7 +1,7 @@
 -- How bytes that were read lie in a header, whole records and the rest.
 use Rattle.std.proofs.Common.{◌≡◌, ℕ, ◌+◌, ◌-◌, ◌*◌, ◌/◌, ◌≤◌, List, [], ◌++◌, length, take, drop, Option, sym, ap, subst, ◌∙◌, append_assoc, length-append, arith}
 use Rattle.std.specs.List.{slice_range}
-use Rattle.std.proofs.lemmas.List.{take-append-drop, take-take}
+use Rattle.std.proofs.lemmas.List.{take-append-drop, take-take, drop-take}
 use Rattle.std.proofs.lemmas.List.Folds.{drop_split}
 use Rattle.spp_event.specs.Recordings.{Record, records_of}
 use Rattle.spp_event.specs.declared.version.Version.TheVariants.{One}
@@ -33,6 +33,13 @@ module _ (sites funcs : ℕ) where
 pub first_parts : (xs : List ℕ) (len at : ℕ) → len ≤ at → xs ≡ (take len xs ++ slice_range xs len at) ++ drop at xs
 first_parts xs len at le =
     sym (take-append-drop len xs) ∙ ap (λ (l : List ℕ). take len xs ++ l) (drop_split xs len at le) ∙ sym (append_assoc (take len xs) (slice_range xs len at) (drop at xs))
+
+-- a part of a front lies in the whole
+pub slice_within : (xs : List ℕ) (n a b : ℕ) → a ≤ b → b ≤ n → slice_range (take n xs) a b ≡ slice_range xs a b
+slice_within xs n a b le within =
+    let m = n - a in
+    let is : n ≡ a + m = omega arith in
+    ap (λ (k : ℕ). take (b - a) (drop a (take k xs))) is ∙ ap (take (b - a)) (drop-take a m xs) ∙ take-take (b - a) m (drop a xs) (omega arith)
 
 front_of : (xs : List ℕ) (j more : ℕ) → j ≤ more → take j (take more xs) ≡ slice_range xs 0 j
 front_of xs j more le = let z : j ≡ j - 0 = omega arith in take-take j more xs le ∙ ap (λ (k : ℕ). take k xs) z

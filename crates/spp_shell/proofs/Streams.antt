@@ -1,5 +1,5 @@
 -- One read more of an input that is read step by step, as a call of `pull_behind` tells it.
-use Rattle.std.proofs.Common.{◌≡◌, ◌≢◌, ℕ, ◌+◌, ◌≤◌, ◌<◌, ◌^◌, List, [], ◌++◌, length, take, drop, Option, None, Some, refl, sym, ap, subst, ◌∙◌, append_assoc, arith}
+use Rattle.std.proofs.Common.{◌≡◌, ◌≢◌, ℕ, ◌+◌, ◌≤◌, ◌<◌, ◌^◌, List, ◌++◌, length, take, drop, Option, None, Some, refl, sym, ap, subst, ◌∙◌, append_assoc, arith}
 use Rattle.std.specs.Option.{option_map}
 use Rattle.std.proofs.Math.Seq.{take-add}
 use Rattle.spp_report.specs.Devices.{Raised}
@@ -50,5 +50,7 @@ module _ {S : Type 0} (answered : S → Option (List ℕ) → S → Type 0) (fai
   pub stream_turns : (n : ℕ) (s t : S) (xs : List ℕ) → HasRead answered failed failures n s xs t → n ≤ 2 ^ 33 → 2 ^ 33 ≤ n → (giving_of answered failed failures s t).Refused TooLong
   stream_turns n s t xs h le ge = (so_far_turns answered n (2 ^ 33) (2 ^ 33) s t xs h.reads h.few le ge, h.same)
 
-  pub read_none : (s : S) (xs : List ℕ) → xs ≡ [] → HasRead answered failed failures 0 s xs s
-  read_none s xs e = subst (λ (l : List ℕ). HasRead answered failed failures 0 s l s) (sym e) (record { reads = so_far_start answered s; few = omega arith; same = refl })
+  pub read_nothing : (s : S) (bytes : List ℕ) (n f : ℕ) → n ≡ 0 → f ≡ 0 → HasRead answered failed failures n s (take f bytes) s
+  read_nothing s bytes n f none z =
+      subst (λ (k : ℕ). HasRead answered failed failures k s (take f bytes) s) (sym none)
+      (subst (λ (k : ℕ). HasRead answered failed failures 0 s (take k bytes) s) (sym z) (record { reads = so_far_start answered s; few = omega arith; same = refl }))

@@ -1,5 +1,5 @@
 -- Reading an input step by step: what came so far, and what is known where no more is read.
-use Rattle.std.specs.Prelude.{◌≡◌, ℕ, ◌≤◌, ◌^◌, List, length, All, Option, ⊤}
+use Rattle.std.specs.Prelude.{◌≡◌, ℕ, ◌≤◌, ◌^◌, List, length, take, All, Option, ⊤}
 use Rattle.spp_shell.specs.Reading.{Reads, given, IsNoEnd}
 use Rattle.spp_shell.specs.Devices.{giving_of}
 use Rattle.spp_shell.specs.declared.reading_on.Front.{Front}
@@ -8,12 +8,7 @@ use Rattle.spp_shell.specs.declared.reading_on.Front.TheVariants.{Whole, Part}
 -- all was read
 abbrev pub IsWhole : Front → Type 0
 IsWhole (Whole bytes) = ⊤
-IsWhole (Part bytes reads) = ⊥
-
--- no bound was passed
-abbrev pub IsFew : Front → Type 0
-IsFew (Whole bytes) = ⊤
-IsFew (Part bytes reads) = (length bytes.items ≤ 2 ^ 33) × (reads ≤ 2 ^ 33)
+IsWhole (Part came) = ⊥
 
 module _ {S : Type 0} (answered : S → Option (List ℕ) → S → Type 0) (failed : S → S → Type 0) (failures : S → ℕ) where
   -- n reads gave these bytes, which are not too many; the end was not seen, and no read failed
@@ -25,4 +20,4 @@ module _ {S : Type 0} (answered : S → Option (List ℕ) → S → Type 0) (fai
   -- these are all the bytes up to the end, or those that so many reads gave
   abbrev pub IsFront : S → S → Front → Type 0
   IsFront s t (Whole bytes) = (giving_of answered failed failures s t).Gave bytes.items
-  IsFront s t (Part bytes reads) = HasRead reads s bytes.items t
+  IsFront s t (Part came) = HasRead came.reads s (take came.filled came.bytes.items) t

@@ -10,6 +10,7 @@ ghost use Rattle.spp_shell.specs.declared.place.Place.TheVariants.{Only};
 ghost use Rattle.std.specs.String.{string_bytes};
 ghost use Rattle.spp_shell.specs.Check.{IsCheckText, IsCheckLine, IsOneCheckLine, work_text};
 
+use crate::came::Came;
 use crate::header_end::HeaderEnd;
 use crate::input::refusal_of_read;
 use crate::opening::{open_or_refuse, refusal_of_event, refusal_of_header};
@@ -56,47 +57,49 @@ fn answer_stream(alloc: Global, stream: RecordStream) -> Result<Vec<u8>, Refusal
     }
 }
 
-/// The same of an input that begins with the header of a trace of version 1, and of which these bytes came in so many
-/// reads.
+/// The same of an input that begins with the header of a trace of version 1, and of which that came.
 fn check_records<S: Source>(
     alloc: Global,
     source: &mut S,
     head: Head,
-    first: Vec<u8>,
-    reads: u64,
+    came: Came,
 ) -> Result<Vec<u8>, Refusal>
-    requires head { IsRecordHead (take head.len first.items) head.sites head.funcs head.count }
-    requires within { head.len ≤ length first.items }
-    requires few { length first.items ≤ 2 ^ 33 }
-    requires reads { reads ≤ 2 ^ 33 }
-    ensures text { (s : S) → HasRead S.answered S.failed S.failures reads s first.items source.old → IfOk result (λ text. (bytes : List ℕ) × (giving_of S.answered S.failed S.failures s source.new).Gave bytes × IsCheckText (bytes ∷ []) text.items) }
-    ensures refused { (s : S) → HasRead S.answered S.failed S.failures reads s first.items source.old → IfErr result (IsInputRefused (giving_of S.answered S.failed S.failures s source.new) Only IsOneCheckLine) }
+    requires head { IsRecordHead (take head.len (take came.filled came.bytes.items)) head.sites head.funcs head.count }
+    requires within { head.len ≤ came.filled }
+    ensures text { (s : S) → HasRead S.answered S.failed S.failures came.reads s (take came.filled came.bytes.items) source.old → IfOk result (λ text. (bytes : List ℕ) × (giving_of S.answered S.failed S.failures s source.new).Gave bytes × IsCheckText (bytes ∷ []) text.items) }
+    ensures refused { (s : S) → HasRead S.answered S.failed S.failures came.reads s (take came.filled came.bytes.items) source.old → IfErr result (IsInputRefused (giving_of S.answered S.failed S.failures s source.new) Only IsOneCheckLine) }
 {
-    match RecordStream::start(head, first).read_rest(source, reads) {
+    let reads = came.reads;
+    match RecordStream::start(head, came).read_rest(source, reads) {
         Ok(stream) => answer_stream(alloc, stream),
         Err(fault) => Err(refusal_of_read(fault, Place::Only)),
     }
 }
 
-/// The same of any input of which these bytes came in so many reads, with what the source told of its length: it is read
-/// whole first.
+/// The same of any input of which that came, with what the source told of its length: it is read whole first.
 fn check_whole<S: Source>(
     alloc: Global,
     source: &mut S,
-    first: Vec<u8>,
-    reads: u64,
+    came: Came,
     hint: Option<u64>,
 ) -> Result<Vec<u8>, Refusal>
-    requires few { length first.items ≤ 2 ^ 33 }
-    requires reads { reads ≤ 2 ^ 33 }
-    ensures text { (s : S) → HasRead S.answered S.failed S.failures reads s first.items source.old → IfOk result (λ text. (bytes : List ℕ) × (giving_of S.answered S.failed S.failures s source.new).Gave bytes × IsCheckText (bytes ∷ []) text.items) }
-    ensures refused { (s : S) → HasRead S.answered S.failed S.failures reads s first.items source.old → IfErr result (IsInputRefused (giving_of S.answered S.failed S.failures s source.new) Only IsOneCheckLine) }
+    ensures text { (s : S) → HasRead S.answered S.failed S.failures came.reads s (take came.filled came.bytes.items) source.old → IfOk result (λ text. (bytes : List ℕ) × (giving_of S.answered S.failed S.failures s source.new).Gave bytes × IsCheckText (bytes ∷ []) text.items) }
+    ensures refused { (s : S) → HasRead S.answered S.failed S.failures came.reads s (take came.filled came.bytes.items) source.old → IfErr result (IsInputRefused (giving_of S.answered S.failed S.failures s source.new) Only IsOneCheckLine) }
 {
-    let mut bytes = first;
+    let Came {
+        mut bytes,
+        filled,
+        reads,
+    } = came;
     make_first_room(&mut bytes, hint, INPUT_LIMIT);
-    match read_on(source, bytes, reads, None) {
+    let came = Came {
+        bytes,
+        filled,
+        reads,
+    };
+    match read_on(source, came, None) {
         Ok(Front::Whole(bytes)) => answer_check(alloc, bytes.as_slice()),
-        Ok(Front::Part(_, _)) => unreachable!(),
+        Ok(Front::Part(_)) => unreachable!(),
         Err(fault) => Err(refusal_of_read(fault, Place::Only)),
     }
 }
@@ -111,16 +114,16 @@ pub(crate) fn check_input<S: Source>(alloc: Global, source: &mut S) -> Result<Ve
     ensures refused { IfErr result (IsInputRefused (giving_of S.answered S.failed S.failures source.old source.new) Only IsOneCheckLine) }
 {
     let hint = source.hint();
-    let front = match read_on(source, Vec::new(alloc), 0, Some(HeaderEnd::new())) {
+    let front = match read_on(source, Came::nothing(alloc), Some(HeaderEnd::new())) {
         Ok(front) => front,
         Err(fault) => return Err(refusal_of_read(fault, Place::Only)),
     };
-    let (bytes, reads) = match front {
+    let came = match front {
         Front::Whole(bytes) => return answer_check(alloc, bytes.as_slice()),
-        Front::Part(bytes, reads) => (bytes, reads),
+        Front::Part(came) => came,
     };
-    match Head::of(alloc, bytes.as_slice()) {
-        Some(head) => check_records(alloc, source, head, bytes, reads),
-        None => check_whole(alloc, source, bytes, reads, hint),
+    match Head::of(alloc, came.as_slice()) {
+        Some(head) => check_records(alloc, source, head, came),
+        None => check_whole(alloc, source, came, hint),
     }
 }

@@ -1,6 +1,7 @@
 //! The shell of the program: reads a request's inputs, answers it, and writes the answer or one line of fault.
 #![tactic(auto)]
 
+mod came;
 mod check_task;
 mod compare_task;
 mod encode_task;

@@ -27,10 +27,10 @@ pub enum ReadFault {
 pub const INPUT_LIMIT: u64 = 1 << 33;
 
 /// The bytes that are read at a time, where so many come: enough that the calls of the system cost little.
-const PIECE: usize = 65536;
+pub(crate) const PIECE: usize = 65536;
 
-/// Makes room for all the bytes that are likely to come, those that are there among them, but for no more than `most`, and
-/// for one piece more, so that the end is seen. Where memory for it is refused, none is made.
+/// Makes room, that which is there counted, for all the bytes that are likely to come, but for no more than `most`, and for
+/// one piece more, so that the end is seen. Where memory for it is refused, none is made.
 pub(crate) fn make_first_room(bytes: &mut Vec<u8>, hint: Option<u64>, most: u64)
     ensures { bytes.new.items ≡ bytes.old.items }
 {
@@ -40,8 +40,8 @@ pub(crate) fn make_first_room(bytes: &mut Vec<u8>, hint: Option<u64>, most: u64)
     let Ok(likely) = usize::try_from(hint.min(most)) else {
         return;
     };
-    let more = likely.saturating_sub(bytes.len());
-    let _refused = bytes.reserve_exact(more.saturating_add(PIECE));
+    let room = likely.saturating_add(PIECE);
+    let _refused = bytes.reserve_exact(room.saturating_sub(bytes.len()));
 }
 
 /// Sees to it that there is room behind the first `filled` bytes. Where there is none it grows by a quarter, but by

@@ -1,8 +1,9 @@
 //! Reading on behind what came of a source.
 ghost use Rattle.std.specs.Prelude.{◌≡◌, ◌+◌, ◌^◌, ◌<◌, ◌≤◌, ◌++◌, ℕ, List, None, MatchOption, length, take, IfOk, IfSome, IfErr};
 ghost use Rattle.spp_shell.specs.Devices.{giving_of};
-ghost use Rattle.spp_shell.specs.Streams.{HasRead, IsFew, IsFront, IsWhole};
+ghost use Rattle.spp_shell.specs.Streams.{HasRead, IsFront, IsWhole};
 
+use crate::came::Came;
 use crate::header_end::HeaderEnd;
 use crate::reading::{INPUT_LIMIT, ReadFault, make_room, pull_behind};
 use crate::source::Source;
@@ -12,8 +13,8 @@ use crate::source::Source;
 pub(crate) enum Front {
     /// All its bytes.
     Whole(Vec<u8>),
-    /// The first of its bytes, and in how many reads they came.
-    Part(Vec<u8>, u64),
+    /// The first of its bytes.
+    Part(Came),
 }
 
 /// One read more, behind the first `filled` of these bytes, before which `before` others came: how many are filled then
@@ -53,27 +54,26 @@ pub(crate) fn read_more<S: Source>(
     Ok(Some(more))
 }
 
-/// Reads on behind bytes that came in so many reads, until a header ends within them, where one is looked for, or the
-/// input ends. The bounds of [`INPUT_LIMIT`] hold for all reads together.
+/// Reads on behind what came, until a header ends within the bytes, where one is looked for, or the input ends. The bounds
+/// of [`INPUT_LIMIT`] hold for all reads together.
 ///
 /// # Errors
 ///
 /// Those of [`read_within`](crate::read_within).
 pub(crate) fn read_on<S: Source>(
     source: &mut S,
-    first: Vec<u8>,
-    reads: u64,
+    came: Came,
     mut header: Option<HeaderEnd>,
 ) -> Result<Front, ReadFault>
-    requires few { length first.items ≤ 2 ^ 33 }
-    requires within { reads ≤ 2 ^ 33 }
-    ensures read { (s : S) → HasRead S.answered S.failed S.failures reads s first.items source.old → IfOk result (λ front. IsFront S.answered S.failed S.failures s source.new front) }
-    ensures few { IfOk result IsFew }
+    ensures read { (s : S) → HasRead S.answered S.failed S.failures came.reads s (take came.filled came.bytes.items) source.old → IfOk result (λ front. IsFront S.answered S.failed S.failures s source.new front) }
     ensures whole { header ≡ None → IfOk result IsWhole }
-    ensures refused { (s : S) → HasRead S.answered S.failed S.failures reads s first.items source.old → IfErr result (λ fault. (giving_of S.answered S.failed S.failures s source.new).Refused fault) }
+    ensures refused { (s : S) → HasRead S.answered S.failed S.failures came.reads s (take came.filled came.bytes.items) source.old → IfErr result (λ fault. (giving_of S.answered S.failed S.failures s source.new).Refused fault) }
 {
-    let mut bytes = first;
-    let mut filled = bytes.len();
+    let Came {
+        mut bytes,
+        mut filled,
+        reads,
+    } = came;
     for turn in reads..INPUT_LIMIT {
         let Ok(()) = make_room(&mut bytes, filled) else {
             return Err(ReadFault::Memory);
@@ -89,8 +89,11 @@ pub(crate) fn read_on<S: Source>(
         if let Some(header) = &mut header
             && header.is_in(&bytes[..filled])
         {
-            bytes.truncate(filled);
-            return Ok(Front::Part(bytes, turn + 1));
+            return Ok(Front::Part(Came {
+                bytes,
+                filled,
+                reads: turn + 1,
+            }));
         }
     }
     Err(ReadFault::TooLong)

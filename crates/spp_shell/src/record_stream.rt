@@ -4,7 +4,8 @@ ghost use Rattle.spp_event.specs.Heads.{IsRecordHead};
 ghost use Rattle.spp_frame.specs.RecordChecks.{seen_by};
 ghost use Rattle.spp_shell.specs.Checked.{IsChecked};
 
-use crate::reading::{INPUT_LIMIT, ReadFault, make_room};
+use crate::came::Came;
+use crate::reading::{INPUT_LIMIT, PIECE, ReadFault, make_room};
 use crate::reading_on::read_more;
 use crate::source::Source;
 use spp_event::open_trace;
@@ -97,17 +98,19 @@ impl RecordStream {
     ghost use Rattle.spp_shell.specs.Streams.{HasRead};
     ghost use Rattle.spp_shell.specs.Devices.{giving_of};
 
-    /// The stream of a trace that begins with these bytes, which begin with that header.
-    pub(crate) fn start(head: Head, first: Vec<u8>) -> RecordStream
-        requires head { IsRecordHead (take head.len first.items) head.sites head.funcs head.count }
-        requires within { head.len ≤ length first.items }
-        requires few { length first.items ≤ 2 ^ 33 }
-        ensures { HasStreamed result first.items }
+    /// The stream of a trace of which that came, bytes that begin with that header. Its room is a piece at most.
+    pub(crate) fn start(head: Head, came: Came) -> RecordStream
+        requires head { IsRecordHead (take head.len (take came.filled came.bytes.items)) head.sites head.funcs head.count }
+        requires within { head.len ≤ came.filled }
+        ensures { HasStreamed result (take came.filled came.bytes.items) }
     {
-        let mut bytes = first;
-        let filled = bytes.len();
+        let Came {
+            mut bytes,
+            filled,
+            ..
+        } = came;
         let (check, left) = check_piece(RecordCheck::new(), head, &mut bytes, head.len, filled);
-        bytes.truncate(left);
+        bytes.truncate(PIECE);
         RecordStream {
             head,
             check,

@@ -3,25 +3,31 @@ use Rattle.spp_shell.specs.Check.{IsOneCheckLine}
 use Rattle.spp_shell.specs.Devices.{Giving, giving_of}
 use Rattle.spp_shell.specs.declared.place.Place.TheVariants.{Only}
 use Rattle.spp_shell.proofs.Checks.{check_answered, check_refused, read_refused}
-use Rattle.spp_shell.proofs.Streams.{read_none}
+use Rattle.spp_shell.proofs.Streams.{read_nothing}
 use Rattle.spp_shell.proofs.check_task.check_input.Goals as goal
 
 pub returns-in-Err-clause-refused : goal.returns-in-Err-clause-refused
 returns-in-Err-clause-refused g c =
     let input : Giving = giving_of g.S.Source.answered g.S.Source.failed g.S.Source.failures c.args.source.now c.read_on.new.source in
-    let none = read_none g.S.Source.answered g.S.Source.failed g.S.Source.failures c.args.source.now c.new.result.items c.new.ensures.items in
+    let none = read_nothing g.S.Source.answered g.S.Source.failed g.S.Source.failures c.args.source.now c.nothing.result.bytes.items c.nothing.result.reads c.nothing.result.filled c.nothing.ensures.reads c.nothing.ensures.bytes in
     read_refused input Only IsOneCheckLine c.in-Err.fault c.refusal_of_read.result c.refusal_of_read.ensures (c.in-Err.ensures.refused c.args.source.now none) (λ r. inl r.0)
 
 pub returns-in-Whole-clause-text : goal.returns-in-Whole-clause-text
 returns-in-Whole-clause-text g c =
     let input : Giving = giving_of g.S.Source.answered g.S.Source.failed g.S.Source.failures c.args.source.now c.read_on.new.source in
-    let none = read_none g.S.Source.answered g.S.Source.failed g.S.Source.failures c.args.source.now c.new.result.items c.new.ensures.items in
+    let none = read_nothing g.S.Source.answered g.S.Source.failed g.S.Source.failures c.args.source.now c.nothing.result.bytes.items c.nothing.result.reads c.nothing.result.filled c.nothing.ensures.reads c.nothing.ensures.bytes in
     let gave = rw c.in-Whole.is at (c.in-Ok.ensures.read c.args.source.now none) in
     check_answered (λ text. text.items) input c.in-Whole.bytes.items gave c.answer_check.result (rw c.as_slice.ensures.value at c.answer_check.ensures.text)
 
 pub returns-in-Whole-clause-refused : goal.returns-in-Whole-clause-refused
 returns-in-Whole-clause-refused g c =
     let input : Giving = giving_of g.S.Source.answered g.S.Source.failed g.S.Source.failures c.args.source.now c.read_on.new.source in
-    let none = read_none g.S.Source.answered g.S.Source.failed g.S.Source.failures c.args.source.now c.new.result.items c.new.ensures.items in
+    let none = read_nothing g.S.Source.answered g.S.Source.failed g.S.Source.failures c.args.source.now c.nothing.result.bytes.items c.nothing.result.reads c.nothing.result.filled c.nothing.ensures.reads c.nothing.ensures.bytes in
     let gave = rw c.in-Whole.is at (c.in-Ok.ensures.read c.args.source.now none) in
     check_refused (λ text. text.items) input c.in-Whole.bytes.items gave c.answer_check.result (inr (c.in-Whole.bytes.items, gave)) (rw c.as_slice.ensures.value at c.answer_check.ensures.line)
+
+pub returns-in-None-clause-text : goal.returns-in-None-clause-text
+returns-in-None-clause-text g c =
+    let none = read_nothing g.S.Source.answered g.S.Source.failed g.S.Source.failures c.args.source.now c.nothing.result.bytes.items c.nothing.result.reads c.nothing.result.filled c.nothing.ensures.reads c.nothing.ensures.bytes in
+    let came = rw c.in-Part.is at (c.in-Ok.ensures.read c.args.source.now none) in
+    c.check_whole.ensures.text c.args.source.now came

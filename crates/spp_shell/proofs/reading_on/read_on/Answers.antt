@@ -1,4 +1,4 @@
-use Rattle.std.proofs.Common.{◌<◌, ◌^◌, [], List, ℕ, take, refl, ◌+◌, sym, subst, ◌∙◌, arith}
+use Rattle.std.proofs.Common.{◌<◌, ◌^◌, [], List, ℕ, take, refl, sym, subst, ◌∙◌, arith}
 use Rattle.spp_shell.specs.Devices.{giving_of}
 use Rattle.spp_shell.specs.Streams.{HasRead}
 use Rattle.spp_shell.proofs.Streams.{stream_turns}
@@ -22,8 +22,7 @@ pub returns-in-loop-turn-clause-read : goal.returns-in-loop-turn-clause-read
 returns-in-loop-turn-clause-read g c = λ s h.
     let lt : c.loop-turn.turn < 2 ^ 33 = omega (arith, c.loop-turn-test.true) in
     let here = subst (λ (l : List ℕ). HasRead g.S.Source.answered g.S.Source.failed g.S.Source.failures c.loop-turn.turn s l c.loop-turn.source) (sym c.in-Ok.ensures.kept) (c.loop-turn.invariant.read s h) in
-    let got = rw c.in-Ok-Some.field-0-is at (c.in-Ok-Some.ensures.read c.loop-turn.turn s [] lt refl here) in
-    subst (λ (l : List ℕ). HasRead g.S.Source.answered g.S.Source.failed g.S.Source.failures (c.loop-turn.turn + 1) s l c.read_more.new.source) (sym c.truncate-in-loop-turn.ensures.items) got
+    rw c.in-Ok-Some.field-0-is at (c.in-Ok-Some.ensures.read c.loop-turn.turn s [] lt refl here)
 
 pub loop-turn-preserved : goal.loop-turn-preserved
 loop-turn-preserved g c =
