@@ -294,7 +294,7 @@ fn entered_either_way<R: Threads + Wait + Sync>(
     (entered == by_hops).then_some(entered.len())
 }
 
-// The child is hopped over where it's long enough, whether it has so much within or not.
+// Where the root goes on for 1000 the path goes beside the child, which is hopped over where it has 16 events or more.
 #[test]
 fn hops_enter_the_same_children(rt: HostRuntime) -> Result<(), Fail> {
     for joins in 0..12_u32 {

@@ -5,10 +5,10 @@
 //! Which children the path enters is settled from the end backwards, by the choices of the run alone. A second reading of
 //! the events keeps the weights of each open frame, 48 bytes, for its span, and 48 bytes more of a frame on the path.
 //!
-//! Both go by the parts of a trace too: [`settle`] goes back over the choices of all parts ([`settle_by_hops`] over those
-//! that matter to the path), and tells of each what it
-//! needs to know of the path, so that [`part_rows`] and [`mark_part`] can read the parts in any order. The latter tells
-//! which events of a part are on the path.
+//! Both go by the parts of a trace too: [`settle`] goes back over the choices of all parts ([`settle_by_hops`] leaves out
+//! most of those that don't matter to the path), and tells of each what it needs to know of the path, so that
+//! [`part_rows`] and [`mark_part`] can read the parts in any order. The latter tells which events of a part are on the
+//! path.
 #![tactic(auto)]
 
 mod both;

@@ -272,9 +272,9 @@ pub fn settle<'e>(
 }
 
 /// Settles one of the two paths of a run, as [`settle`] does and by the same clauses, but hops over choices within children
-/// that the path goes beside. The time is linear in the numbers of parts, of the other choices and of the nodes of the
-/// open frames, and for each hop there is the logarithm of how many choices it passes over; the memory is that of `settle`.
-/// Of choices that belong to no run, of which the clauses say nothing, it may make something else than `settle` does.
+/// of 16 events or more that the path goes beside. The time is linear in the numbers of parts, of the other choices and of
+/// the nodes of the open frames, and for each hop there is the logarithm of how many choices it passes over; the memory is
+/// that of `settle`. Of choices that belong to no run, of which the clauses say nothing, it may make something else than `settle` does.
 ///
 /// # Errors
 ///

@@ -39,7 +39,8 @@ pub(crate) enum Onward {
 pub(crate) enum Pace {
     /// It takes one after the other.
     Each,
-    /// It hops over those within a child that the path goes beside: in the choices of a run none of these matters to it.
+    /// It hops over those within a child that the path goes beside, unless it is short: in the choices of a run none of
+    /// these matters to it.
     Hops,
 }
 

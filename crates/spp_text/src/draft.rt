@@ -306,8 +306,8 @@ impl<'t> Draft<'t> {
         self.add_read(event)
     }
 
-    /// The bytes of the trace: its header, and the records of its events. The list has no room for more, unless the memory
-    /// for a smaller one is refused.
+    /// The bytes of the trace: its header, and the records of its events. Where there are events, the list has no room for
+    /// more, unless the memory for a smaller one is refused.
     pub(crate) fn into_bytes(self) -> Result<Vec<u8>, AllocError>
         requires { opening_fault self ≡ None }
         ensures { IfOk result (λ bytes. IsTraceOf bytes.items (recording_of self.entry)) }
