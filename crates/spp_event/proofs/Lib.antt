@@ -1,5 +1,6 @@
 pub mod ItemNumbers
 pub mod ItemsRead
+pub mod ItemLengths
 pub mod ItemPlaces
 pub mod RecordsByTag
 pub mod RecordBytes

@@ -9,7 +9,7 @@ use Rattle.spp_event.specs.declared.version.Version.{Version}
 use Rattle.spp_event.specs.declared.version.Version.TheVariants.{One}
 use Rattle.spp_event.specs.Records.{word}
 use Rattle.spp_event.specs.Recordings.{Recording, InLimits, records_of}
-use Rattle.spp_event.specs.Header.{magic, name_spelling, header_spelling, IsName, AreApart, HasGoodNames, IsTraceOf, IsHeaderFault, HasGoodHead, HasNames, IsWithinLimits, funcs_in, sites_in, root_in, events_in}
+use Rattle.spp_event.specs.Header.{magic, name_spelling, IsName, AreApart, HasGoodNames, IsTraceOf, IsHeaderFault, HasGoodHead, HasNames, IsWithinLimits, funcs_in, sites_in, root_in, events_in}
 use Rattle.spp_event.specs.Heads.{IsRecordHead}
 use Rattle.spp_event.proofs.RecordPlaces.{length-records_of}
 
