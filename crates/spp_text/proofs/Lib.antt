@@ -12,8 +12,9 @@ pub mod FirstFault
 pub mod NameFaults
 pub mod EventFaults
 pub mod LineFaults
-pub mod FirstLines
 pub mod UsualNumbers
 pub mod UsualWords
 pub mod UsualLines
+pub mod PlainLines
+pub mod CommentLines
 pub mod LastRecords

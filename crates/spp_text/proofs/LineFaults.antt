@@ -53,7 +53,7 @@ by_its_words false true comment x y z w e = absurd cc
 by_its_words false false true x y z w e = absurd cc
 by_its_words false false false x y z w e = refl
 
-line_in_words : (s : Said) (line : List ℕ) → is_in_words line ≡ true → read_line s line ≡ read_words s (words line)
+pub line_in_words : (s : Said) (line : List ℕ) → is_in_words line ≡ true → read_line s line ≡ read_words s (words line)
 unfolding read_line
 line_in_words s line e =
     by_its_words (begins_with (codes "func ") line) (begins_with (codes "site ") line) (begins_with (codes "#") line) (read_func s (drop 5 line)) (read_site s (drop 5 line)) (Ok s) (read_words s (words line)) e

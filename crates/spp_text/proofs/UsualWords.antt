@@ -43,3 +43,6 @@ begins_with_six text n word h is = begun text (bytes_high_first 6 word) 6 n h (o
 
 pub begins_with_five : (text : List ℕ) (n word : ℕ) → IsHead text n → n / 16777216 ≡ word → text ≡ bytes_high_first 5 word ++ drop 5 text
 begins_with_five text n word h is = begun text (bytes_high_first 5 word) 5 n h (omega arith) (above_three n ∙ ap (bytes_high_first 5) is)
+
+pub begins_with_eight : (text : List ℕ) (n word : ℕ) → IsHead text n → n ≡ word → text ≡ bytes_high_first 8 word ++ drop 8 text
+begins_with_eight text n word h is = begun text (bytes_high_first 8 word) 8 n h (omega arith) (ap (to_be_bytes w64) is)

@@ -13,16 +13,14 @@ fn without_return(line: &[u8]) -> &[u8]
     }
 }
 
-/// The first line of a non-empty text, and what follows it.
-pub(crate) fn first_line(text: &[u8]) -> (&[u8], &[u8])
+/// The first line of a non-empty text, and what follows it. It is looked for eight bytes at a time.
+pub(crate) fn first_line(text: &str) -> (&[u8], &str)
     requires { 0 < length text.now }
     ensures first { lines text.now ≡ result.0.now ∷ lines result.1.now }
     ensures shorter { length result.1.now < length text.now }
 {
-    for (feed, byte) in text.iter().enumerate() {
-        if *byte == b'\n' {
-            return (without_return(&text[..feed]), &text[feed + 1..]);
-        }
+    match text.split_once('\n') {
+        Some((line, rest)) => (without_return(line.as_bytes()), rest),
+        None => (text.as_bytes(), ""),
     }
-    (text, &text[text.len()..])
 }

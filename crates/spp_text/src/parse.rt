@@ -1,6 +1,7 @@
 //! A trace out of its text.
 
 ghost use Rattle.std.specs.Prelude.{◌<◌, length, IfOk, IfErr};
+ghost use Rattle.std.specs.Str.{IsUtf8};
 ghost use Rattle.spp_text.specs.Parsed.{IsEncoded, IsTextFault, IsLineReached};
 ghost use Rattle.spp_text.specs.Usual.{ReadsFirst};
 
@@ -12,13 +13,19 @@ use std::alloc::Global;
 
 /// The first line of a text more; gives what follows it.
 #[inline(always)]
-fn add_first<'t>(draft: &mut Draft<'t>, alloc: Global, text: &'t [u8]) -> Result<&'t [u8], TextWhy>
+fn add_first<'t>(draft: &mut Draft<'t>, alloc: Global, text: &'t str) -> Result<&'t str, TextWhy>
     requires { 0 < length text.now }
-    ensures { ReadsFirst result text.now draft.old draft.new }
+    ensures read { ReadsFirst result text.now draft.old draft.new }
+    ensures utf8 { IfOk result (λ rest. IsUtf8 rest.now) }
 {
-    if let Some((event, rest)) = event_line(text) {
-        draft.add_read(Ok(event))?;
+    let bytes = text.as_bytes();
+    if bytes[0] == b'#' {
+        let (_comment, rest) = first_line(text);
         return Ok(rest);
+    }
+    if let Some((event, rest)) = event_line(bytes) {
+        draft.add_read(Ok(event))?;
+        return Ok(&text[text.len() - rest.len()..]);
     }
     let (line, rest) = first_line(text);
     draft.add_line(alloc, line)?;
@@ -44,7 +51,7 @@ pub fn parse_text(alloc: Global, text: &str) -> Result<Vec<u8>, TextFault>
 {
     let mut draft = Draft::new(alloc);
     let mut number: u32 = 1;
-    let mut rest = text.as_bytes();
+    let mut rest = text;
     while !rest.is_empty() {
         rest = match add_first(&mut draft, alloc, rest) {
             Ok(others) => others,

@@ -8,7 +8,7 @@ use smallvec::SmallVec;
 use std::alloc::{AllocError, Global};
 
 /// Whether it parts words.
-fn is_gap(b: u8) -> bool
+pub(crate) fn is_gap(b: u8) -> bool
     ensures { result ≡ is_blank b }
 {
     b == b' ' || b == b'\t'

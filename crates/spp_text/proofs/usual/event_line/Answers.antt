@@ -1,49 +1,8 @@
-use Rattle.std.proofs.Common.{◌≡◌, ℕ, ◌-◌, List, length, take, drop, arith, take_all}
-use Rattle.std.proofs.lemmas.List.{length-drop}
-use Rattle.spp_text.proofs.UsualWords.{is_head, begins_with_seven, begins_with_six, begins_with_five}
-use Rattle.spp_text.proofs.UsualLines.{strand_line, call_line, spawn_line, ret_line, sync_line}
+use Rattle.spp_text.proofs.PlainLines.{event_line, event_line_in}
 use Rattle.spp_text.proofs.usual.event_line.Goals as goal
 
--- a slice to the end
-to_end : (text : List ℕ) (k : ℕ) → take (length text - k) (drop k text) ≡ drop k text
-to_end text k = take_all _ _ (omega (arith, length-drop k text))
+pub returns : goal.returns
+returns c = event_line c.args.text.now c.in-Some.rest.now c.in-Some.event c.in-Some.ensures
 
-pub returns-then-head-eq-STRAND : goal.returns-then-head-eq-STRAND
-returns-then-head-eq-STRAND c =
-    let text = c.args.text.now in
-    let n = c.from_be_bytes-head.result in
-    let same = c.in_ok-first_chunk.ensures.cases.same in
-    let head = is_head text n (λ i. omega (arith, c.type_inv.text i)) c.in_ok-first_chunk.ensures.cases.enough (rw (← same) c.from_be_bytes-head.ensures) in
-    strand_line text (drop 7 text) c.in_ok-count.rest.now c.in_ok-count.count (begins_with_seven text n _ head c.if-head-eq-STRAND.true) (rw (to_end text 7) at c.in_ok-count.ensures)
-
-pub returns-then-head-eq-RETURN : goal.returns-then-head-eq-RETURN
-returns-then-head-eq-RETURN c =
-    let text = c.args.text.now in
-    let n = c.from_be_bytes-head.result in
-    let same = c.in_ok-first_chunk.ensures.cases.same in
-    let head = is_head text n (λ i. omega (arith, c.type_inv.text i)) c.in_ok-first_chunk.ensures.cases.enough (rw (← same) c.from_be_bytes-head.ensures) in
-    rw (to_end text 7) (ret_line text (drop 7 text) (begins_with_seven text n _ head c.if-head-eq-RETURN.true))
-
-pub returns-then-head-eq-SPAWN : goal.returns-then-head-eq-SPAWN
-returns-then-head-eq-SPAWN c =
-    let text = c.args.text.now in
-    let n = c.from_be_bytes-head.result in
-    let same = c.in_ok-first_chunk.ensures.cases.same in
-    let head = is_head text n (λ i. omega (arith, c.type_inv.text i)) c.in_ok-first_chunk.ensures.cases.enough (rw (← same) c.from_be_bytes-head.ensures) in
-    spawn_line text (drop 6 text) c.in_ok-site.rest.now c.in_ok-site.site c.in_ok-site.func (begins_with_six text n _ head c.if-head-eq-SPAWN.true) (rw (to_end text 6) at c.in_ok-site.ensures)
-
-pub returns-then-head-eq-CALL : goal.returns-then-head-eq-CALL
-returns-then-head-eq-CALL c =
-    let text = c.args.text.now in
-    let n = c.from_be_bytes-head.result in
-    let same = c.in_ok-first_chunk.ensures.cases.same in
-    let head = is_head text n (λ i. omega (arith, c.type_inv.text i)) c.in_ok-first_chunk.ensures.cases.enough (rw (← same) c.from_be_bytes-head.ensures) in
-    call_line text (drop 5 text) c.in_ok-site-2.rest.now c.in_ok-site-2.site c.in_ok-site-2.func (begins_with_five text n _ head c.if-head-eq-CALL.true) (rw (to_end text 5) at c.in_ok-site-2.ensures)
-
-pub returns-then-head-eq-SYNC : goal.returns-then-head-eq-SYNC
-returns-then-head-eq-SYNC c =
-    let text = c.args.text.now in
-    let n = c.from_be_bytes-head.result in
-    let same = c.in_ok-first_chunk.ensures.cases.same in
-    let head = is_head text n (λ i. omega (arith, c.type_inv.text i)) c.in_ok-first_chunk.ensures.cases.enough (rw (← same) c.from_be_bytes-head.ensures) in
-    rw (to_end text 5) (sync_line text (drop 5 text) (begins_with_five text n _ head c.if-head-eq-SYNC.true))
+pub returns-in_default : goal.returns-in_default
+returns-in_default c = event_line_in c.args.text.now c.indented_front.result c.indented_front.ensures
