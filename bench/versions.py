@@ -4,7 +4,9 @@
 usage: bench/versions.py EVENTS ROUNDS KIND..
 
 The program is that of the variable SPPROF, or the one that was built last; it also writes the traces of version 2.
-`bench/plain` compiles the program that makes the traces."""
+`bench/plain` compiles the program that makes the traces. `check` takes the records of version 1 as they come, so that
+its time after reading is only that of what is left in the pipe: compare its whole times. Its numbers in README.md are
+of before that."""
 import os
 import subprocess
 import sys

@@ -156,6 +156,67 @@ if command -v gcc > /dev/null; then
     "$spprof" migrate "$folder/record/out/before.sptrace" 2>> "$folder/err" | cmp -s - "$folder/record/out/compact"
     status=$?
     judge 'the recorder, version 2' 0 '*' ''
+    # An earlier trace stays until a new one is whole, however the program ends.
+    recorded=$folder/record/out/recorded
+    gcc -std=c11 -O2 -Wall -Wextra -I"$folder/record" -fsanitize-coverage=trace-pc "$top/tests/recorded.c" -c -o "$recorded.o" \
+        > "$folder/out" 2> "$folder/err" && gcc "$recorded.o" "$folder/record/out/spprof_record.o" -o "$recorded" 2>> "$folder/err" &&
+        (cd "$folder" && "$recorded") 2>> "$folder/err"
+    status=$?
+    judge 'the recorder: a program that ends as it is told' 0 '' ''
+    expect 'the recorder: where no file is named' 0 'work *' '' "$folder/spprof.sptrace" check
+    left() { # NAME STATUS ERR FILES: these files are in the folder `kept`, and what they have is empty, earlier or new
+        (cd "$folder/kept" && for file in *; do
+            has=bad
+            ! "$spprof" check "$file" > "$folder/answer" 2> /dev/null || has=new
+            ! cmp -s "$file" "$small" || has=earlier
+            [ -s "$file" ] || has=empty
+            [ ! -L "$file" ] || has="link to $has"
+            echo "$file: $has"
+        done) > "$folder/out"
+        judge "the recorder: $1" "$2" "$4$lf" "$3"
+    }
+    record() { # TRACE WORD: the program ends as the word says, where `trace` is an earlier trace and `link` leads there
+        rm -rf "$folder/kept" && mkdir "$folder/kept" && cp "$small" "$folder/kept/trace" && ln -s trace "$folder/kept/link"
+        (cd "$folder/kept" && SPPROF_TRACE=$1 exec "$recorded" "$2") > "$folder/out" 2> "$folder/err"
+        status=$?
+    }
+    nothing="spprof_record: no REC_FINISH was reached, so no trace was kept$lf"
+    old="link: link to earlier${lf}trace: earlier" new="link: link to new${lf}trace: new"
+    for word in finish move fork; do
+        record trace $word
+        left "$word" 0 '' "$new"
+    done
+    for word in exit return; do
+        record trace $word
+        left "$word" 0 "$nothing" "$old"
+        record new $word
+        left "$word, no earlier trace" 0 "$nothing" "$old"
+    done
+    for word in _exit exec; do
+        record trace $word
+        left "$word" 0 '' "$old${lf}trace.part: empty"
+    done
+    (cd "$folder/kept" && SPPROF_TRACE=trace exec "$recorded") 2> "$folder/err"
+    status=$?
+    left 'a part was left by an earlier run' 0 '' "$new"
+    # A file of at most 1 KB.
+    (trap '' XFSZ && ulimit -f 1 && record trace finish && exit "$status")
+    status=$?
+    left 'a write that fails' 3 'spprof_record: cannot write trace, so no trace was kept: *' "$old"
+    record no/trace finish
+    left 'no such folder' 3 'spprof_record: cannot write no/trace.part, so no trace was kept: *' "$old"
+    record . finish
+    left 'a folder' 3 'spprof_record: cannot write ., so no trace was kept: *' "$old"
+    # What is no regular file is written itself.
+    record link finish
+    left 'a link' 0 '' "$new"
+    record link exit
+    left 'a link, exit' 0 "$nothing" "$old"
+    record /dev/full finish
+    left 'a full device' 3 'spprof_record: cannot write /dev/full, so no trace was kept: *' "$old"
+    SPPROF_TRACE=/dev/stdout "$recorded" 2> "$folder/err" | "$spprof" check > "$folder/out" 2>> "$folder/err"
+    status=$?
+    judge 'the recorder: a pipe' 0 'work *' ''
 fi
 mkfifo "$folder/before" "$folder/after"
 feed() { # FILE PIPE SECONDS: writes the file to the pipe, that long after both ends of it are open

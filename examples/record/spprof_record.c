@@ -1,10 +1,14 @@
 /* The recorder. Compile the program's files with -fsanitize-coverage=trace-pc, and this one without. */
+#define _POSIX_C_SOURCE 200809L
 #include "spprof_record.h"
 
 #include <errno.h>
+#include <fcntl.h>
 #include <stdio.h>
 #include <stdlib.h>
 #include <string.h>
+#include <sys/stat.h>
+#include <unistd.h>
 
 /* What a trace can hold: an event is a record of 16 bytes, or in version 2 an item of at most 13. */
 enum { RECORD_BYTES = 16, HEAD_BYTES = 24, MOST_NAME_BYTES = 200, MOST_NAMES = 65536, MOST_EVENTS = 1 << 28 };
@@ -25,7 +29,10 @@ static int compact; /* they stand there as items, of version 2 */
 static uint64_t blocks, total; /* run since the last event, and before it */
 static uint64_t depth;         /* of open frames, without the root */
 static enum { BEFORE, RECORDING, AFTER } state;
-static const char *file_name;
+static pid_t process;   /* the one that records: its forks run clean_up too */
+static int folder;      /* the one that it ran in at REC_START, where relative names begin */
+static char *file_name; /* where the trace goes */
+static char *part_name; /* the file beside it, which takes its name once it is whole; NULL if it is opened itself */
 static FILE *file;
 
 /* gcc makes the program call this in each basic block. */
@@ -40,10 +47,10 @@ static _Noreturn void fail(int status, const char *what, const char *detail) {
     exit(status);
 }
 
-static _Noreturn void fail_to_write(void) {
+static _Noreturn void fail_to_write(const char *name) {
     const char *why = strerror(errno);
     state = AFTER;
-    fprintf(stderr, "spprof_record: cannot write %s: %s\n", file_name, why);
+    fprintf(stderr, "spprof_record: cannot write %s, so no trace was kept: %s\n", name, why);
     exit(NO_FILE);
 }
 
@@ -144,14 +151,47 @@ void rec_sync(void) {
     add(SYNC, 0, 0);
 }
 
+/* Leaves no part of a trace behind when the program ends. */
+static void clean_up(void) {
+    if (getpid() != process) return;
+    if (state == RECORDING) fprintf(stderr, "spprof_record: no REC_FINISH was reached, so no trace was kept\n");
+    state = AFTER;
+    if (part_name) unlinkat(folder, part_name, 0);
+}
+
+static char *joined(const char *name, const char *end) {
+    size_t bytes = strlen(name) + strlen(end) + 1;
+    char *text = malloc(bytes);
+    if (!text) fail(NO_MEMORY, "out of memory", "");
+    snprintf(text, bytes, "%s%s", name, end);
+    return text;
+}
+
+/* Opens a file beside the one that is named, so that an earlier trace stays until there is another. What is there and
+ * is no regular file, such as a pipe or a link, is opened itself; a link's file keeps its bytes until REC_FINISH. */
+static void open_file(void) {
+    struct stat there;
+    if (lstat(file_name, &there) == 0 && !S_ISREG(there.st_mode)) {
+        file = fopen(file_name, "ab");
+        if (!file) fail_to_write(file_name);
+    } else {
+        char *name = joined(file_name, ".part");
+        file = fopen(name, "wb");
+        if (!file) fail_to_write(name);
+        part_name = name;
+    }
+}
+
 void rec_start(const char *function) {
     if (state != BEFORE) fail(WRONG_USE, "REC_START is reached twice", "");
-    file_name = getenv("SPPROF_TRACE");
-    if (!file_name || !*file_name) file_name = "spprof.sptrace";
-    const char *version = getenv("SPPROF_VERSION");
+    const char *name = getenv("SPPROF_TRACE"), *version = getenv("SPPROF_VERSION");
+    file_name = joined(name && *name ? name : "spprof.sptrace", "");
     compact = version && strcmp(version, "2") == 0;
-    file = fopen(file_name, "wb");
-    if (!file) fail_to_write();
+    process = getpid();
+    folder = open(".", O_RDONLY | O_CLOEXEC);
+    if (folder < 0) folder = AT_FDCWD;
+    if (atexit(clean_up) != 0) fail(NO_MEMORY, "out of memory", "");
+    open_file();
     number_of(&functions, function);
     state = RECORDING;
     blocks = 0;
@@ -172,16 +212,24 @@ static void write_trace(void) {
     put_word(head + 8, functions.count);
     put_word(head + 12, sites.count);
     put_word(head + 20, (uint32_t)events);
+    /* What has no length, such as a pipe, refuses a new one with EINVAL. */
+    if (!part_name && ftruncate(fileno(file), 0) != 0 && errno != EINVAL) fail_to_write(file_name);
     fwrite(head, 1, HEAD_BYTES, file);
     write_names(&functions);
     write_names(&sites);
     fwrite(body, 1, used, file);
     int has_failed = ferror(file);
-    if (fclose(file) != 0 || has_failed) fail_to_write();
+    if (fclose(file) != 0 || has_failed) fail_to_write(file_name);
+    if (part_name && renameat(folder, part_name, folder, file_name) != 0) fail_to_write(file_name);
+    free(part_name);
+    part_name = NULL;
+    free(file_name);
+    close(folder);
 }
 
 void rec_finish(void) {
     if (state != RECORDING) fail(WRONG_USE, "REC_FINISH is reached without REC_START", "");
+    if (getpid() != process) fail(WRONG_USE, "REC_FINISH is reached in a fork", "");
     if (depth > 0) fail(WRONG_USE, "REC_FINISH stands within a spawn or call", "");
     add_strand();
     state = AFTER;

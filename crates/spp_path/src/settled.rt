@@ -274,7 +274,13 @@ pub fn settle<'e>(
 /// Settles one of the two paths of a run, as [`settle`] does and by the same clauses, but hops over choices within children
 /// of 16 events or more that the path goes beside. The time is linear in the numbers of parts, of the other choices and of
 /// the nodes of the open frames, and for each hop there is the logarithm of how many choices it passes over; the memory is
-/// that of `settle`. Of choices that belong to no run, of which the clauses say nothing, it may make something else than `settle` does.
+/// that of `settle`.
+///
+/// A hop ends where its part begins. Where the path then still seeks the return of a child that it enters, further back,
+/// the choices of the parts before are taken one by one, also those within the child that it goes beside. Of a root with
+/// one heavy child and then one of 20,000 children, 18,753 of 20,004 choices were taken so in 16 parts, and 3 in one part.
+///
+/// Of choices that belong to no run, of which the clauses say nothing, it may make something else than `settle` does.
 ///
 /// # Errors
 ///
