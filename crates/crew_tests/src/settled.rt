@@ -256,10 +256,16 @@ fn each_part_is_told_where_the_path_goes(rt: HostRuntime) -> Result<(), Fail> {
     Ok(())
 }
 
-/// A run whose root spawns a child in which so many children are spawned and joined, one after the other, goes on for so
-/// many instructions, and waits.
-fn with_joins(alloc: Global, joins: u32, after: u64) -> Result<Vec<Event>, AllocError> {
+/// A run whose root has these events, spawns a child in which so many children are spawned and joined, one after the other,
+/// goes on for so many instructions, and waits.
+fn with_joins(
+    alloc: Global,
+    front: &[Event],
+    joins: u32,
+    after: u64,
+) -> Result<Vec<Event>, AllocError> {
     let mut events = Vec::new(alloc);
+    events.extend_from_slice(front)?;
     events.push(SPAWN)?;
     for _join in 0..joins {
         events.extend_from_slice(&[SPAWN, S5, RET, S1, SYNC])?;
@@ -300,7 +306,7 @@ fn hops_enter_the_same_children(rt: HostRuntime) -> Result<(), Fail> {
     for joins in 0..12_u32 {
         for cut in 0..5 * joins + 4 {
             for (after, wanted) in [(0, 1 + joins as usize), (1000, 0)] {
-                let events = with_joins(rt.alloc(), joins, after)?;
+                let events = with_joins(rt.alloc(), &[], joins, after)?;
                 let entered = entered_either_way(&rt, rt.alloc(), &events, cut);
                 assert_eq!(rt;
                     entered,
@@ -308,6 +314,20 @@ fn hops_enter_the_same_children(rt: HostRuntime) -> Result<(), Fail> {
                     "{joins} joins, cut at {cut}, {after} after"
                 );
             }
+        }
+    }
+    Ok(())
+}
+
+// The path enters the first child, so on its way back it seeks that one's return past its sibling.
+#[test]
+fn hops_seek_past_a_sibling(rt: HostRuntime) -> Result<(), Fail> {
+    let front = [SPAWN, Event::Strand { count: 1000 }, RET];
+    for joins in 0..8_u32 {
+        let events = with_joins(rt.alloc(), &front, joins, 0)?;
+        for cut in 0..5 * joins + 7 {
+            let entered = entered_either_way(&rt, rt.alloc(), &events, cut);
+            assert_eq!(rt; entered, Some(1), "{joins} joins, cut at {cut}");
         }
     }
     Ok(())
