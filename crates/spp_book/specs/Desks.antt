@@ -40,8 +40,8 @@ abbrev pub IsDoubleOf : Why → ℕ → Type 0
 IsDoubleOf Stranger share = Unit {0}
 IsDoubleOf Double share = 0 < share
 
--- a part is missing only where fewer pieces were put than there are parts, and the parts before it were all put; memory was
--- wanting only where as many were put as there are parts
+-- a part is missing only where fewer pieces were put than there are parts, and no fewer than there are parts before it;
+-- memory was wanting only where as many were put as there are parts
 abbrev pub IsShort : CloseFault → ℕ → ℕ → Type 0
 IsShort (close.Missing number) share parts = (number ≤ share) × (share < parts)
 IsShort close.Memory share parts = share ≡ parts
