@@ -1,5 +1,5 @@
 -- Numbers that were drawn, counted, and what a pass has put when they ran out.
-use Rattle.std.proofs.Common.{◌≡◌, ℕ, zero, suc, ◌+◌, ◌<◌, ◌≤◌, ◌⊎◌, inl, inr, Bool, true, false, ◌||◌, Result, Ok, Err, OnOk, List, [], ◌∷◌, ◌++◌, length, refl, ap, sym, subst, ◌∙◌, arith}
+use Rattle.std.proofs.Common.{◌≡◌, ℕ, zero, suc, ◌+◌, ◌<◌, ◌≤◌, ◌⊎◌, inl, inr, Bool, true, false, ◌||◌, Result, Ok, Err, OnOk, OnErr, List, [], ◌∷◌, ◌++◌, length, length-append, refl, ap, ap₂, sym, subst, ◌∙◌, arith}
 use Rattle.std.specs.Prelude.{nat_le, nat_lt, cond, count_by}
 use Rattle.std.specs.Result.{result_and}
 use Rattle.std.proofs.lemmas.Bool.{cases_Bool}
@@ -8,7 +8,7 @@ use Rattle.std.proofs.lemmas.List.Sums.{sum_by-cons, sum_by-append}
 use Rattle.spp_book.specs.Counters.{total, has_past, is_one, IsEachBelow}
 use Rattle.spp_book.specs.Desks.{PassView}
 use Rattle.spp_book.proofs.Totals.{total_append, has_past_append, snoc_same}
-use Rattle.spp_crew.specs.Rounds.{IsDrained}
+use Rattle.spp_crew.specs.Rounds.{parts_drawn, IsDrained, IsBehind}
 
 -- how many of the numbers are below k
 abbrev pub below : ℕ → List ℕ → ℕ
@@ -182,6 +182,41 @@ pub drained_together : {E : Type 0} (we they : Result Unit E) (a b c : PassView)
 drained_together (Ok x) (Ok y) a b c same parts drawn share one two = drained_both a b c same parts drawn share one two
 drained_together (Ok x) (Err e) a b c same parts drawn share one two = tt
 drained_together (Err e) they a b c same parts drawn share one two = tt
+
+-- a pass that holds no number past the parts, and of the last of them no piece, is behind
+pub behind_now : (p : PassView) (xs : List ℕ) (n : ℕ) → p.drawn ≡ xs ++ n ∷ [] → has_past p.parts p.drawn ≡ false → p.share ≡ length xs → IsBehind p
+behind_now p xs n drawn inside put =
+    let all = all_below p.parts p.drawn inside in
+    let long = ap length drawn in
+    let append = length-append xs (n ∷ []) in
+    omega (arith, all, long, append, put)
+
+-- a fact is one of an error too
+pub on_err : {A E : Type 0} (r : Result A E) (P : Type 0) → P → OnErr r P
+on_err (Ok x) P p = tt
+on_err (Err e) P p = p
+
+-- the parts that were drawn with two passes together
+drawn_both : (a b c : PassView) → a.parts ≡ b.parts → c.parts ≡ a.parts → c.drawn ≡ a.drawn ++ b.drawn → parts_drawn c ≡ parts_drawn a + parts_drawn b
+drawn_both a b c same parts drawn =
+    let more = below_append a.parts a.drawn b.drawn in
+    let is : below c.parts c.drawn ≡ below a.parts (a.drawn ++ b.drawn) = ap₂ below parts drawn in
+    let theirs : below b.parts b.drawn ≡ below a.parts b.drawn = ap (λ n. below n b.drawn) (sym same) in
+    omega (arith, more, is, theirs)
+
+-- where one of two passes is behind, and the other is behind or drained, they are behind together
+pub behind_together : {E : Type 0} (we they : Result Unit E) (a b c : PassView) → a.parts ≡ b.parts → c.parts ≡ a.parts → c.drawn ≡ a.drawn ++ b.drawn → c.share ≡ a.share + b.share
+    → OnOk we (IsDrained a) → OnErr we (IsBehind a) → OnOk they (IsDrained b) → OnErr they (IsBehind b) → OnErr (result_and we they) (IsBehind c)
+behind_together (Ok x) (Ok y) a b c same parts drawn share done behind other_done other_behind = tt
+behind_together (Ok x) (Err e) a b c same parts drawn share done behind other_done other_behind =
+    let both = drawn_both a b c same parts drawn in
+    omega (arith, both, share, done.put, other_behind)
+behind_together (Err e) (Ok y) a b c same parts drawn share done behind other_done other_behind =
+    let both = drawn_both a b c same parts drawn in
+    omega (arith, both, share, other_done.put, behind)
+behind_together (Err e) (Err f) a b c same parts drawn share done behind other_done other_behind =
+    let both = drawn_both a b c same parts drawn in
+    omega (arith, both, share, behind, other_behind)
 
 -- with all numbers that were drawn, a drained pass has a piece of each part
 pub all_put : (p : PassView) (n : ℕ) → IsEachBelow n p.drawn → IsDrained p → p.share ≡ p.parts

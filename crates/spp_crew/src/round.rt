@@ -1,9 +1,9 @@
 //! One round: all parts of a job, by a crew of workers.
 
-ghost use Rattle.std.specs.Prelude.{◌≡◌, ◌<◌, ◌≤◌, [], IfOk, OnOk};
+ghost use Rattle.std.specs.Prelude.{◌≡◌, ◌<◌, ◌≤◌, [], IfOk, OnOk, OnErr};
 ghost use Rattle.std.specs.Thread.{IsSync};
 ghost use Rattle.spp_book.specs.Desks.{IsOf};
-ghost use Rattle.spp_crew.specs.Rounds.{IsDrained};
+ghost use Rattle.spp_crew.specs.Rounds.{IsDrained, IsBehind};
 
 use crate::gate::{Gate, Round};
 use spp_book::{CloseFault, Desk, Job, Naming, Pass, Piece};
@@ -34,7 +34,8 @@ impl From<AllocError> for Stopped {
 ///
 /// # Errors
 ///
-/// Where an allocation failed, or a piece was handed back; then it draws no more. That memory was refused no clause can say.
+/// Where an allocation failed, or a piece was handed back; then it draws no more, and has drawn a part of which no piece was
+/// accepted. That memory was refused no clause can say.
 fn work<J: Job, N: Naming, R: Wait, G: Gate>(
     rt: &R,
     alloc: Global,
@@ -50,6 +51,7 @@ fn work<J: Job, N: Naming, R: Wait, G: Gate>(
     requires share { pass.old.share ≡ 0 }
     ensures kept { pass.new ≡ record pass.old { drawn = pass.new.drawn; share = pass.new.share } }
     ensures drained { OnOk result (IsDrained pass.new) }
+    ensures stopped { OnErr result (IsBehind pass.new) }
 {
     let draws = job.parts() + 1;
     for _draw in 0..draws {
@@ -93,6 +95,7 @@ fn crew<J: Job + Sync, N: Naming + Send + Sync, R: Threads + Wait + Sync, G: Gat
     ensures workers { result.0.workers ≡ pass.workers }
     ensures of { IsOf result.0 desk.now }
     ensures drained { OnOk result.1 (IsDrained result.0) }
+    ensures stopped { OnErr result.1 (IsBehind result.0) }
 {
     let workers = pass.workers();
     if workers < 2 {
@@ -105,11 +108,11 @@ fn crew<J: Job + Sync, N: Naming + Send + Sync, R: Threads + Wait + Sync, G: Gat
         rt,
         move || -> Worked<N>
             requires { IsSync R.row × (J.name job.now ≡ N.job) × IsOf other desk.now × (other.drawn ≡ []) × (other.share ≡ 0) }
-            ensures { (result.0.workers ≡ other.workers) × (result.0.table ≡ other.table) × (result.0.parts ≡ other.parts) × OnOk result.1 (IsDrained result.0) }
+            ensures { (result.0.workers ≡ other.workers) × (result.0.table ≡ other.table) × (result.0.parts ≡ other.parts) × OnOk result.1 (IsDrained result.0) × OnErr result.1 (IsBehind result.0) }
         { crew(rt, alloc, desk, job, other, round, gate) },
         move || -> Worked<N>
             requires { IsSync R.row × (J.name job.now ≡ N.job) × IsOf mine desk.now × (mine.drawn ≡ []) × (mine.share ≡ 0) }
-            ensures { (result.0.workers ≡ mine.workers) × (result.0.table ≡ mine.table) × (result.0.parts ≡ mine.parts) × OnOk result.1 (IsDrained result.0) }
+            ensures { (result.0.workers ≡ mine.workers) × (result.0.table ≡ mine.table) × (result.0.parts ≡ mine.parts) × OnOk result.1 (IsDrained result.0) × OnErr result.1 (IsBehind result.0) }
         { crew(rt, alloc, desk, job, mine, round, gate) },
     );
     (desk.rejoin(ours, theirs), we_worked.and(they_worked))
@@ -153,10 +156,10 @@ fn run_named<J: Job + Sync, N: Naming + Send + Sync, R: Threads + Wait + Sync, G
 /// # Errors
 ///
 /// Only where an allocation failed. A worker whose allocation fails stops, and the others go on; a join that was refused is
-/// tried once more at the close. It's proved that a part can be missing at the close only where a worker stopped before the
-/// numbers ran out; that memory was refused there, or at a join, no clause can say, nor that no piece of a worker comes
-/// back as a double. A thread that can't be started is no error: the thread that was to start it does its share, behind its
-/// own.
+/// tried once more at the close. It's proved that a worker stops only at a part that it drew and of which no piece was
+/// accepted, and that a part can be missing at the close only where one stopped. That memory was refused there, or at a
+/// join, no clause can say, nor that no piece of a worker comes back as a double. A thread that can't be started is no
+/// error: the thread that was to start it does its share, behind its own.
 pub fn run_round<J: Job + Sync, R: Threads + Wait + Sync, G: Gate>(
     rt: &R,
     alloc: Global,

@@ -1,6 +1,7 @@
 use Rattle.std.proofs.Common.{rules, ◌≡◌, [], ◌+◌, length, false, ◌∷◌, ◌++◌, arith, sym, ap, ◌∙◌, subst, length-append}
 use Rattle.spp_book.specs.Counters.{has_past}
-use Rattle.spp_crew.proofs.Draws.{AreApart, few_apart, more_apart, drained_now}
+use Rattle.spp_crew.specs.Rounds.{IsBehind}
+use Rattle.spp_crew.proofs.Draws.{AreApart, few_apart, more_apart, drained_now, behind_now, on_err}
 use Rattle.spp_crew.proofs.round.work.Goals as goal
 
 pub loop-draw-preserved : goal.loop-draw-preserved
@@ -32,6 +33,22 @@ returns-in_default-clause-drained g c =
     let share : now.share ≡ c.loop-draw.pass.share = ap (λ p. p.share) c.draw.ensures.kept in
     let unfinished = subst (λ n. has_past n c.loop-draw.pass.drawn ≡ false) (sym parts) before.unfinished in
     drained_now now c.loop-draw.pass.drawn drawn.0 drawn.2 unfinished c.in_default.ensures.past (share ∙ before.put)
+
+pub returns-in_err-content-clause-stopped : goal.returns-in_err-content-clause-stopped
+returns-in_err-content-clause-stopped g c =
+    let before = c.loop-draw.invariant in
+    let now = c.draw.new.pass in
+    let share : now.share ≡ c.loop-draw.pass.share = ap (λ p. p.share) c.draw.ensures.kept in
+    on_err c.from_residual.result (IsBehind now)
+    (behind_now now c.loop-draw.pass.drawn c.in-Some.number c.in-Some.ensures.drawn.2 c.in-Some.ensures.past (share ∙ before.put))
+
+pub returns-in_default-put-clause-stopped : goal.returns-in_default-put-clause-stopped
+returns-in_default-put-clause-stopped g c =
+    let before = c.loop-draw.invariant in
+    let now = c.draw.new.pass in
+    let share : now.share ≡ c.loop-draw.pass.share = ap (λ p. p.share) c.draw.ensures.kept in
+    subst IsBehind (sym c.in_default-put.ensures.same)
+    (behind_now now c.loop-draw.pass.drawn c.in-Some.number c.in-Some.ensures.drawn.2 c.in-Some.ensures.past (share ∙ before.put))
 
 pub unreachable-requires : goal.unreachable-requires
 unreachable-requires g c =
