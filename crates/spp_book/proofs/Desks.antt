@@ -6,7 +6,7 @@ use Rattle.spp_book.specs.Books.{count_of, is_accepted, MissingIs}
 use Rattle.spp_book.specs.Desks.{IsShort}
 use Rattle.spp_book.specs.declared.piece.CloseFault.{CloseFault}
 use Rattle.spp_book.specs.declared.piece.CloseFault.TheVariants as close
-use Rattle.spp_book.proofs.Lists.{flags_set}
+use Rattle.spp_book.proofs.Lists.{flags_set, counted_from}
 
 -- a part that wasn't accepted keeps the count below the number of parts
 flags_below : (bs : List Bool) (i : ℕ) → i < length bs → is_accepted bs i ≡ false → count_of bs < length bs
@@ -19,7 +19,8 @@ flags_below bs i lt h =
 short_of : (f : CloseFault) (bs : List Bool) (share parts : ℕ) → length bs ≡ parts → share ≡ count_of bs → MissingIs f bs → IsShort f share parts
 short_of (close.Missing number) bs share parts long counted is =
     let below = flags_below bs number is.0 is.1 in
-    (omega (arith, is.0, long), omega (arith, below, long, counted))
+    let before = counted_from bs number is.2 in
+    (omega (arith, before, counted), omega (arith, below, long, counted))
 short_of close.Memory bs share parts long counted is = counted ∙ is ∙ long
 
 pub shorts : {C : Type 0} (r : Result C CloseFault) (bs : List Bool) (share parts : ℕ) → length bs ≡ parts → share ≡ count_of bs → IfErr r (λ f. MissingIs f bs) → IfErr r (λ f. IsShort f share parts)

@@ -2,7 +2,7 @@ mod Runs
 mod Lists
 mod Meetings
 mod Joining
-mod Totals
+pub mod Totals
 mod Counters
 mod Desks
 mod Worlds

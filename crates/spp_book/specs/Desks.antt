@@ -1,5 +1,5 @@
 -- What contracts see of a desk and of a pass.
-use Rattle.std.specs.Prelude.{◌≡◌, ℕ, ◌<◌, false, List, MatchOption}
+use Rattle.std.specs.Prelude.{◌≡◌, ℕ, ◌<◌, ◌≤◌, false, List, MatchOption}
 use Rattle.atomic_table.specs.Seated.{TableId}
 use Rattle.spp_book.specs.Counters.{has_past}
 use Rattle.spp_book.specs.declared.book.Front.{Front}
@@ -35,9 +35,15 @@ abbrev pub IsStranger : Why → Type 0 → Type 0
 IsStranger Stranger ours = ¬ ours
 IsStranger Double ours = ours
 
--- a part is missing only where fewer pieces were put than there are parts, and memory was wanting only where as many were
+-- a double is told only where some piece was accepted, which the pass of all workers has in its share
+abbrev pub IsDoubleOf : Why → ℕ → Type 0
+IsDoubleOf Stranger share = Unit {0}
+IsDoubleOf Double share = 0 < share
+
+-- a part is missing only where fewer pieces were put than there are parts, and no fewer than there are parts before it;
+-- memory was wanting only where as many were put as there are parts
 abbrev pub IsShort : CloseFault → ℕ → ℕ → Type 0
-IsShort (close.Missing number) share parts = (number < parts) × (share < parts)
+IsShort (close.Missing number) share parts = (number ≤ share) × (share < parts)
 IsShort close.Memory share parts = share ≡ parts
 
 -- the content is the value of the joined parts, and there is none where none are joined

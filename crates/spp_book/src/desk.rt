@@ -1,9 +1,9 @@
 //! The book of a job that several workers share: its numbers are drawn, each once, and its pieces are put.
 
-ghost use Rattle.std.specs.Prelude.{◌≡◌, ◌<◌, ◌≤◌, ◌+◌, ◌-◌, ◌^◌, ℕ, List, [], ◌∷◌, ◌++◌, IfOk, IfErr, OnOk, OnErr, MatchOption, true, length, set, is_none};
-ghost use Rattle.spp_book.specs.Books.{count_of, IsPut};
+ghost use Rattle.std.specs.Prelude.{◌≡◌, ◌<◌, ◌≤◌, ◌+◌, ◌-◌, ◌^◌, ℕ, List, [], ◌∷◌, ◌++◌, Some, IfOk, IfErr, IsOk, OnOk, OnErr, MatchOption, true, false, length, set, is_none};
+ghost use Rattle.spp_book.specs.Books.{count_of, is_accepted, end_at, WhyIs, IsPut, IsFront, MissingIs};
 ghost use Rattle.spp_book.specs.Counters.{has_past, IsNew, IsEachBelow};
-ghost use Rattle.spp_book.specs.Desks.{IsOf, IsOpen, IsStranger, IsShort, IsFrontOf};
+ghost use Rattle.spp_book.specs.Desks.{IsOf, IsOpen, IsStranger, IsDoubleOf, IsShort, IsFrontOf};
 ghost use Rattle.spp_book.specs.Jobs.{IsOurs, IsPieceOf};
 
 use crate::book::{Book, Front};
@@ -39,7 +39,7 @@ struct Locked<'a, J: Job, N: Naming> {
 }
 
 impl<'a, J: Job, N: Naming> Locked<'a, J, N> {
-    /// Puts a piece into the book, which raises the share by one, or hands it back.
+    /// Puts a piece into the book, which raises the share by one, or hands it back as the book does.
     fn put(
         &mut self,
         alloc: Global,
@@ -53,12 +53,16 @@ impl<'a, J: Job, N: Naming> Locked<'a, J, N> {
         ensures same { OnErr result (share.new.amount ≡ share.old.amount) }
         ensures back { IfErr result (λ r. r.piece ≡ piece) }
         ensures ours { OnOk result (IsOurs (J.parts_of N.job) (J.range_of N.job) piece.number piece.first piece.events) }
-        ensures why { IfErr result (λ r. IsStranger r.why (IsOurs (J.parts_of N.job) (J.range_of N.job) piece.number piece.first piece.events)) }
+        ensures fresh { OnOk result (is_accepted self.old.book.accepted piece.number ≡ false) }
+        ensures why { IfErr result (λ r. WhyIs r.why (IsOurs (J.parts_of N.job) (J.range_of N.job) piece.number piece.first piece.events) (is_accepted self.old.book.accepted piece.number)) }
+        ensures stranger { IfErr result (λ r. IsStranger r.why (IsOurs (J.parts_of N.job) (J.range_of N.job) piece.number piece.first piece.events)) }
+        ensures double { IfErr result (λ r. share.old.parts ≡ N.parts → IsDoubleOf r.why share.old.amount) }
         ensures accepted { OnOk result (self.new.book.accepted ≡ set self.old.book.accepted piece.number true) }
         ensures runs { OnOk result (IsPut piece.number self.old.book.runs self.new.book.runs) }
         ensures unchanged { OnErr result (self.new.book ≡ self.old.book) }
     {
         let Locked { book, tally, .. } = self;
+        tally.audit(share);
         let taken = book.accept(alloc, piece);
         if taken.is_ok() {
             tally.add(share, 1);
@@ -66,7 +70,7 @@ impl<'a, J: Job, N: Naming> Locked<'a, J, N> {
         taken
     }
 
-    /// What has been joined from the first part on, of at least as many accepted parts as the share has.
+    /// The front of the book, with at least as many accepted parts as the share has.
     fn front(
         &mut self,
         alloc: Global,
@@ -74,6 +78,7 @@ impl<'a, J: Job, N: Naming> Locked<'a, J, N> {
     ) -> Result<Front<J::Content>, AllocError>
         ensures share { (share.new.amount ≡ share.old.amount) × (share.new.parts ≡ share.old.parts) }
         ensures book { self.new.book ≡ self.old.book }
+        ensures front { IfOk result (λ f. IsFront (J.is_value N.job) self.old.book f) }
         ensures content { IfOk result (λ f. IsFrontOf (J.is_value N.job) f) }
         ensures own { IfOk result (λ f. share.old.amount ≤ f.accepted) }
         ensures whole { IfOk result (λ f. share.old.parts ≡ N.parts → f.accepted ≡ share.old.amount) }
@@ -84,10 +89,12 @@ impl<'a, J: Job, N: Naming> Locked<'a, J, N> {
         self.book.front(alloc)
     }
 
-    /// The value of all parts, where the share of all workers has as many pieces as the job has parts.
+    /// The value of all parts, as the book gives it. The share of all workers has as many pieces as were accepted.
     fn close(self, alloc: Global, share: Share<N>) -> Result<J::Content, CloseFault>
         requires { share.parts ≡ N.parts }
         ensures all { OnOk result (share.amount ≡ J.parts_of N.job) }
+        ensures joined { end_at self.entry.book.runs 0 ≡ Some (J.parts_of N.job) → IsOk result }
+        ensures least { IfErr result (λ f. MissingIs f self.entry.book.accepted) }
         ensures value { IfOk result (λ c. J.is_value N.job 0 (J.parts_of N.job) c) }
         ensures missing { IfErr result (λ f. IsShort f share.amount (J.parts_of N.job)) }
     {
@@ -265,7 +272,9 @@ impl<'a, J: Job, N: Naming> Desk<'a, J, N> {
     ///
     /// # Errors
     ///
-    /// A stranger or a double is handed back, and the pass is unchanged.
+    /// A stranger or a double is handed back, and the pass is unchanged. What lies under the lock has no name out here, so
+    /// contracts don't say that it was the double's own part that was accepted before, only that some part was, and that
+    /// only where the pass is that of all workers. `Locked::put`, which it calls under the lock, says it.
     pub fn put(
         &self,
         rt: &impl Wait,
@@ -281,12 +290,15 @@ impl<'a, J: Job, N: Naming> Desk<'a, J, N> {
         ensures back { IfErr result (λ r. r.piece ≡ piece) }
         ensures ours { OnOk result (IsOurs (J.parts_of N.job) (J.range_of N.job) piece.number piece.first piece.events) }
         ensures why { IfErr result (λ r. IsStranger r.why (IsOurs (J.parts_of N.job) (J.range_of N.job) piece.number piece.first piece.events)) }
+        ensures double { IfErr result (λ r. pass.old.workers ≡ N.parts → IsDoubleOf r.why pass.old.share) }
     {
         self.locked.lock(rt).put(alloc, &mut pass.share, piece)
     }
 
     /// A copy of what has been joined from the first part on, and how many parts were accepted in all: no fewer than are
-    /// the pass's own, and of the pass of all workers just these. It waits for the lock, and copies under it.
+    /// the pass's own, and of the pass of all workers just these. It waits for the lock, and copies under it. Contracts say
+    /// what the content is worth; that the front goes as far as the first run does is said of `Locked::front` alone, which
+    /// it calls under the lock.
     ///
     /// # Errors
     ///
@@ -313,7 +325,10 @@ impl<'a, J: Job, N: Naming> Desk<'a, J, N> {
     ///
     /// # Errors
     ///
-    /// `Missing`, only where fewer pieces were accepted than there are parts, or `Memory` where an allocation failed.
+    /// `Missing`, only where fewer pieces were accepted than there are parts, with the least part that wasn't accepted, or
+    /// `Memory` where an allocation failed. Of that part contracts say here that no more parts lie before it than were
+    /// accepted, and that it is the least at `Locked::close`, which is called on what lay under the lock; it says too that a
+    /// book that is joined whole needs no memory.
     pub fn close(
         alloc: Global,
         desk: Desk<'a, J, N>,

@@ -41,7 +41,8 @@ pub enum CloseFault {
     /// No piece of a part was accepted.
     #[error("part {number} is missing")]
     Missing {
-        /// The least number of such a part. Of a desk, contracts say only that it is one of the job's.
+        /// The least number of such a part. Of a desk, public contracts say only that it is no greater than the number of
+        /// accepted parts.
         number: u32,
     },
     /// An allocation failed.

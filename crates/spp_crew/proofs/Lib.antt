@@ -1,3 +1,4 @@
+pub mod Draws
 pub mod FirstRound
 pub mod Halves
 pub mod Marked

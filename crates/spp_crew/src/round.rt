@@ -1,44 +1,65 @@
 //! One round: all parts of a job, by a crew of workers.
 
-ghost use Rattle.std.specs.Prelude.{◌≡◌, ◌<◌, ◌≤◌, IfOk};
+ghost use Rattle.std.specs.Prelude.{◌≡◌, ◌<◌, ◌≤◌, [], IfOk, OnOk, OnErr};
 ghost use Rattle.std.specs.Thread.{IsSync};
-ghost use Rattle.spp_book.specs.Desks.{IsOf, IsOpen};
+ghost use Rattle.spp_book.specs.Desks.{IsOf};
+ghost use Rattle.spp_crew.specs.Rounds.{IsDrained, IsBehind};
 
 use crate::gate::{Gate, Round};
-use spp_book::{Desk, Job, Naming, Pass, Piece};
+use spp_book::{CloseFault, Desk, Job, Naming, Pass, Piece};
 use std::alloc::{AllocError, Global};
 use std::marker::Brand;
 use std::sync::Wait;
 use std::sync::ledger::Blank;
 use std::thread::{Threads, join};
 
-/// One worker: draws numbers until there are none, and puts what came of each part. It stops where an allocation fails. A
-/// put is not refused, since each number is drawn once; if it were, the worker would stop too. It makes at most one draw more
-/// than there are parts.
+/// Why a worker stopped while there may have been numbers to draw.
+#[derive(Clone, Copy)]
+enum Stopped {
+    /// An allocation failed.
+    Memory,
+    /// Its piece was handed back. No worker puts a part that another one drew, so none is; but contracts know what lies
+    /// under a desk's lock by its type alone, and so no clause says it.
+    Double,
+}
+
+impl From<AllocError> for Stopped {
+    fn from(_refused: AllocError) -> Stopped {
+        Stopped::Memory
+    }
+}
+
+/// One worker: draws numbers until there are none, and puts what came of each part. It makes at most one draw more than
+/// there are parts.
+///
+/// # Errors
+///
+/// Where an allocation failed, or a piece was handed back; then it draws no more, and has drawn a part of which no piece was
+/// accepted. That memory was refused no clause can say.
 fn work<J: Job, N: Naming, R: Wait, G: Gate>(
     rt: &R,
     alloc: Global,
     desk: &Desk<'_, J, N>,
     job: &J,
-    pass: Pass<N>,
+    pass: &mut Pass<N>,
     round: Round,
     gate: &G,
-) -> Pass<N>
+) -> Result<(), Stopped>
     requires job { J.name job.now ≡ N.job }
-    requires of { IsOf pass desk.now }
-    requires open { IsOpen pass }
-    ensures workers { result.workers ≡ pass.workers }
-    ensures of { IsOf result desk.now }
+    requires of { IsOf pass.old desk.now }
+    requires drawn { pass.old.drawn ≡ [] }
+    requires share { pass.old.share ≡ 0 }
+    ensures kept { pass.new ≡ record pass.old { drawn = pass.new.drawn; share = pass.new.share } }
+    ensures drained { OnOk result (IsDrained pass.new) }
+    ensures stopped { OnErr result (IsBehind pass.new) }
 {
-    let mut pass = pass;
-    for _draw in 0..=job.parts() {
-        let Some(number) = desk.draw(&mut pass) else {
-            return pass;
+    let draws = job.parts() + 1;
+    for _draw in 0..draws {
+        let Some(number) = desk.draw(pass) else {
+            return Ok(());
         };
         gate.before(rt, round, number);
-        let Ok(content) = job.run(alloc, number) else {
-            return pass;
-        };
+        let content = job.run(alloc, number)?;
         let (first, events) = job.range(number);
         let piece = Piece {
             number,
@@ -46,12 +67,15 @@ fn work<J: Job, N: Naming, R: Wait, G: Gate>(
             events,
             content,
         };
-        if desk.put(rt, alloc, &mut pass, piece).is_err() {
-            return pass;
-        }
+        let Ok(()) = desk.put(rt, alloc, pass, piece) else {
+            return Err(Stopped::Double);
+        };
     }
-    pass
+    unreachable!()
 }
+
+/// The pass of several workers, and why one of them stopped, if one did.
+type Worked<N> = (Pass<N>, Result<(), Stopped>);
 
 /// Works alone where the pass stands for one worker. Else it splits the pass, and has one half of the workers on a new
 /// thread and the other half on its own.
@@ -63,30 +87,35 @@ fn crew<J: Job + Sync, N: Naming + Send + Sync, R: Threads + Wait + Sync, G: Gat
     pass: Pass<N>,
     round: Round,
     gate: &G,
-) -> Pass<N>
+) -> Worked<N>
     requires job { J.name job.now ≡ N.job }
     requires of { IsOf pass desk.now }
-    requires open { IsOpen pass }
-    ensures workers { result.workers ≡ pass.workers }
-    ensures of { IsOf result desk.now }
+    requires drawn { pass.drawn ≡ [] }
+    requires share { pass.share ≡ 0 }
+    ensures workers { result.0.workers ≡ pass.workers }
+    ensures of { IsOf result.0 desk.now }
+    ensures drained { OnOk result.1 (IsDrained result.0) }
+    ensures stopped { OnErr result.1 (IsBehind result.0) }
 {
     let workers = pass.workers();
     if workers < 2 {
-        return work(rt, alloc, desk, job, pass, round, gate);
+        let mut pass = pass;
+        let worked = work(rt, alloc, desk, job, &mut pass, round, gate);
+        return (pass, worked);
     }
     let (mine, other) = desk.split(pass, workers / 2);
-    let (theirs, ours) = join(
+    let ((theirs, they_worked), (ours, we_worked)) = join(
         rt,
-        move || -> Pass<N>
-            requires { IsSync R.row × (J.name job.now ≡ N.job) × IsOpen other × IsOf other desk.now }
-            ensures { (result.workers ≡ other.workers) × (result.table ≡ other.table) × (result.parts ≡ other.parts) }
+        move || -> Worked<N>
+            requires { IsSync R.row × (J.name job.now ≡ N.job) × IsOf other desk.now × (other.drawn ≡ []) × (other.share ≡ 0) }
+            ensures { (result.0.workers ≡ other.workers) × (result.0.table ≡ other.table) × (result.0.parts ≡ other.parts) × OnOk result.1 (IsDrained result.0) × OnErr result.1 (IsBehind result.0) }
         { crew(rt, alloc, desk, job, other, round, gate) },
-        move || -> Pass<N>
-            requires { IsSync R.row × (J.name job.now ≡ N.job) × IsOpen mine × IsOf mine desk.now }
-            ensures { (result.workers ≡ mine.workers) × (result.table ≡ mine.table) × (result.parts ≡ mine.parts) }
+        move || -> Worked<N>
+            requires { IsSync R.row × (J.name job.now ≡ N.job) × IsOf mine desk.now × (mine.drawn ≡ []) × (mine.share ≡ 0) }
+            ensures { (result.0.workers ≡ mine.workers) × (result.0.table ≡ mine.table) × (result.0.parts ≡ mine.parts) × OnOk result.1 (IsDrained result.0) × OnErr result.1 (IsBehind result.0) }
         { crew(rt, alloc, desk, job, mine, round, gate) },
     );
-    desk.rejoin(ours, theirs)
+    (desk.rejoin(ours, theirs), we_worked.and(they_worked))
 }
 
 /// Makes a desk that the type `N` names, has the crew work at it, and closes it.
@@ -108,9 +137,16 @@ fn run_named<J: Job + Sync, N: Naming + Send + Sync, R: Threads + Wait + Sync, G
     ensures { IfOk result (λ c. J.is_value (J.name job.now) 0 (J.parts_of (J.name job.now)) c) }
 {
     let (desk, pass): (Desk<'_, J, N>, Pass<N>) = Desk::new(alloc, blank, job, workers)?;
-    let pass = crew(rt, alloc, &desk, job, pass, round, gate);
-    // A part is missing only where a worker stopped because an allocation failed.
-    Desk::close(alloc, desk, pass).map_err(|_| AllocError)
+    let (pass, worked) = crew(rt, alloc, &desk, job, pass, round, gate);
+    match Desk::close(alloc, desk, pass) {
+        Ok(content) => Ok(content),
+        Err(CloseFault::Memory) => Err(AllocError),
+        // A piece of each part is put unless a worker stops.
+        Err(CloseFault::Missing { .. }) => match worked {
+            Err(_) => Err(AllocError),
+            Ok(()) => unreachable!(),
+        },
+    }
 }
 
 /// The job's value of all its parts, made by 1 to 64 workers: one on this thread, each other on a thread of its own. A
@@ -120,8 +156,10 @@ fn run_named<J: Job + Sync, N: Naming + Send + Sync, R: Threads + Wait + Sync, G
 /// # Errors
 ///
 /// Only where an allocation failed. A worker whose allocation fails stops, and the others go on; a join that was refused is
-/// tried once more at the close. A thread that can't be started is no error: the thread that was to start it does its share,
-/// behind its own.
+/// tried once more at the close. It's proved that a worker stops only at a part that it drew and of which no piece was
+/// accepted, and that a part can be missing at the close only where one stopped. That memory was refused there, or at a
+/// join, no clause can say, nor that no piece of a worker comes back as a double. A thread that can't be started is no
+/// error: the thread that was to start it does its share, behind its own.
 pub fn run_round<J: Job + Sync, R: Threads + Wait + Sync, G: Gate>(
     rt: &R,
     alloc: Global,
