@@ -344,6 +344,12 @@ judge 'a header that claims much' 1 '' "bad event 0: truncated$lf"
 timeout 30 "$spprof" check < "$folder/names" > "$folder/out" 2> "$folder/err"
 status=$?
 judge 'many long names' 0 "work 0$lf" ''
+# By name it takes no more room for its bytes than it has and a piece: the program itself, a list and a set of the names
+# take less than 10 MB. Room that grows by a quarter would be 1.5 MB too much.
+size=$(($(stat -c %s "$folder/names") / 1024))
+(ulimit -v $((size + 10000)) && exec timeout 30 "$spprof" check "$folder/names" > "$folder/out" 2> "$folder/err")
+status=$?
+judge 'many long names, by name' 0 "work 0$lf" ''
 
 expect 'a file by name' 0 "work 17$lf" '' /dev/null check "$small"
 cp "$small" "$folder/-a b"

@@ -8,8 +8,9 @@ use crate::sink::{Sink, WriteFault};
 ///
 /// # Errors
 ///
-/// Exactly the first `written` bytes went out, and the sink's count of failures rose or stands at its greatest
-/// value. Where all went out and only the finishing failed, `written` is the length of the text.
+/// Exactly the first `written` bytes went out without a failure; then the sink failed, so that its count of failures rose
+/// or stands at its greatest value, and no byte was written after that. Where all went out and only the finishing
+/// failed, `written` is the length of the text.
 pub fn write_out<S: Sink>(sink: &mut S, text: &[u8]) -> Result<(), WriteFault>
     ensures all { OnOk result (S.took sink.old text.now sink.new) }
     ensures finished { OnOk result (S.finished sink.new) }

@@ -6,13 +6,12 @@ use Rattle.spp_shell.specs.Endings.{RunEnds, WritingEnds, AnswersWell, RefusesIn
 use Rattle.spp_shell.specs.Inputs.{IsUnread, StayedWithin, first_place}
 use Rattle.spp_shell.specs.Requests.{text_for, line_for}
 use Rattle.spp_shell.specs.Troubles.{trouble_line}
-use Rattle.spp_shell.specs.declared.status.TheConstants.{GOOD, BAD_INPUT, DEVICE, MEMORY}
 use Rattle.spp_shell.specs.declared.trouble.Trouble.{Trouble}
 use Rattle.spp_shell.specs.declared.trouble.Trouble.TheVariants.{NoMemory}
 
 module _ (d : Devices) (request : Request) (status : ℕ) where
   -- the whole text went out
-  ends_good : status ≡ GOOD → AnswersWell d request → RunEnds d request status
+  ends_good : status ≡ 0 → AnswersWell d request → RunEnds d request status
   ends_good is well = record {
     known = inl is;
     good = λ _. well;
@@ -22,7 +21,7 @@ module _ (d : Devices) (request : Request) (status : ℕ) where
   }
 
   -- the input is refused
-  ends_bad : status ≡ BAD_INPUT → RefusesInput d request → RunEnds d request status
+  ends_bad : status ≡ 1 → RefusesInput d request → RunEnds d request status
   ends_bad is bad = record {
     known = inr (inl is);
     good = λ e. absurd (omega (arith, is, e));
@@ -32,7 +31,7 @@ module _ (d : Devices) (request : Request) (status : ℕ) where
   }
 
   -- a device failed
-  ends_failed : status ≡ DEVICE → OutputFails d request ⊎ InputFails d request → RunEnds d request status
+  ends_failed : status ≡ 3 → OutputFails d request ⊎ InputFails d request → RunEnds d request status
   ends_failed is failed = record {
     known = inr (inr (inl is));
     good = λ e. absurd (omega (arith, is, e));
@@ -42,7 +41,7 @@ module _ (d : Devices) (request : Request) (status : ℕ) where
   }
 
   -- an allocation failed
-  ends_out_of_memory : status ≡ MEMORY → MemoryFails d request → RunEnds d request status
+  ends_out_of_memory : status ≡ 4 → MemoryFails d request → RunEnds d request status
   ends_out_of_memory is failed = record {
     known = inr (inr (inr is));
     good = λ e. absurd (omega (arith, is, e));
@@ -58,16 +57,16 @@ module _ (d : Devices) (request : Request) (status : ℕ) where
   run_answered inputs text read is (inr (failed, wrote)) = ends_failed failed (inl (inputs, text, read, is, wrote))
 
   -- the bytes are refused by a line
-  pub run_refused : (inputs : List (List ℕ)) (line : List ℕ) → status ≡ BAD_INPUT → WasRead d.inputs inputs → line_for request.command inputs line
+  pub run_refused : (inputs : List (List ℕ)) (line : List ℕ) → status ≡ 1 → WasRead d.inputs inputs → line_for request.command inputs line
       → d.out.Untouched → Told d.err line → RunEnds d request status
   run_refused inputs line is read refused out told = ends_bad is (inputs, line, read, refused, out, told)
 
   -- an input could not be read
-  pub run_unread : (trouble : Trouble) → status ≡ DEVICE → IsUnread d.inputs (first_place request.command) trouble
+  pub run_unread : (trouble : Trouble) → status ≡ 3 → IsUnread d.inputs (first_place request.command) trouble
       → d.out.Untouched → Told d.err (trouble_line trouble) → RunEnds d request status
   run_unread trouble is unread out told = ends_failed is (inr (trouble, unread, out, told))
 
   -- an allocation failed
-  pub run_out_of_memory : status ≡ MEMORY → StayedWithin d.inputs (first_place request.command)
+  pub run_out_of_memory : status ≡ 4 → StayedWithin d.inputs (first_place request.command)
       → d.out.Untouched → Told d.err (trouble_line NoMemory) → RunEnds d request status
   run_out_of_memory is within out told = ends_out_of_memory is (within, out, told)

@@ -14,16 +14,15 @@ use Rattle.spp_shell.specs.declared.reading.ReadFault.{ReadFault}
 use Rattle.spp_shell.specs.declared.reading.ReadFault.TheVariants.{Device, TooLong, Memory}
 use Rattle.spp_shell.specs.declared.refusal.Refusal.{Refusal}
 use Rattle.spp_shell.specs.declared.refusal.Refusal.TheVariants as refusal
-use Rattle.spp_shell.specs.declared.status.TheConstants.{DEVICE}
 use Rattle.spp_shell.specs.declared.trouble.Trouble.{Trouble}
 
 -- an input that could not be read ends a run with the status of a device
-trouble_is_device : (place : Place) (fault : ReadFault) (trouble : Trouble) → IsTroubleOf place fault trouble → trouble_status trouble ≡ DEVICE
+trouble_is_device : (place : Place) (fault : ReadFault) (trouble : Trouble) → IsTroubleOf place fault trouble → trouble_status trouble ≡ 3
 trouble_is_device place Device trouble is = ap trouble_status is
 trouble_is_device place TooLong trouble is = ap trouble_status is
 trouble_is_device place Memory trouble is = absurd is
 
-pub unread_is_device : (d : Inputs) (first : Place) (trouble : Trouble) → IsUnread d first trouble → trouble_status trouble ≡ DEVICE
+pub unread_is_device : (d : Inputs) (first : Place) (trouble : Trouble) → IsUnread d first trouble → trouble_status trouble ≡ 3
 unread_is_device d first trouble (inl (fault, is, refused, unused)) = trouble_is_device first fault trouble is
 unread_is_device d first trouble (inr (fault, is, good, refused)) = trouble_is_device After fault trouble is
 

@@ -1,33 +1,42 @@
 -- What is known of the devices of a run when it has ended.
 use Rattle.std.specs.Prelude.{◌≡◌, ℕ, ◌≤◌, ◌^◌, ◌⊎◌, List, [], ◌∷◌, length, take, Option}
-use Rattle.spp_report.specs.Devices.{Raised}
+use Rattle.spp_report.specs.Devices.{FailedAfter}
 use Rattle.spp_shell.specs.Reading.{GaveAll, ReadWithin}
 use Rattle.spp_shell.specs.Refusals.{ReadRefused}
 use Rattle.spp_shell.specs.declared.reading.ReadFault.{ReadFault}
 
--- what is known of a device that takes bytes
+-- What is known of a device that takes bytes. Where its failures stood at their greatest value before, they tell nothing.
 pub record Taking : Type 1 where
   -- it took exactly these bytes
   pub Took : List ℕ → Type 0
   -- it says that it has sent on what it took
   pub Finished : Type 0
-  -- its failures rose, or stand at their greatest value
-  pub Failed : Type 0
+  -- it has no more failures than before
+  pub Unfailing : Type 0
+  -- it took exactly these bytes without a failure, then its failures rose, or stand at their greatest value, and it took
+  -- no more
+  pub FailedAfter : List ℕ → Type 0
   -- it was not used at all
   pub Untouched : Type 0
 
 -- the same of a sink, from its state before to that after
 abbrev pub taking_of : {D : Type 0} → (D → List ℕ → D → Type 0) → (D → Type 0) → (D → ℕ) → D → D → Taking
-taking_of took finished failures old new =
-    record { Took = λ text. took old text new; Finished = finished new; Failed = Raised (failures old) (failures new); Untouched = new ≡ old }
+taking_of took finished failures old new = record {
+  Took = λ text. took old text new;
+  Finished = finished new;
+  Unfailing = failures new ≡ failures old;
+  FailedAfter = λ text. FailedAfter took failures old text new;
+  Untouched = new ≡ old;
+}
 
--- it took exactly this text, and has sent it on
+-- it took exactly this text, has sent it on, and never failed
 abbrev pub TookWhole : Taking → List ℕ → Type 0
-TookWhole d text = d.Took text × d.Finished
+TookWhole d text = d.Took text × d.Finished × d.Unfailing
 
--- it took exactly a first part of the text, all of it perhaps, and failed
+-- It took exactly a first part of the text, and then it failed. That may be the whole text, where the sending on failed,
+-- or where it was sent on and something that was asked behind it failed.
 abbrev pub TookPart : Taking → List ℕ → Type 0
-TookPart d text = (n : ℕ) × (n ≤ length text) × d.Took (take n text) × d.Failed
+TookPart d text = (n : ℕ) × (n ≤ length text) × d.Took (take n text) × d.FailedAfter (take n text)
 
 -- it was told this line: it took the line whole, or failed at it
 abbrev pub Told : Taking → List ℕ → Type 0

@@ -1,6 +1,5 @@
 -- What a run may end with, by its status.
 use Rattle.std.specs.Prelude.{◌≡◌, ℕ, ◌⊎◌, List}
-use Rattle.spp_shell.specs.declared.status.TheConstants.{GOOD, BAD_INPUT, DEVICE, MEMORY}
 use Rattle.spp_request.specs.declared.request.Request.{Request}
 use Rattle.spp_shell.specs.declared.trouble.Trouble.{Trouble}
 use Rattle.spp_shell.specs.declared.trouble.Trouble.TheVariants.{CannotWrite, NoMemory}
@@ -9,8 +8,8 @@ use Rattle.spp_shell.specs.Inputs.{IsUnread, StayedWithin, first_place}
 use Rattle.spp_shell.specs.Requests.{text_for, line_for}
 use Rattle.spp_shell.specs.Troubles.{trouble_line}
 
--- A text is written to an output: the output takes it whole and nothing is told, or it fails before that, which is told
--- to the device for faults.
+-- A text is written to an output: the output takes it whole without a failure and nothing is told, or it fails, which is
+-- told to the device for faults.
 module _ (out err : Taking) (text : List ℕ) where
   abbrev pub WritesWell : Type 0
   WritesWell = TookWhole out text × err.Untouched
@@ -19,7 +18,7 @@ module _ (out err : Taking) (text : List ℕ) where
   WritesPart = TookPart out text × Told err (trouble_line CannotWrite)
 
   abbrev pub WritingEnds : ℕ → Type 0
-  WritingEnds status = ((status ≡ GOOD) × WritesWell) ⊎ ((status ≡ DEVICE) × WritesPart)
+  WritingEnds status = ((status ≡ 0) × WritesWell) ⊎ ((status ≡ 3) × WritesPart)
 
 module _ (d : Devices) (request : Request) where
   -- what the definitions give for the bytes of inputs: the text of the answer, or the line of fault
@@ -51,8 +50,8 @@ module _ (d : Devices) (request : Request) where
 
   -- what goes with each status
   pub record RunEnds (status : ℕ) : Type 0 where
-    pub known : (status ≡ GOOD) ⊎ (status ≡ BAD_INPUT) ⊎ (status ≡ DEVICE) ⊎ (status ≡ MEMORY)
-    pub good : status ≡ GOOD → AnswersWell
-    pub bad_input : status ≡ BAD_INPUT → RefusesInput
-    pub device : status ≡ DEVICE → OutputFails ⊎ InputFails
-    pub memory : status ≡ MEMORY → MemoryFails
+    pub known : (status ≡ 0) ⊎ (status ≡ 1) ⊎ (status ≡ 3) ⊎ (status ≡ 4)
+    pub good : status ≡ 0 → AnswersWell
+    pub bad_input : status ≡ 1 → RefusesInput
+    pub device : status ≡ 3 → OutputFails ⊎ InputFails
+    pub memory : status ≡ 4 → MemoryFails

@@ -5,7 +5,6 @@ use Rattle.spp_event.specs.declared.migrating.MigrateFault.TheVariants.{Bad}
 use Rattle.spp_event.specs.Header.{IsTraceOf}
 use Rattle.spp_event.specs.Migrating.{AreGoodTo, IsMigrateFault, compact}
 use Rattle.spp_event.specs.Recordings.{Recording}
-use Rattle.spp_frame.specs.declared.Fault.{Fault}
 use Rattle.spp_frame.specs.declared.Why.TheVariants as why
 use Rattle.spp_shell.specs.Check.{TellsHeader, event_line}
 

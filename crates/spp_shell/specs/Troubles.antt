@@ -2,7 +2,6 @@
 -- command line decide it.
 use Rattle.std.specs.Prelude.{ℕ, List, ◌++◌, codes}
 use Rattle.spp_report.specs.Figures.{line}
-use Rattle.spp_shell.specs.declared.status.TheConstants.{DEVICE, MEMORY}
 use Rattle.spp_shell.specs.declared.trouble.Trouble.{Trouble}
 use Rattle.spp_shell.specs.declared.trouble.Trouble.TheVariants.{CannotOpen, CannotRead, TooLong, CannotWrite, NoMemory}
 use Rattle.spp_shell.specs.Places.{place_words}
@@ -15,8 +14,8 @@ trouble_line CannotWrite = line (codes "cannot write output")
 trouble_line NoMemory = line (codes "out of memory")
 
 abbrev pub trouble_status : Trouble → ℕ
-trouble_status (CannotOpen place) = DEVICE
-trouble_status (CannotRead place) = DEVICE
-trouble_status (TooLong place) = DEVICE
-trouble_status CannotWrite = DEVICE
-trouble_status NoMemory = MEMORY
+trouble_status (CannotOpen place) = 3
+trouble_status (CannotRead place) = 3
+trouble_status (TooLong place) = 3
+trouble_status CannotWrite = 3
+trouble_status NoMemory = 4

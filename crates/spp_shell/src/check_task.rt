@@ -97,7 +97,7 @@ fn check_whole<S: Source>(
         filled,
         reads,
     };
-    match read_on(source, came, None) {
+    match read_on(source, came, hint, None) {
         Ok(Front::Whole(bytes)) => answer_check(alloc, bytes.as_slice()),
         Ok(Front::Part(_)) => unreachable!(),
         Err(fault) => Err(refusal_of_read(fault, Place::Only)),
@@ -107,14 +107,14 @@ fn check_whole<S: Source>(
 /// The work of the trace that an input is, as a text, or why there is none.
 ///
 /// The records of a trace of version 1 are checked as they come: the memory is that of its header, with room up to a
-/// quarter more, that of 65,536 bytes, and, until the header is opened, that for its names, linear in their number. Any
-/// other input is read whole, and so is one for whose names memory is refused.
+/// quarter more but within the source's hint, that of 65,536 bytes, and, until the header is opened, that for its names,
+/// linear in their number. Any other input is read whole, and so is one for whose names memory is refused.
 pub(crate) fn check_input<S: Source>(alloc: Global, source: &mut S) -> Result<Vec<u8>, Refusal>
     ensures text { IfOk result (λ text. (bytes : List ℕ) × (giving_of S.answered S.failed S.failures source.old source.new).Gave bytes × IsCheckText (bytes ∷ []) text.items) }
     ensures refused { IfErr result (IsInputRefused (giving_of S.answered S.failed S.failures source.old source.new) Only IsOneCheckLine) }
 {
     let hint = source.hint();
-    let front = match read_on(source, Came::nothing(alloc), Some(HeaderEnd::new())) {
+    let front = match read_on(source, Came::nothing(alloc), hint, Some(HeaderEnd::new())) {
         Ok(front) => front,
         Err(fault) => return Err(refusal_of_read(fault, Place::Only)),
     };

@@ -29,31 +29,41 @@ pub const INPUT_LIMIT: u64 = 1 << 33;
 /// The bytes that are read at a time, where so many come: enough that the calls of the system cost little.
 pub(crate) const PIECE: usize = 65536;
 
-/// Makes room, that which is there counted, for all the bytes that are likely to come, but for no more than `most`, and for
-/// one piece more, so that the end is seen. Where memory for it is refused, none is made.
+/// How much room is needed where the hint is right: that for all the bytes that are likely to come, but for no more than
+/// `most`, and for one piece more, so that the end is seen.
+fn likely_room(hint: Option<u64>, most: u64) -> Option<usize> {
+    let likely = usize::try_from(hint?.min(most)).ok()?;
+    Some(likely.saturating_add(PIECE))
+}
+
+/// Makes that room, what is there counted. Where memory for it is refused, none is made.
 pub(crate) fn make_first_room(bytes: &mut Vec<u8>, hint: Option<u64>, most: u64)
     ensures { bytes.new.items ≡ bytes.old.items }
 {
-    let Some(hint) = hint else {
-        return;
-    };
-    let Ok(likely) = usize::try_from(hint.min(most)) else {
-        return;
-    };
-    let room = likely.saturating_add(PIECE);
-    let _refused = bytes.reserve_exact(room.saturating_sub(bytes.len()));
+    if let Some(room) = likely_room(hint, most) {
+        let _refused = bytes.reserve_exact(room.saturating_sub(bytes.len()));
+    }
 }
 
 /// Sees to it that there is room behind the first `filled` bytes. Where there is none it grows by a quarter, but by
-/// one piece at least.
-pub(crate) fn make_room(bytes: &mut Vec<u8>, filled: usize) -> Result<(), AllocError>
+/// one piece at least, and to no more than the room that a hint asks for, until as much came.
+pub(crate) fn make_room(
+    bytes: &mut Vec<u8>,
+    filled: usize,
+    hint: Option<u64>,
+) -> Result<(), AllocError>
     requires { filled ≤ length bytes.old.items }
     ensures room { OnOk result (filled < length bytes.new.items) }
     ensures kept { OnOk result (take filled bytes.new.items ≡ take filled bytes.old.items) }
 {
     if filled == bytes.len() {
         if bytes.capacity() < filled + PIECE {
-            bytes.reserve_exact(PIECE.max(filled / 4))?;
+            let grown = PIECE.max(filled / 4);
+            let more = match likely_room(hint, INPUT_LIMIT) {
+                Some(room) if filled + PIECE <= room => grown.min(room - filled),
+                _ => grown,
+            };
+            bytes.reserve_exact(more)?;
         }
         bytes.resize(filled + PIECE, 0)?;
     }
@@ -105,7 +115,7 @@ pub fn read_within<S: Source>(
     make_first_room(&mut bytes, source.hint(), most);
     let mut filled = 0;
     for _ in 0..turns {
-        let Ok(()) = make_room(&mut bytes, filled) else {
+        let Ok(()) = make_room(&mut bytes, filled, None) else {
             return Err(ReadFault::Memory);
         };
         let Ok(answer) = pull_behind(source, &mut bytes, filled) else {

@@ -54,8 +54,8 @@ pub(crate) fn read_more<S: Source>(
     Ok(Some(more))
 }
 
-/// Reads on behind what came, until a header ends within the bytes, where one is looked for, or the input ends. The bounds
-/// of [`INPUT_LIMIT`] hold for all reads together.
+/// Reads on behind what came, until a header ends within the bytes, where one is looked for, or the input ends. The hint is
+/// what the source told of its length. The bounds of [`INPUT_LIMIT`] hold for all reads together.
 ///
 /// # Errors
 ///
@@ -63,6 +63,7 @@ pub(crate) fn read_more<S: Source>(
 pub(crate) fn read_on<S: Source>(
     source: &mut S,
     came: Came,
+    hint: Option<u64>,
     mut header: Option<HeaderEnd>,
 ) -> Result<Front, ReadFault>
     ensures read { (s : S) → HasRead S.answered S.failed S.failures came.reads s (take came.filled came.bytes.items) source.old → IfOk result (λ front. IsFront S.answered S.failed S.failures s source.new front) }
@@ -75,7 +76,7 @@ pub(crate) fn read_on<S: Source>(
         reads,
     } = came;
     for turn in reads..INPUT_LIMIT {
-        let Ok(()) = make_room(&mut bytes, filled) else {
+        let Ok(()) = make_room(&mut bytes, filled, hint) else {
             return Err(ReadFault::Memory);
         };
         match read_more(source, &mut bytes, filled, 0) {

@@ -151,7 +151,7 @@ impl RecordStream {
             mut before,
         } = self;
         for _ in reads..INPUT_LIMIT {
-            let Ok(()) = make_room(&mut bytes, filled) else {
+            let Ok(()) = make_room(&mut bytes, filled, None) else {
                 return Err(ReadFault::Memory);
             };
             let more = match read_more(source, &mut bytes, filled, before) {

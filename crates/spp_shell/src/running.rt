@@ -62,9 +62,10 @@ fn answer<R: Threads + Wait + Sync + RandomSource, S: Source, T: Source>(
 /// One run of the program: reads the inputs, answers the request, and writes the whole answer to `out`, or one line of
 /// fault to `err`. Gives the exit status:
 ///
-/// - 0: `out` took exactly the text that the definitions give for the bytes read.
+/// - 0: `out` took exactly the text that the definitions give for the bytes read, and never failed.
 /// - 1: the definitions refuse these bytes, and `err` was told their line of fault.
-/// - 3: `out` failed after a first part of that text; or an input failed, or was too long, and `out` is untouched.
+/// - 3: `out` failed after a first part of that text, and took no more; or an input failed, or was too long, and `out` is
+///   untouched.
 /// - 4: an allocation failed, and `out` is untouched.
 ///
 /// Only `compare` reads `second`, after the run that `first` gives was profiled, and only where that trace is good.

@@ -6,7 +6,7 @@ ghost use Rattle.spp_shell.specs.Usage.{UsageEnds};
 ghost use Rattle.spp_shell.specs.declared.trouble.Trouble.TheVariants.{CannotOpen, TooLong};
 
 use crate::place::Place;
-use crate::status::{DEVICE, GOOD};
+use crate::status::GOOD;
 use crate::trouble::Trouble;
 use crate::writing::{tell, tell_trouble, write_answer};
 use spp_report::Sink;
@@ -14,7 +14,7 @@ use spp_request::UsageFault;
 
 /// Tells that an input cannot be opened. Gives the exit status.
 pub fn refuse_input<E: Sink>(place: Place, err: &mut E) -> u8
-    ensures status { result ≡ DEVICE }
+    ensures status { result ≡ 3 }
     ensures told { Told (taking_of E.took E.finished E.failures err.old err.new) (trouble_line (CannotOpen place)) }
 {
     tell_trouble(err, Trouble::CannotOpen(place))
@@ -23,7 +23,7 @@ pub fn refuse_input<E: Sink>(place: Place, err: &mut E) -> u8
 /// Tells that an input is longer than [`INPUT_LIMIT`](crate::INPUT_LIMIT), where that is known before it is read.
 /// Gives the exit status.
 pub fn refuse_long_input<E: Sink>(place: Place, err: &mut E) -> u8
-    ensures status { result ≡ DEVICE }
+    ensures status { result ≡ 3 }
     ensures told { Told (taking_of E.took E.finished E.failures err.old err.new) (trouble_line (TooLong place)) }
 {
     tell_trouble(err, Trouble::TooLong(place))

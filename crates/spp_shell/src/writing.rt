@@ -27,7 +27,7 @@ pub(crate) fn tell_trouble<E: Sink>(err: &mut E, trouble: Trouble) -> u8
     trouble.status()
 }
 
-/// Writes a whole text to `out`, or tells `err` that this failed. Gives the exit status.
+/// Writes a whole text to `out`, or tells `err` that this failed, after which nothing is written. Gives the exit status.
 pub(crate) fn write_answer<O: Sink, E: Sink>(text: &[u8], out: &mut O, err: &mut E) -> u8
     ensures { WritingEnds (taking_of O.took O.finished O.failures out.old out.new) (taking_of E.took E.finished E.failures err.old err.new) text.now result }
 {

@@ -2,6 +2,9 @@
 //! gives.
 #![tactic(auto)]
 
+ghost use Rattle.std.specs.Prelude.{IfErr};
+ghost use Rattle.spp_shell.specs.Usage.{GoesWith};
+
 use spp_command_line::read_request;
 use spp_report::{OutSink, Sink};
 use spp_request::{Command, Request, UsageFault};
@@ -19,7 +22,9 @@ use std::thread::Threads;
 use std::{env, fs, io};
 
 /// The words of the command line.
-fn words<R: Env + AllocGlobal>(rt: &R) -> Result<Vec<String>, UsageFault> {
+fn words<R: Env + AllocGlobal>(rt: &R) -> Result<Vec<String>, UsageFault>
+    ensures { IfErr result (GoesWith 2) }
+{
     match env::args(rt) {
         Ok(args) => Ok(args.collect(rt.alloc())?),
         Err(e) if e.kind() == ErrorKind::OutOfMemory => Err(UsageFault::Memory),
