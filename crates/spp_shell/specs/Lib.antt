@@ -12,6 +12,7 @@ pub mod Migrate
 pub mod Figures
 pub mod Profiles
 pub mod Compare
+pub mod Laws
 pub mod Inputs
 pub mod Requests
 pub mod Tasks

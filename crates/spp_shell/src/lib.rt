@@ -9,6 +9,7 @@ mod figures_task;
 mod header_end;
 mod in_source;
 mod input;
+mod laws;
 mod migrate_task;
 mod opening;
 mod place;
@@ -25,6 +26,7 @@ mod usage;
 mod writing;
 
 pub use in_source::InSource;
+pub use laws::migrate_laws;
 pub use place::Place;
 pub use reading::{INPUT_LIMIT, ReadFault, read_all, read_within};
 pub use running::run;
