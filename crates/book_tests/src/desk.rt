@@ -4,7 +4,7 @@ ghost use Rattle.std.specs.Prelude.{◌≡◌, ◌<◌, ◌≤◌};
 ghost use Rattle.spp_book.specs.Desks.{IsOf};
 
 use crate::list_job::{ListJob, Listed};
-use spp_book::{CloseFault, Desk, Naming, Pass, Refused, Why};
+use spp_book::{CloseFault, Desk, Front, Naming, Pass, Refused, Why};
 use std::alloc::{AllocError, Global};
 use std::marker::Brand;
 use std::sync::Wait;
@@ -139,6 +139,74 @@ fn the_front_of_a_desk(rt: HostRuntime) -> Result<(), Fail> {
     let told = at_desk(&rt, rt.alloc(), &job, &[(1, 1), (2, 2), (0, 0)])?;
     assert!(rt; told.front == (2, 3) && has_joined(&told, &[5, 7]));
     assert!(rt; has_closed(&told, &[5, 7, 9]));
+    Ok(())
+}
+
+/// What two passes of one desk are shown after both put pieces, and what the desk then closes with.
+#[derive(Drop)]
+struct Shown {
+    mine: Front<Listed>,
+    other: Front<Listed>,
+    closed: Result<Listed, CloseFault>,
+}
+
+/// Two passes of one desk put these pieces, and each looks at the front. Then the desk is closed.
+fn shown_at<N: Naming, R: Wait>(
+    rt: &R,
+    alloc: Global,
+    blank: Blank,
+    job: &ListJob<'_>,
+    pieces: (&[(u32, u32)], &[(u32, u32)]),
+) -> Result<Shown, AllocError>
+    requires name { blank.name ≡ N.name }
+    requires parts { (blank.parts ≡ N.parts) × (N.parts ≡ 2) }
+    requires job { job.now.numbers.now ≡ N.job }
+{
+    let (first, second) = pieces;
+    let (desk, pass): (Desk<'_, ListJob<'_>, N>, Pass<N>) = Desk::new(alloc, blank, job, 2)?;
+    let (mut pass, mut other_pass) = desk.split(pass, 1);
+    put_all(rt, alloc, &desk, job, &mut pass, first)?;
+    put_all(rt, alloc, &desk, job, &mut other_pass, second)?;
+    let mine = desk.front(rt, alloc, &mut pass)?;
+    let other = desk.front(rt, alloc, &mut other_pass)?;
+    let whole = desk.rejoin(pass, other_pass);
+    Ok(Shown {
+        mine,
+        other,
+        closed: Desk::close(alloc, desk, whole),
+    })
+}
+
+/// What two passes of a desk of its own are shown after they put these pieces.
+fn shown_to_two<R: Wait>(
+    rt: &R,
+    alloc: Global,
+    job: &ListJob<'_>,
+    pieces: (&[(u32, u32)], &[(u32, u32)]),
+) -> Result<Shown, AllocError> {
+    shown_at::<Brand, R>(rt, alloc, Blank::new(2), job, pieces)
+}
+
+/// Whether a front has these numbers, of so many accepted parts.
+fn is_front(front: &Front<Listed>, numbers: &[u32], accepted: u32) -> bool {
+    front.parts as usize == numbers.len()
+        && front.accepted == accepted
+        && front
+            .content
+            .as_ref()
+            .is_some_and(|listed| listed.as_slice() == numbers)
+}
+
+#[test]
+fn a_split_pass_is_shown_the_front_of_an_unfinished_desk(rt: HostRuntime) -> Result<(), Fail> {
+    let job = ListJob::new(&[5, 7, 9, 11]);
+    let told = shown_to_two(&rt, rt.alloc(), &job, (&[(0, 0)], &[(1, 1), (3, 3)]))?;
+    assert!(rt; is_front(&told.mine, &[5, 7], 3) && is_front(&told.other, &[5, 7], 3));
+    assert!(rt; matches!(told.closed, Err(CloseFault::Missing { number: 2 })));
+    // The first pass has put nothing itself.
+    let told = shown_to_two(&rt, rt.alloc(), &job, (&[], &[(3, 3), (0, 0)]))?;
+    assert!(rt; is_front(&told.mine, &[5], 2) && is_front(&told.other, &[5], 2));
+    assert!(rt; matches!(told.closed, Err(CloseFault::Missing { number: 1 })));
     Ok(())
 }
 
