@@ -1,4 +1,4 @@
-use Rattle.std.proofs.Common.{List, sym, subst}
+use Rattle.std.proofs.Common.{sym, subst}
 use Rattle.spp_book.specs.Worlds.{MayRun}
 use Rattle.book_tests.specs.Lists.{list_parts, list_range, IsRange}
 use Rattle.book_tests.proofs.Runs.{may_push}
