@@ -133,6 +133,16 @@ each_refused 'encode, bytes that are no text' 1 0 '' 'bad text line 2: word' "$f
 each_refused 'migrate, a recorded trace' 0 0 'SPTRACE2*' '' "$examples/nqueens.sptrace" "$spprof" migrate
 each_refused 'migrate, a bad event' 1 0 '' 'bad event 4: tag' "$folder/tag" "$spprof" migrate
 each_refused 'check, version 2' 0 0 'work 32744' '' "$examples/nqueens.compact" "$spprof" check
+# Headers of more than one piece, which is 65,536 bytes: the names of 400 sites have 200 bytes each.
+sites() { # COUNT: the lines of so many sites, with names of 200 bytes
+    awk -v count="$1" 'BEGIN { pad = sprintf("%195s", ""); for (n = 0; n < count; n++) printf "site %s%05d\n", pad, n }'
+}
+{ echo 'func f' && sites 400 && echo 'strand 5'; } | "$spprof" encode > "$folder/names"
+"$spprof" migrate < "$folder/names" > "$folder/names.compact"
+each_refused 'check, a long header' 0 0 'work 5' '' "$folder/names" "$spprof" check
+each_refused 'check, a long header by name' 0 0 'work 5' '' /dev/null "$spprof" check "$folder/names"
+each_refused 'check, a long header of version 2' 0 0 'work 5' '' "$folder/names.compact" "$spprof" check
+each_refused 'check, one of version 2 by name' 0 0 'work 5' '' /dev/null "$spprof" check "$folder/names.compact"
 each_refused 'profile, version 2' 0 10 'work 32744*' '' "$examples/nqueens.compact" "$spprof" profile
 # An input of 69 MB, for the peaks below.
 awk 'BEGIN { print "func f"; for (n = 0; n < 4300000; n++) print "strand", n % 7 }' | "$spprof" encode > "$folder/long"
@@ -166,6 +176,12 @@ peaks_within $((size * 11 / 10)) 0 "$folder/long" figures --workers 1 "$folder/l
 # program.
 peaks_within 20000 0 "$folder/long" check
 peaks_within 20000 0 "$folder/long" check "$folder/long"
+# Of one with a header of 13 MB too: the peak is that of the header, with a quarter more at most, and of its names.
+{ echo 'func f' && sites 65536 && awk 'BEGIN { for (n = 0; n < 4300000; n++) print "strand", n % 7 }'; } | "$spprof" encode \
+    > "$folder/headed"
+size=$(($(stat -c %s "$folder/headed") / 1024))
+peaks_within 24000 0 "$folder/headed" check
+peaks_within 24000 0 "$folder/headed" check "$folder/headed"
 { echo 'func f' && yes "strand $((2 ** 63 - 1))" | head -n 5800000; } | "$spprof" encode | "$spprof" migrate > "$folder/compact"
 size=$(($(stat -c %s "$folder/compact") / 1024))
 peaks_within $((size * 13 / 10)) 0 "$folder/compact" check

@@ -14,8 +14,14 @@ use std::sync::Wait;
 use std::test::Fail;
 use std::thread::Threads;
 
+/// The size of the piece that the read of this number gives, from 0: they come in turn.
+fn size_at(sizes: &[usize], read: usize) -> usize {
+    let turn = read.checked_rem(sizes.len()).unwrap_or(0);
+    sizes.get(turn).copied().unwrap_or(1)
+}
+
 /// One of std's readers that gives pieces of these sizes in turn, and is interrupted where one is 0. It fails at the read
-/// of number `fails_at`, from 0.
+/// of number `fails_at`, from 0, and at no other.
 #[derive(Drop)]
 struct Pieces<'a> {
     bytes: &'a [u8],
@@ -31,8 +37,7 @@ impl Read for Pieces<'_> {
         if read == self.fails_at {
             return Err(ErrorKind::Other.into());
         }
-        let turn = read.checked_rem(self.sizes.len()).unwrap_or(0);
-        let size = self.sizes.get(turn).copied().unwrap_or(1);
+        let size = size_at(self.sizes, read);
         if size == 0 {
             return Err(ErrorKind::Interrupted.into());
         }
@@ -247,18 +252,49 @@ fn a_bad_event_is_told_wherever_it_stands(rt: HostRuntime) -> Result<(), Fail> {
     Ok(())
 }
 
-/// A device that fails, whatever came before: the trace is good, has a bad event, or too many bytes.
+/// How many reads give so many bytes in pieces of these sizes, and then their end.
+fn reads_of(len: usize, sizes: &[usize]) -> usize {
+    let mut left = len;
+    for read in 0..1000usize {
+        let size = size_at(sizes, read);
+        if left == 0 && size > 0 {
+            return read + 1;
+        }
+        left = left.saturating_sub(size);
+    }
+    0
+}
+
+/// A device that fails at any read, that of the end too: the trace is good, has a bad event, or a byte too many.
 #[test]
 fn a_failure_is_told_before_what_came(rt: HostRuntime) -> Result<(), Fail> {
-    let mut bytes = trace(rt.alloc(), 2, 10)?;
-    bytes.push(0)?;
-    bytes.extend_from_slice(record_of(Event::Ret).as_slice())?;
-    let line = b"cannot read input\n".as_slice();
-    for sizes in [[1usize].as_slice(), [16].as_slice(), [50, 0, 9].as_slice()] {
-        for fails_at in 0..5 {
-            let ending = got(&rt, bytes.as_slice(), sizes, fails_at, None);
-            let is_told = ending.text.is_empty() && ending.line.as_slice() == line;
-            assert_eq!(rt; (ending.status, is_told), (3, true));
+    let alloc = rt.alloc();
+    let good = trace(alloc, 2, 10)?;
+    let mut bad = trace(alloc, 2, 10)?;
+    let tag = bad.len().saturating_sub(9 * 16);
+    assert!(rt; tag < bad.len());
+    bad.as_mut_slice()[tag] = 9;
+    let mut long = trace(alloc, 2, 10)?;
+    long.push(0)?;
+    let told = Ending {
+        status: 3,
+        text: Vec::new(alloc),
+        line: b"cannot read input\n".as_slice().to_vec(alloc)?,
+    };
+    for (bytes, line) in [
+        (good.as_slice(), b"".as_slice()),
+        (bad.as_slice(), b"bad event 1: tag\n".as_slice()),
+        (long.as_slice(), b"bad header: trailing\n".as_slice()),
+    ] {
+        let wanted = wanted(alloc, bytes)?;
+        assert_eq!(rt; wanted.line.as_slice(), line);
+        for sizes in SMALL {
+            let reads = reads_of(bytes.len(), sizes);
+            for fails_at in 0..reads {
+                let ending = got(&rt, bytes, sizes, fails_at, None);
+                assert!(rt; told.is(&ending), "{fails_at} of {reads}");
+            }
+            assert!(rt; wanted.is(&got(&rt, bytes, sizes, reads, None)), "{reads}");
         }
     }
     Ok(())

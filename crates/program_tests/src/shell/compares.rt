@@ -5,7 +5,7 @@ use super::fakes::{Drip, dripping, empty_cup, failing, unread};
 use spp_cut::Parts;
 use spp_event::{Event, record_of};
 use spp_request::{Command, Request, Workers};
-use spp_shell::{run, status};
+use spp_shell::run;
 use std::alloc::{AllocError, Global};
 use std::random::RandomSource;
 use std::sync::Wait;
@@ -197,7 +197,7 @@ fn the_first_input_is_told_first_and_the_second_is_not_read(rt: HostRuntime) -> 
     }
     let first = failing(bad.as_slice(), 3);
     let line = "before: cannot read input\n";
-    assert!(rt; ends_with(&rt, &request, first, unread(), status::DEVICE, "", line));
+    assert!(rt; ends_with(&rt, &request, first, unread(), 3, "", line));
     Ok(())
 }
 
@@ -215,7 +215,7 @@ fn a_fault_of_the_second_input_is_told_as_its_own(rt: HostRuntime) -> Result<(),
     }
     let first = dripping(good.as_slice());
     let line = "after: cannot read input\n";
-    assert!(rt; ends_with(&rt, &request, first, unread(), status::DEVICE, "", line));
+    assert!(rt; ends_with(&rt, &request, first, unread(), 3, "", line));
     Ok(())
 }
 
@@ -235,7 +235,7 @@ fn an_output_that_fails_has_the_first_bytes_of_a_comparison(rt: HostRuntime) -> 
             &mut out,
             &mut err,
         );
-        assert_eq!(rt; ends, status::DEVICE);
+        assert_eq!(rt; ends, 3);
         assert_eq!(rt; Some(out.taken.as_slice()), BESIDE.as_bytes().get(..room));
         assert_eq!(rt; err.taken.as_slice(), b"cannot write output\n".as_slice());
     }

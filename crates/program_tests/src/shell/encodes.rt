@@ -3,7 +3,7 @@
 use super::commands::{command_ends_with, request_for};
 use super::fakes::{dripping, empty_cup, unread};
 use spp_request::Command;
-use spp_shell::{run, status};
+use spp_shell::run;
 use std::random::RandomSource;
 use std::sync::Wait;
 use std::thread::Threads;
@@ -64,7 +64,7 @@ fn an_output_that_fails_has_the_first_bytes(rt: HostRuntime) {
             &mut out,
             &mut err,
         );
-        assert_eq!(rt; ends, status::DEVICE);
+        assert_eq!(rt; ends, 3);
         assert_eq!(rt; Some(out.taken.as_slice()), TRACE.get(..room));
         assert_eq!(rt; err.taken.as_slice(), b"cannot write output\n".as_slice());
     }

@@ -2,10 +2,12 @@
 
 use super::commands::{command_ends_with, request_for};
 use super::fakes::{Cup, dripping, empty_cup, failing, unread};
-use spp_report::Sink;
+use spp_report::{OutSink, Sink};
 use spp_request::{Command, Request, UsageFault};
-use spp_shell::{Place, refuse_input, refuse_long_input, run, show_usage, status};
+use spp_shell::{Place, refuse_input, refuse_long_input, run, show_usage};
 use std::alloc::{AllocError, Global};
+use std::io;
+use std::io::{ErrorKind, Write};
 use std::random::RandomSource;
 use std::sync::Wait;
 use std::test::Fail;
@@ -104,12 +106,85 @@ fn an_output_that_fails_ends_with_status_3(rt: HostRuntime) -> Result<(), Fail> 
             &mut out,
             &mut err,
         );
-        assert_eq!(rt; ends, status::DEVICE);
+        assert_eq!(rt; ends, 3);
         assert_eq!(rt;
             Some(out.taken.as_slice()),
             b"work 0\n".as_slice().get(..room)
         );
         assert_eq!(rt; err.taken.as_slice(), b"cannot write output\n".as_slice());
+    }
+    Ok(())
+}
+
+/// One of std's writers that takes three bytes at a time, and fails once: at the write or flush of number `fails_at`,
+/// from 0.
+#[derive(Drop)]
+struct Hiccup {
+    taken: Vec<u8>,
+    calls: usize,
+    fails_at: usize,
+}
+
+impl Hiccup {
+    fn fail_once(&mut self) -> io::Result<()> {
+        let call = self.calls;
+        self.calls = call.saturating_add(1);
+        if call == self.fails_at {
+            return Err(ErrorKind::Other.into());
+        }
+        Ok(())
+    }
+}
+
+impl Write for Hiccup {
+    fn write(&mut self, buf: &[u8]) -> io::Result<usize> {
+        self.fail_once()?;
+        let n = buf.len().min(3);
+        match self.taken.extend_from_slice(&buf[..n]) {
+            Ok(()) => Ok(n),
+            Err(_) => Err(ErrorKind::OutOfMemory.into()),
+        }
+    }
+
+    fn flush(&mut self) -> io::Result<()> {
+        self.fail_once()
+    }
+}
+
+/// The answer takes three writes and a flush. Where one of them fails, nothing is asked of the output afterwards, though
+/// it would take bytes again.
+#[test]
+fn an_output_that_fails_once_is_not_written_to_again(rt: HostRuntime) -> Result<(), Fail> {
+    let bytes = trace_of(rt.alloc(), [CALL, RETURN])?;
+    let text = b"work 0\n".as_slice();
+    let line = b"cannot write output\n".as_slice();
+    for (fails_at, ends, taken, told, calls) in [
+        (0, 3, b"".as_slice(), line, 1),
+        (1, 3, b"wor".as_slice(), line, 2),
+        (2, 3, b"work 0".as_slice(), line, 3),
+        (3, 3, text, line, 4),
+        (4, 0, text, b"".as_slice(), 4),
+    ] {
+        let mut out = OutSink::new(Hiccup {
+            taken: Vec::new(rt.alloc()),
+            calls: 0,
+            fails_at,
+        });
+        let mut err = empty_cup(rt.alloc(), 100);
+        let got = run(
+            &rt,
+            rt.alloc(),
+            &check_input(rt.alloc()),
+            &mut dripping(bytes.as_slice()),
+            &mut unread(),
+            &mut out,
+            &mut err,
+        );
+        assert_eq!(rt; got, ends, "call {fails_at}");
+        assert_eq!(rt; err.taken.as_slice(), told, "call {fails_at}");
+        let writer = out.into_inner();
+        assert_eq!(rt; writer.taken.as_slice(), taken, "call {fails_at}");
+        assert_eq!(rt; writer.calls, calls, "call {fails_at}");
     }
     Ok(())
 }
@@ -129,7 +204,7 @@ fn an_input_that_fails_ends_with_status_3(rt: HostRuntime) -> Result<(), Fail> {
             &mut out,
             &mut err,
         );
-        assert_eq!(rt; ends, status::DEVICE);
+        assert_eq!(rt; ends, 3);
         assert_eq!(rt; out.taken.len(), 0);
         assert_eq!(rt; err.taken.as_slice(), b"cannot read input\n".as_slice());
     }
@@ -148,7 +223,7 @@ fn a_device_for_faults_that_fails_changes_nothing_else(rt: HostRuntime) {
         &mut out,
         &mut err,
     );
-    assert_eq!(rt; ends, status::BAD_INPUT);
+    assert_eq!(rt; ends, 1);
     assert_eq!(rt; out.taken.len(), 0);
     assert_eq!(rt; err.failures(), 1);
 }
@@ -204,7 +279,7 @@ fn an_input_that_cannot_be_opened_is_told(rt: HostRuntime) {
         (Place::After, "after: cannot open input\n"),
     ] {
         let mut err = empty_cup(rt.alloc(), 100);
-        assert_eq!(rt; refuse_input(place, &mut err), status::DEVICE);
+        assert_eq!(rt; refuse_input(place, &mut err), 3);
         assert_eq!(rt; err.taken.as_slice(), line.as_bytes());
     }
 }
@@ -217,7 +292,7 @@ fn an_input_that_is_too_long_is_told(rt: HostRuntime) {
         (Place::After, "after: input too long\n"),
     ] {
         let mut err = empty_cup(rt.alloc(), 100);
-        assert_eq!(rt; refuse_long_input(place, &mut err), status::DEVICE);
+        assert_eq!(rt; refuse_long_input(place, &mut err), 3);
         assert_eq!(rt; err.taken.as_slice(), line.as_bytes());
     }
 }
