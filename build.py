@@ -18,9 +18,15 @@ import subprocess
 import sys
 import tempfile
 import threading
+import time
 
 TOP = os.path.dirname(os.path.realpath(__file__))
 PROCESSORS = len(os.sched_getaffinity(0))
+# How many seconds the longest crates take on four cores of 2.5 GHz. The others are short, or go beside these.
+SECONDS = {
+    "spp_event": 120, "spp_frame": 80, "spp_dag": 40, "spp_piece": 45, "spp_summary": 120, "spp_stack": 70, "spp_path": 310,
+    "spp_pass": 310, "spp_jobs": 90, "spp_crew": 220, "spp_shell": 245, "spprof": 240,
+}
 
 
 def toolchain():
@@ -66,25 +72,57 @@ def refuse(name, said):
     tell(f"the build failed at {name}; all that it said is in {log.name}")
 
 
+class Clock:
+    """Tells how far a build is, and how long the rest takes: what SECONDS says of it, at the pace of what has been proved."""
+
+    def __init__(self, crates):
+        self.crates, self.began, self.done, self.took, self.planned = crates, {}, [], 0, 0
+
+    def begin(self, crate):
+        self.began[crate] = time.monotonic()
+
+    def end(self, crate):
+        took, planned = time.monotonic() - self.began[crate], SECONDS.get(crate.name, 0)
+        self.done.append(crate)
+        # A crate that took hardly any time was proved already, and says nothing of the pace.
+        if took > planned / 10 > 0:
+            self.took, self.planned = self.took + took, self.planned + planned
+
+    def tell(self):
+        pace, now, left = self.took / self.planned if self.planned else 1, time.monotonic(), {}
+        for it in self.crates:
+            own = SECONDS.get(it.name, 0) * pace - (now - self.began.get(it, now))
+            own = 0 if it in self.done else max(own, 0)
+            left[it] = own + max((left[low] for low in it.below()), default=0)
+        minutes = max(1, round(left[self.crates[-1]] / 60))
+        tell(f"{len(self.done)} of {len(self.crates)} crates; about {minutes} minute{'s' * (minutes > 1)} left")
+
+
 def prove_all(rt, crates):
-    """Proves libraries, each after those that it stands on, and returns whether all are proved."""
-    behind = {}
-    for it in reversed(crates):
-        above = [behind[other] for other in crates if it in other.below()]
+    """Proves libraries, each after those that it stands on, and returns whether all are proved. The program is the last of
+    these crates, and isn't proved here."""
+    behind, clock = {}, Clock(crates)
+    for it in reversed(crates[:-1]):
+        above = [behind[other] for other in crates[:-1] if it in other.below()]
         behind[it] = it.count(rb"\n") + max(above, default=0)
-    left, running, done, ended = sorted(crates, key=lambda it: -behind[it]), [], [], queue.Queue()
+    left, running, ended = sorted(crates[:-1], key=lambda it: -behind[it]), [], queue.Queue()
     while left or running:
-        ready = [it for it in left if all(low in done for low in it.below())]
+        ready = [it for it in left if all(low in clock.done for low in it.below())]
         for it in ready[: at_a_time(rt) - len(running)]:
             is_first = all(behind[it] >= behind[other] for other in running)
             left.remove(it)
             running.append(it)
+            clock.begin(it)
             # A thread for each, since one that has taken a lower priority keeps it.
             threading.Thread(target=prove, args=(it, is_first, ended), daemon=True).start()
-        crate, said = ended.get()
+        try:
+            crate, said = ended.get(timeout=60)
+        except queue.Empty:
+            clock.tell()
+            continue
         running.remove(crate)
-        done.append(crate)
-        tell(f"{len(done)} of {len(crates) + 1} crates")
+        clock.end(crate)
+        clock.tell()
         if said is not None:
             refuse(crate.name, said)
             return False
@@ -98,7 +136,7 @@ def main():
     held = rt.rtlib.lock(crates)
     tell(f"building; the first time this proves all {len(crates)} crates: 22 to 27 minutes on four cores of 2.5 GHz")
     # The program itself is last, and `rt run` proves, compiles and runs it.
-    if not prove_all(rt, crates[:-1]):
+    if not prove_all(rt, crates):
         return 1
     for it in held:
         os.close(it)
