@@ -326,19 +326,19 @@ impl<'t> Draft<'t> {
     }
 
     /// One line more. One that is refused leaves what was said as it was.
-    #[tactic(auto, unfolding(crate::specs::Reading::read_line))]
+    #[tactic(auto, using(crate::proofs::CommentLines::comment_line), unfolding(crate::specs::Reading::read_line))]
     pub(crate) fn add_line(&mut self, alloc: Global, line: &'t [u8]) -> Result<(), TextWhy>
         ensures said { Reads result (read_line self.old line.now) self.new }
         ensures stays { OnErr result (self.new ≡ self.old) }
     {
+        if let Some(_) = after(b"#".as_slice(), line) {
+            return Ok(());
+        }
         if let Some(name) = after(b"func ".as_slice(), line) {
             return self.add_func(name);
         }
         if let Some(name) = after(b"site ".as_slice(), line) {
             return self.add_site(name);
-        }
-        if let Some(_) = after(b"#".as_slice(), line) {
-            return Ok(());
         }
         let words = words_of(alloc, line)?;
         self.add_words(words.as_slice())

@@ -19,13 +19,11 @@ fn add_first<'t>(draft: &mut Draft<'t>, alloc: Global, text: &'t str) -> Result<
     ensures utf8 { IfOk result (λ rest. IsUtf8 rest.now) }
 {
     let bytes = text.as_bytes();
-    if bytes[0] == b'#' {
-        let (_comment, rest) = first_line(text);
-        return Ok(rest);
-    }
-    if let Some((event, rest)) = event_line(bytes) {
-        draft.add_read(Ok(event))?;
-        return Ok(&text[text.len() - rest.len()..]);
+    if bytes[0] != b'#' {
+        if let Some((event, rest)) = event_line(bytes) {
+            draft.add_read(Ok(event))?;
+            return Ok(&text[text.len() - rest.len()..]);
+        }
     }
     let (line, rest) = first_line(text);
     draft.add_line(alloc, line)?;

@@ -1,22 +1,7 @@
-use Rattle.std.proofs.Common.{◌≡◌, ℕ, List, get_or, refl, ap, sym, ◌∙◌, arith}
+use Rattle.std.proofs.Common.{ap, sym, ◌∙◌}
 use Rattle.std.specs.Str.Lines.{lines}
-use Rattle.spp_text.proofs.CommentLines.{comment_line}
 use Rattle.spp_text.proofs.PlainLines.{behind_is_boundary, what_is_behind, shorter_behind}
 use Rattle.spp_text.proofs.parse.add_first.Goals as goal
-
-pub returns-then-bytes-eq35-clause-read : goal.returns-then-bytes-eq35-clause-read
-returns-then-bytes-eq35-clause-read c =
-    let text = c.args.text.now in
-    let split = c.first_line.result in
-    let first = c.first_line.ensures.first in
-    let sharp : get_or text 0 0 ≡ 35 = ap (λ (bs : List ℕ). get_or bs 0 0) (sym c.as_bytes-bytes.ensures.value) ∙ c.if-bytes-eq35.true in (
-      split.0.now,
-      split.1.now,
-      first,
-      c.first_line.ensures.shorter,
-      comment_line c.args.draft.now text split.0.now (lines split.1.now) (omega (arith, c.requires)) sharp first,
-      refl,
-    )
 
 pub range_from-requires : goal.range_from-requires
 range_from-requires c some =
