@@ -4,9 +4,9 @@
 usage: tests/fuzz/fuzz.py MINUTES [FOLDER]
 
 With AFL++ (Debian's package afl++) each command runs for its share of the minutes, as tests/fuzz/build.py builds it.
-AFL++ looks for crashes and hangs in every run. What it keeps is then run with every command as ./spprof builds it, and
-there the status, and whether the commands agree, are looked at too. Without AFL++ this script changes the seeds by chance
-itself, for as long, and looks at all of that in every run.
+AFL++ looks for crashes and hangs in every run. What it keeps is then run with every command as `./spprof --build`
+builds it, and there the status, and whether the commands agree, are looked at too. Without AFL++ this script changes the
+seeds by chance itself, for as long, and looks at all of that in every run.
 
 A finding is a run that a signal ends, that takes over 10 seconds or has a status outside 0 to 4, or commands that disagree.
 They agree where `check`, `figures` (5 parts) and `profile` (3 parts) print the same work or the same line of fault.
