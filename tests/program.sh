@@ -719,12 +719,12 @@ for machine in 'Darwin arm64' 'Linux aarch64'; do
     fake "$folder/other/uname" "echo $machine"
     path=$folder/other:$folder/bin builds "on $machine" "$needs this is $machine"
 done
+machine=$(uname -sm)
 sed "s|^loader=.*|loader='$folder/loader'|" "$clone/spprof" > "$clone/other" && chmod +x "$clone/other"
-older="$needs the loader $folder/loader is older, or isn't there"
-script=$clone/other builds 'no glibc' "$older"
+script=$clone/other builds 'no glibc' "$needs this is $machine without $folder/loader"
 for body in 'echo "ld.so (GNU libc) stable release version 2.33."' 'echo "--version: cannot open shared object file"; exit 127'; do
     fake "$folder/loader" "$body"
-    script=$clone/other builds "on an older glibc" "$older"
+    script=$clone/other builds 'on an older glibc' "$needs the loader $folder/loader is older"
 done
 fake "$folder/loader" 'echo "ld.so (GNU libc) stable release version 2.34."'
 script=$clone/other cloned 'on glibc 2.34' 0 "work 17$lf" '' check
