@@ -29,13 +29,12 @@ impl From<AllocError> for Stopped {
     }
 }
 
-/// One worker: draws numbers until there are none, and puts what came of each part. It makes at most one draw more than
-/// there are parts.
+/// One worker: draws numbers until there are none, and puts what came of each part.
 ///
 /// # Errors
 ///
-/// Where an allocation failed, or a piece was handed back; then it draws no more, and has drawn a part of which no piece was
-/// accepted. That memory was refused no clause can say.
+/// Where an allocation failed, or a piece was handed back: it stops there, and fewer of its pieces were accepted than it drew
+/// parts. No clause can say that memory was refused.
 fn work<J: Job, N: Naming, R: Wait, G: Gate>(
     rt: &R,
     alloc: Global,
@@ -156,10 +155,10 @@ fn run_named<J: Job + Sync, N: Naming + Send + Sync, R: Threads + Wait + Sync, G
 /// # Errors
 ///
 /// Only where an allocation failed. A worker whose allocation fails stops, and the others go on; a join that was refused is
-/// tried once more at the close. It's proved that a worker stops only at a part that it drew and of which no piece was
-/// accepted, and that a part can be missing at the close only where one stopped. That memory was refused there, or at a
-/// join, no clause can say, nor that no piece of a worker comes back as a double. A thread that can't be started is no
-/// error: the thread that was to start it does its share, behind its own.
+/// tried once more at the close. It's proved that of a worker that stops fewer pieces were accepted than it drew parts, and
+/// that a part can be missing at the close only where one stopped. No clause can say that memory was refused there, or at a
+/// join, nor that no piece of a worker comes back as a double. A thread that can't be started is no error: the thread that
+/// was to start it does its share, behind its own.
 pub fn run_round<J: Job + Sync, R: Threads + Wait + Sync, G: Gate>(
     rt: &R,
     alloc: Global,

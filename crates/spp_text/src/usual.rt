@@ -7,8 +7,8 @@ ghost use Rattle.spp_text.specs.Usual.{IsNumberFront, IsLineEnd, IsNumberLine, A
 use crate::words::is_gap;
 use spp_event::Event;
 
-/// How many bytes are looked at for the digits of a number: it may have 18, which always fit in 64 bits, and one byte
-/// more shows where they end.
+/// How many bytes are looked at together for the digits of a number: it may have 18, which always fit in 64 bits, and one
+/// byte more shows where they end. A number nearer to the end of the text is read word by word.
 const WIDTH: usize = 19;
 
 /// `strand ` as a number, each byte eight bits of it, as are the words below.
@@ -88,8 +88,8 @@ fn numbers_line(text: &[u8]) -> Option<(u32, u32, &[u8])>
 }
 
 /// The event of the line that a text begins with, and what follows the line. None where the line isn't as printing writes
-/// it, but for a carriage return at its end, or has a number of more than 18 digits, or where the text has fewer than
-/// eight bytes.
+/// it, but for a carriage return at its end, or has a number of more than 18 digits, or where the text has fewer than eight
+/// bytes, or fewer than 19 from the beginning of a number on.
 #[inline(always)]
 fn event_front(text: &[u8]) -> Option<(Event, &[u8])>
     ensures { IfSome result (λ x. IsEventFront text.now x.0 x.1.now) }
