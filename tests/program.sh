@@ -165,7 +165,7 @@ if command -v gcc > /dev/null; then
     judge 'the recorder: a program that ends as it is told' 0 '' ''
     expect 'the recorder: where no file is named' 0 'work *' '' "$folder/spprof.sptrace" check
     left() { # NAME STATUS ERR FILES: these files are in the folder `kept`, and what they have is empty, earlier or new
-        (cd "$folder/kept" && for file in *; do
+        (shopt -s dotglob && LC_ALL=C && cd "$folder/kept" && for file in *; do
             has=bad
             ! "$spprof" check "$file" > "$folder/answer" 2> /dev/null || has=new
             ! cmp -s "$file" "$small" || has=earlier
@@ -175,48 +175,128 @@ if command -v gcc > /dev/null; then
         done) > "$folder/out"
         judge "the recorder: $1" "$2" "$4$lf" "$3"
     }
-    record() { # TRACE WORD: the program ends as the word says, where `trace` is an earlier trace and `link` leads there
-        rm -rf "$folder/kept" && mkdir "$folder/kept" && cp "$small" "$folder/kept/trace" && ln -s trace "$folder/kept/link"
-        (cd "$folder/kept" && SPPROF_TRACE=$1 exec "$recorded" "$2") > "$folder/out" 2> "$folder/err"
+    # Root may write what is read only, and a recorder with a fault could replace devices: so another user runs it.
+    run=(timeout 10) is_bound=1 owner=$(id -u):$(id -g)
+    if [ "$(id -u)" -eq 0 ]; then
+        chmod a+x "$folder" && chmod -R a+rX "$folder/record"
+        owner=65534:65534 run+=(setpriv --reuid 65534 --regid 65534 --clear-groups)
+        "${run[@]}" test -x "$recorded" 2> "$folder/err" || { owner=0:0 run=(timeout 10) is_bound=; }
+    fi
+    # The program ends as the word says, after the command, where `trace` is an earlier trace, `link` leads there, and what
+    # $prepare says is done.
+    record() { # TRACE WORD [COMMAND]
+        rm -rf "$folder/kept" && mkdir "$folder/kept" && cp "$small" "$folder/kept/trace" && ln -s trace "$folder/kept/link" &&
+            chown -hR "$owner" "$folder/kept"
+        (cd "$folder/kept" && eval "${prepare-}" && SPPROF_TRACE=$1 exec "${run[@]}" "$recorded" "${@:2}") \
+            > "$folder/out" 2> "$folder/err"
         status=$?
+        chmod u+rwx "$folder/kept"
     }
-    nothing="spprof_record: no REC_FINISH was reached, so no trace was kept$lf"
+    unkept='so no trace was kept'
+    nothing="spprof_record: no REC_FINISH was reached, $unkept$lf" within="spprof_record: the program ended within REC_FINISH, $unkept$lf"
     old="link: link to earlier${lf}trace: earlier" new="link: link to new${lf}trace: new"
-    for word in finish move fork; do
+    for word in finish move fork atexit; do
         record trace $word
         left "$word" 0 '' "$new"
     done
     for word in exit return; do
-        record trace $word
-        left "$word" 0 "$nothing" "$old"
-        record new $word
-        left "$word, no earlier trace" 0 "$nothing" "$old"
+        for trace in trace link new; do
+            record $trace $word
+            left "$word, $trace" 0 "$nothing" "$old"
+        done
     done
     for word in _exit exec; do
         record trace $word
-        left "$word" 0 '' "$old${lf}trace.part: empty"
+        left "$word" 0 '' "$old"
     done
-    (cd "$folder/kept" && SPPROF_TRACE=trace exec "$recorded") 2> "$folder/err"
-    status=$?
-    left 'a part was left by an earlier run' 0 '' "$new"
+    # Other runs with the same file: ended, and not yet.
+    record trace finish "$recorded exit"
+    left 'a run that keeps nothing within a run' 0 "$nothing" "$new"
+    record trace exit "$recorded"
+    left 'a run within a run that keeps nothing' 0 "$nothing" "$new"
+    record trace finish "$recorded exit && { $recorded finish 'sleep 0.2' & sleep 0.1; }"
+    left 'a run beside a run' 0 "$nothing" "$new"
+    sleep 0.2
+    left 'a run beside a run, and its end' 0 "$nothing" "$new"
+    # Other files, and what files may be like.
+    prepare='cp trace trace.part && ln trace hard' record trace finish
+    left 'other files' 0 '' "hard: earlier${lf}link: link to new${lf}trace: new${lf}trace.part: earlier"
+    for mode in 600 666; do
+        prepare="chmod $mode trace" record trace finish
+        [ "$(stat -c %a "$folder/kept/trace")" = $mode ] || status=125
+        left "a file of mode $mode" 0 '' "$new"
+    done
+    record trace finish 'cp trace .spprof-$PPID-0'
+    left 'a new file of an earlier run' 0 '' ".spprof-*-0: earlier$lf$new"
+    long=$(printf '%0255d' 0)
+    record $long finish
+    left 'a long name' 0 '' "$long: new$lf$old"
+    if [ $is_bound ]; then
+        prepare='chmod 444 trace' record trace exit
+        left 'a file that is read only' 3 "spprof_record: cannot write trace, $unkept: *" "$old"
+        record trace finish 'chmod 444 trace'
+        left 'a file that becomes read only' 3 "spprof_record: cannot write trace, $unkept: *" "$old"
+        prepare='chmod 555 .' record link exit
+        left 'a folder that is read only' 3 "spprof_record: cannot write a file beside link, $unkept: *" "$old"
+        prepare='chmod 311 .' record trace move
+        left 'a folder that cannot be opened' 0 '' "$new"
+        if [ "$(id -u)" -eq 0 ]; then
+            prepare='chown 0 . trace && chmod 1777 . && chmod 666 trace' record trace finish
+            left "another user's file in a sticky folder" 3 "spprof_record: cannot write trace, $unkept: *" "$old"
+        fi
+    fi
     # A file of at most 1 KB.
-    (trap '' XFSZ && ulimit -f 1 && record trace finish && exit "$status")
-    status=$?
-    left 'a write that fails' 3 'spprof_record: cannot write trace, so no trace was kept: *' "$old"
-    record no/trace finish
-    left 'no such folder' 3 'spprof_record: cannot write no/trace.part, so no trace was kept: *' "$old"
-    record . finish
-    left 'a folder' 3 'spprof_record: cannot write ., so no trace was kept: *' "$old"
-    # What is no regular file is written itself.
-    record link finish
+    for trace in trace link; do
+        (trap '' XFSZ && ulimit -f 1 && record $trace finish && exit "$status")
+        status=$?
+        left "a write that fails, $trace" 3 "spprof_record: cannot write $trace, $unkept: *" "$old"
+        (ulimit -f 1 && record $trace signal && exit "$status")
+        status=$?
+        left "exit from a signal's function while it writes, $trace" 0 "$within" "$old"
+    done
+    record no/trace exit
+    left 'no such folder' 3 "spprof_record: cannot write no/trace, $unkept: *" "$old"
+    record . exit
+    left 'a folder' 3 "spprof_record: cannot write ., $unkept: *" "$old"
+    # Links.
+    record link move
     left 'a link' 0 '' "$new"
-    record link exit
-    left 'a link, exit' 0 "$nothing" "$old"
-    record /dev/full finish
-    left 'a full device' 3 'spprof_record: cannot write /dev/full, so no trace was kept: *' "$old"
-    SPPROF_TRACE=/dev/stdout "$recorded" 2> "$folder/err" | "$spprof" check > "$folder/out" 2>> "$folder/err"
-    status=$?
-    judge 'the recorder: a pipe' 0 'work *' ''
+    prepare='ln -s missing first && ln -s "$PWD/first" second' record ./second move
+    left 'links to a missing file' 0 '' \
+        "first: link to new${lf}link: link to earlier${lf}missing: new${lf}second: link to new${lf}trace: earlier"
+    prepare='ln -s missing first' record first exit
+    left 'a link to a missing file, exit' 0 "$nothing" "first: link to empty$lf$old"
+    prepare='ln -s no/trace first' record first exit
+    left 'a link to no such folder' 3 "spprof_record: cannot write first, $unkept: *" "first: link to empty$lf$old"
+    record new finish 'ln -s trace new'
+    left 'a link that is made meanwhile' 3 "spprof_record: cannot write new, $unkept: *" \
+        "link: link to earlier${lf}new: link to earlier${lf}trace: earlier"
+    # What is no regular file, or is open already, is written itself.
+    mkfifo -m 666 "$folder/pipe"
+    timeout 10 "$spprof" check "$folder/pipe" > "$folder/answer" 2>&1 &
+    record "$folder/pipe" finish
+    wait
+    mv "$folder/answer" "$folder/out"
+    judge 'the recorder: a pipe by name' 0 'work *' ''
+    record "$folder/pipe" signal 'sleep 0.1 && kill $PPID &'
+    left "exit from a signal's function, a pipe" 0 "$within" "$old"
+    if [ $is_bound ]; then
+        record /dev/full finish
+        left 'a full device' 3 "spprof_record: cannot write /dev/full, $unkept: *" "$old"
+        exec 3< "$folder/out"
+        record /dev/stdout finish
+        "$spprof" check <&3 > "$folder/answer" 2>> "$folder/err" && mv "$folder/answer" "$folder/out"
+        exec 3<&-
+        judge 'the recorder: standard output in a file' 0 'work *' ''
+        SPPROF_TRACE=/dev/stdout "${run[@]}" bash -c '"$0" | cat' "$recorded" 2> "$folder/err" |
+            "$spprof" check > "$folder/out" 2>> "$folder/err"
+        status=$?
+        judge 'the recorder: a pipe' 0 'work *' ''
+    fi
+    # The command runs the program with its output in a pipe, which is closed before the trace can go there.
+    record trace exit "ln -s /dev/stdout out && { SPPROF_TRACE=out $recorded close; echo \$? >&2; } | cat"
+    left 'a pipe that is closed' 0 "spprof_record: cannot write out, $unkept: *${lf}3$lf$nothing" \
+        "link: link to earlier${lf}out: link to *${lf}trace: earlier"
 fi
 mkfifo "$folder/before" "$folder/after"
 feed() { # FILE PIPE SECONDS: writes the file to the pipe, that long after both ends of it are open

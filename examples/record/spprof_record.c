@@ -1,5 +1,5 @@
 /* The recorder. Compile the program's files with -fsanitize-coverage=trace-pc, and this one without. */
-#define _POSIX_C_SOURCE 200809L
+#define _XOPEN_SOURCE 700 /* POSIX.2008, and realpath where the C library wants this for it */
 #include "spprof_record.h"
 
 #include <errno.h>
@@ -28,12 +28,11 @@ static size_t events, used, room;
 static int compact; /* they stand there as items, of version 2 */
 static uint64_t blocks, total; /* run since the last event, and before it */
 static uint64_t depth;         /* of open frames, without the root */
-static enum { BEFORE, RECORDING, AFTER } state;
-static pid_t process;   /* the one that records: its forks run clean_up too */
-static int folder;      /* the one that it ran in at REC_START, where relative names begin */
-static char *file_name; /* where the trace goes */
-static char *part_name; /* the file beside it, which takes its name once it is whole; NULL if it is opened itself */
-static FILE *file;
+static enum { BEFORE, RECORDING, WRITING, AFTER } state;
+static pid_t process;      /* the one that records: its forks run clean_up too */
+static const char *wanted; /* the trace's file, as it was named */
+static const char *target; /* its name from the root and behind links, for the program may change its folder */
+static char *part;         /* the new file beside it, until it has that name; NULL if there is none */
 
 /* gcc makes the program call this in each basic block. */
 void __sanitizer_cov_trace_pc(void);
@@ -47,10 +46,10 @@ static _Noreturn void fail(int status, const char *what, const char *detail) {
     exit(status);
 }
 
-static _Noreturn void fail_to_write(const char *name) {
+static _Noreturn void fail_to_write(const char *where) {
     const char *why = strerror(errno);
     state = AFTER;
-    fprintf(stderr, "spprof_record: cannot write %s, so no trace was kept: %s\n", name, why);
+    fprintf(stderr, "spprof_record: cannot write %s%s, so no trace was kept: %s\n", where, wanted, why);
     exit(NO_FILE);
 }
 
@@ -151,58 +150,152 @@ void rec_sync(void) {
     add(SYNC, 0, 0);
 }
 
-/* Leaves no part of a trace behind when the program ends. */
-static void clean_up(void) {
+/* Runs when the program ends, after the functions that it gave to atexit. */
+__attribute__((destructor)) static void clean_up(void) {
     if (getpid() != process) return;
-    if (state == RECORDING) fprintf(stderr, "spprof_record: no REC_FINISH was reached, so no trace was kept\n");
-    state = AFTER;
-    if (part_name) unlinkat(folder, part_name, 0);
+    if (part) unlink(part);
+    const char *when = state == WRITING ? "the program ended within REC_FINISH" : "no REC_FINISH was reached";
+    if (state == RECORDING || state == WRITING) fprintf(stderr, "spprof_record: %s, so no trace was kept\n", when);
 }
 
-static char *joined(const char *name, const char *end) {
-    size_t bytes = strlen(name) + strlen(end) + 1;
-    char *text = malloc(bytes);
+/* The first bytes of a text, and another text. */
+static char *joined(const char *first, size_t bytes, const char *second) {
+    size_t others = strlen(second) + 1;
+    char *text = malloc(bytes + others);
     if (!text) fail(NO_MEMORY, "out of memory", "");
-    snprintf(text, bytes, "%s%s", name, end);
+    memcpy(text, first, bytes);
+    memcpy(text + bytes, second, others);
     return text;
 }
 
-/* Opens a file beside the one that is named, so that an earlier trace stays until there is another. What is there and
- * is no regular file, such as a pipe or a link, is opened itself; a link's file keeps its bytes until REC_FINISH. */
-static void open_file(void) {
+/* How many bytes of a file's name are its folder's, with the slash. */
+static size_t folder_bytes(const char *name) {
+    const char *slash = strrchr(name, '/');
+    return slash ? (size_t)(slash - name) + 1 : 0;
+}
+
+/* A file's name from the root and behind links, even if there is no such file yet; NULL if there is no such folder. */
+static char *resolved(const char *name) {
+    char to[4096], *found = realpath(name, NULL);
+    if (found || errno != ENOENT) return found;
     struct stat there;
-    if (lstat(file_name, &there) == 0 && !S_ISREG(there.st_mode)) {
-        file = fopen(file_name, "ab");
-        if (!file) fail_to_write(file_name);
-    } else {
-        char *name = joined(file_name, ".part");
-        file = fopen(name, "wb");
-        if (!file) fail_to_write(name);
-        part_name = name;
+    size_t start = folder_bytes(name);
+    ssize_t bytes = stat(name, &there) == 0 ? -1 : readlink(name, to, sizeof to - 1);
+    if (bytes >= 0) { /* a link to a missing file */
+        to[bytes] = '\0';
+        char *next = joined(name, to[0] == '/' ? 0 : start, to);
+        found = resolved(next);
+        free(next);
+        return found;
     }
+    char *here = joined(name, start, "."), *folder = realpath(here, NULL);
+    free(here);
+    if (!folder) return NULL;
+    char *last = joined("/", 1, name + start);
+    found = joined(folder, strlen(folder), last);
+    free(last);
+    free(folder);
+    return found;
+}
+
+/* Where the program has this file open for writing itself, such as /dev/stdout; -1 if it hasn't. */
+static int descriptor_of(const struct stat *file) {
+    struct stat other;
+    for (int at = 0; at < 256; at++) {
+        int flags = fcntl(at, F_GETFL);
+        if (flags < 0 || (flags & O_ACCMODE) == O_RDONLY || fstat(at, &other) != 0) continue;
+        if (other.st_dev == file->st_dev && other.st_ino == file->st_ino) return at;
+    }
+    return -1;
+}
+
+/* Looks at what has the target's name (nothing: mode 0), and fails where the trace can't go there. Returns whether a
+ * new file shall take the name, as it does from a regular file that the program doesn't have open for writing itself.
+ */
+static int look(struct stat *there) {
+    if (stat(target, there) == 0) {
+        if (S_ISREG(there->st_mode) && descriptor_of(there) >= 0) return 0;
+        if (S_ISDIR(there->st_mode) || S_ISSOCK(there->st_mode)) {
+            errno = S_ISDIR(there->st_mode) ? EISDIR : ENXIO;
+            fail_to_write("");
+        }
+        if (faccessat(AT_FDCWD, target, W_OK, AT_EACCESS) != 0) fail_to_write("");
+        if (!S_ISREG(there->st_mode)) return 0;
+    } else {
+        if (errno != ENOENT) fail_to_write("");
+        there->st_mode = 0;
+    }
+    struct stat name;
+    if (lstat(target, &name) == 0 && S_ISLNK(name.st_mode)) { /* new, or to a pipe that has been closed */
+        errno = ENOENT;
+        fail_to_write("");
+    }
+    char *folder = joined(target, folder_bytes(target), ".");
+    if (faccessat(AT_FDCWD, folder, W_OK | X_OK, AT_EACCESS) != 0) fail_to_write("a file beside ");
+    free(folder);
+    return 1;
 }
 
 void rec_start(const char *function) {
     if (state != BEFORE) fail(WRONG_USE, "REC_START is reached twice", "");
     const char *name = getenv("SPPROF_TRACE"), *version = getenv("SPPROF_VERSION");
-    file_name = joined(name && *name ? name : "spprof.sptrace", "");
+    struct stat there;
+    wanted = joined("", 0, name && *name ? name : "spprof.sptrace");
+    target = resolved(wanted);
+    if (!target) fail_to_write("");
+    look(&there);
     compact = version && strcmp(version, "2") == 0;
     process = getpid();
-    folder = open(".", O_RDONLY | O_CLOEXEC);
-    if (folder < 0) folder = AT_FDCWD;
-    if (atexit(clean_up) != 0) fail(NO_MEMORY, "out of memory", "");
-    open_file();
     number_of(&functions, function);
     state = RECORDING;
     blocks = 0;
 }
 
-static void write_names(const struct names *names) {
+/* Makes a new file beside the target, with the mode of the earlier one. */
+static int open_part(const struct stat *earlier) {
+    mode_t mode = earlier->st_mode == 0 ? 0666 : earlier->st_mode & 0777;
+    for (int number = 0;; number++) {
+        char last[64];
+        snprintf(last, sizeof last, ".spprof-%ld-%d", (long)process, number);
+        char *name = joined(target, folder_bytes(target), last);
+        int file = open(name, O_WRONLY | O_CREAT | O_EXCL | O_CLOEXEC, mode);
+        if (file >= 0) {
+            part = name;
+            /* Just that mode, whatever the umask is, if the owner and group can be the same too. */
+            if (earlier->st_mode != 0 && fchown(file, earlier->st_uid, earlier->st_gid) == 0) fchmod(file, mode);
+            return file;
+        }
+        if (errno != EEXIST) fail_to_write("a file beside ");
+        free(name);
+    }
+}
+
+static int open_file(void) {
+    struct stat there;
+    if (look(&there)) return open_part(&there);
+    int is_open = S_ISREG(there.st_mode), flags = O_WRONLY | O_CLOEXEC;
+    int file = is_open ? fcntl(descriptor_of(&there), F_DUPFD_CLOEXEC, 0) : open(target, flags);
+    if (file < 0) fail_to_write("");
+    return file;
+}
+
+static void write_bytes(int file, const void *bytes, size_t count) {
+    const char *at = bytes;
+    while (count > 0) {
+        ssize_t written = write(file, at, count < 1 << 30 ? count : 1 << 30);
+        if (written < 0 && errno != EINTR) fail_to_write("");
+        if (written < 0) continue;
+        at += written;
+        count -= (size_t)written;
+    }
+}
+
+static void write_names(int file, const struct names *names) {
     for (uint32_t i = 0; i < names->count; i++) {
         size_t length = strlen(names->at[i]);
-        putc((int)(length >> 8), file);
-        putc((int)(length & 0xff), file);
-        fwrite(names->at[i], 1, length, file);
+        unsigned char bytes[2 + MOST_NAME_BYTES] = {(unsigned char)(length >> 8), (unsigned char)length};
+        memcpy(bytes + 2, names->at[i], length);
+        write_bytes(file, bytes, 2 + length);
     }
 }
 
@@ -212,19 +305,12 @@ static void write_trace(void) {
     put_word(head + 8, functions.count);
     put_word(head + 12, sites.count);
     put_word(head + 20, (uint32_t)events);
-    /* What has no length, such as a pipe, refuses a new one with EINVAL. */
-    if (!part_name && ftruncate(fileno(file), 0) != 0 && errno != EINVAL) fail_to_write(file_name);
-    fwrite(head, 1, HEAD_BYTES, file);
-    write_names(&functions);
-    write_names(&sites);
-    fwrite(body, 1, used, file);
-    int has_failed = ferror(file);
-    if (fclose(file) != 0 || has_failed) fail_to_write(file_name);
-    if (part_name && renameat(folder, part_name, folder, file_name) != 0) fail_to_write(file_name);
-    free(part_name);
-    part_name = NULL;
-    free(file_name);
-    close(folder);
+    int file = open_file();
+    write_bytes(file, head, HEAD_BYTES);
+    write_names(file, &functions);
+    write_names(file, &sites);
+    write_bytes(file, body, used);
+    if (close(file) != 0 || (part && rename(part, target) != 0)) fail_to_write("");
 }
 
 void rec_finish(void) {
@@ -232,8 +318,12 @@ void rec_finish(void) {
     if (getpid() != process) fail(WRONG_USE, "REC_FINISH is reached in a fork", "");
     if (depth > 0) fail(WRONG_USE, "REC_FINISH stands within a spawn or call", "");
     add_strand();
-    state = AFTER;
     if (total == 0) fail(WRONG_USE, "nothing was counted: compile the program with -fsanitize-coverage=trace-pc", "");
+    state = WRITING;
     write_trace();
+    state = AFTER;
+    char *renamed = part;
+    part = NULL; /* no file any more, should a signal end the program here */
+    free(renamed);
     free(body);
 }

@@ -6,7 +6,7 @@
 
 /* REC_START(function) begins the recording, in the function of that name. REC_FINISH() ends it, in the same function,
  * and writes it to the file that the environment variable SPPROF_TRACE names, or to spprof.sptrace; in version 2 of the
- * format, if SPPROF_VERSION is 2. A program that ends before REC_FINISH leaves that file as it was.
+ * format, if SPPROF_VERSION is 2. An earlier file of that name is replaced once the new trace is whole, and not before.
  *
  * REC_SPAWN(site, function, statement) runs the statement as a spawned child, and REC_CALL as a called one: at the call
  * site of that name, in the function of that name. Both names are string constants; places whose sites have the same
