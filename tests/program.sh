@@ -727,9 +727,9 @@ cloned() { # NAME STATUS OUT ERR WORDS..: what the script in the clone answers; 
     status=$?
     judge "the script in a clone: $name" "$wanted" "$out" "$err"
 }
-no_rt="spprof: the toolchain's command 'rt' isn't on the path, and it builds spprof$lf"
-builds() { # NAME WHY: the script doesn't run the released program, tells why not, and sets out to build
-    cloned "$1" 125 '' "spprof: $2, so it's built here$lf$no_rt" check
+no_rt="the Rattle toolchain's command 'rt' isn't in PATH${lf}spprof: README.md, \"Run it, test it\", tells what to do$lf"
+builds() { # NAME WHY: the script doesn't run the released program, tells why not, and would build
+    cloned "$1" 125 '' "spprof: $2, and it can't be built here: $no_rt" check
 }
 touch "$folder/began"
 cloned 'profile' 0 "$(cat "$top/examples/nqueens.report")$lf" '' profile "$top/examples/nqueens.sptrace"
@@ -782,12 +782,16 @@ cp -p "$release/$program" "$folder/aside"
 printf x | dd of="$release/$program" bs=1 seek=4096 conv=notrunc 2> /dev/null
 builds 'one byte of the program changed' "release/$program isn't the program that release/SOURCES names, and isn't run"
 rm "$release/$program"
-builds 'no released program' "there's no released program"
+missing="release/$program or release/SOURCES is missing"
+builds 'no released program' "$missing"
 cp -p "$folder/aside" "$release/$program"
+chmod a-x "$release/$program"
+builds 'a released program without its bit' "release/$program can't be executed (chmod +x?)"
+chmod a+x "$release/$program"
 mv "$release/SOURCES" "$folder/aside"
-builds 'no SOURCES' "there's no released program"
+builds 'no SOURCES' "$missing"
 : > "$release/SOURCES"
-builds 'empty SOURCES' "$changed"
+builds 'empty SOURCES' 'release/SOURCES names no sources or no program'
 mv "$folder/aside" "$release/SOURCES"
 # Other machines: another system or processor, an older glibc, none.
 fake() { # FILE BODY: a program of that name, in bash
@@ -804,12 +808,15 @@ sed "s|^loader=.*|loader='$folder/loader'|" "$clone/spprof" > "$clone/other" && 
 script=$clone/other builds 'no glibc' "$needs this is $machine without $folder/loader"
 for body in 'echo "ld.so (GNU libc) stable release version 2.33."' 'echo "--version: cannot open shared object file"; exit 127'; do
     fake "$folder/loader" "$body"
-    script=$clone/other builds 'on an older glibc' "$needs the loader $folder/loader is older"
+    script=$clone/other builds 'on an older glibc' "$needs the loader $folder/loader tells no such version"
 done
 fake "$folder/loader" 'echo "ld.so (GNU libc) stable release version 2.34."'
 script=$clone/other cloned 'on glibc 2.34' 0 "work 17$lf" '' check
 # What was built here comes first, as long as it's up to date.
-cloned '--build without the toolchain' 125 '' "$no_rt" --build
+cloned '--build without the toolchain' 125 '' "spprof: the Rattle toolchain's command 'rt', which builds spprof, isn't in PATH$lf" --build
+mv "$folder/bin/b2sum" "$folder/aside"
+builds 'no b2sum' 'b2sum and sha256sum of GNU coreutils are needed to check a program that is there'
+mv "$folder/aside" "$folder/bin/b2sum"
 fake "$folder/other/rt" ''
 fake "$folder/other/python3" 'exit 1'
 path=$folder/other:$folder/bin cloned '--build that fails' 125 '' '' --build
@@ -821,11 +828,15 @@ unset GLIBC_TUNABLES
 path=$folder/other:$folder/bin cloned '--build' 0 '' "spprof: built$lf" --build
 cloned 'what was built' 9 "built here: glibc.malloc.hugetlb=1 check -$lf" '' check -
 touch "$clone/crates/spprof/src/main.rt"
-cloned 'what was built is older than a source' 0 "work 17$lf" '' check
+cloned 'what was built is of the same sources' 9 "built here: *" '' check
+cp -p "$clone/crates/spprof/src/main.rt" "$folder/aside"
 echo '// changed' >> "$clone/crates/spprof/src/main.rt"
 builds 'what was built is behind' "$changed"
 rm "$folder/other/uname"
-path=$folder/other:$folder/bin cloned 'a changed source' 9 "built here: *" "spprof: $changed, so it's built here${lf}spprof: built$lf" check
+path=$folder/other:$folder/bin cloned 'a changed source' 9 "built here: *" "spprof: $changed; building it here${lf}spprof: built$lf" check
+cp -p "$folder/aside" "$clone/crates/spprof/src/main.rt"
+touch "$clone/crates/spprof/src/main.rt"
+cloned 'what was built is of other sources' 0 "work 17$lf" '' check
 
 echo "$passed passed, $failed failed"
 [ $failed -eq 0 ]
