@@ -1,2 +1,4 @@
 pub mod Ways
 pub mod Laws
+pub mod Logs
+pub mod OpenWays

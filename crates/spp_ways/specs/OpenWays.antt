@@ -1,0 +1,115 @@
+-- The ways into open frames as they lie in a log, on both paths at once.
+use Rattle.std.specs.Prelude.{ℕ, ◌+◌, ◌≤◌, ◌<◌, ◌^◌, Bool, true, false, cond, ◌||◌, List, [], ◌∷◌, length, map, reverse, Some, None}
+use Rattle.spp_dag.specs.declared.row.Row.{Row}
+use Rattle.spp_dag.specs.declared.stack.FrameKind.{FrameKind}
+use Rattle.spp_dag.specs.declared.stack.FrameKind.TheVariants.{Root, Called, Spawned}
+use Rattle.spp_site.specs.Rows.{frame_row}
+use Rattle.spp_site.specs.declared.closed_frame.ClosedFrame.{ClosedFrame}
+use Rattle.spp_ways.specs.declared.log.LogRow.{LogRow}
+use Rattle.spp_ways.specs.declared.open_ways.OnPaths.{OnPaths}
+use Rattle.spp_ways.specs.declared.open_ways.LoggedWay.{LoggedWay}
+use Rattle.spp_ways.specs.declared.open_ways.LoggedWays.{LoggedWays}
+use Rattle.spp_ways.specs.declared.open_ways.FrameWays.{FrameWays}
+use Rattle.spp_ways.specs.declared.open_ways.OpenWays.{OpenWays}
+use Rattle.spp_ways.specs.Logs.{way_rows, AreLinked}
+use Rattle.spp_ways.specs.Ways.{Leaf, Way, Ways, strand_ways, waited_ways, way_on, closed_rows, returned_ways}
+
+-- the answer for one of both paths: without burdens (false), or under them (true)
+abbrev pub on_path : Bool → OnPaths → Bool
+on_path on a = cond on a.burdened a.plain
+
+-- ---- what lies in the log
+
+abbrev pub way_in : Bool → List LogRow → LoggedWay → Way
+way_in on log w = record { rows = way_rows on log w.rows; own = w.own }
+
+abbrev pub ways_in : Bool → List LogRow → LoggedWays → Ways
+ways_in on log w = record { along = way_in on log w.along; through = way_in on log w.through }
+
+abbrev pub path_of : Bool → FrameWays → LoggedWays
+path_of on f = cond on f.burdened f.plain
+
+abbrev pub frame_ways : Bool → List LogRow → FrameWays → Ways
+frame_ways on log f = ways_in on log (path_of on f)
+
+-- the ways into the open frames, innermost first
+abbrev pub ways_of : Bool → OpenWays → List Ways
+ways_of on o = map (frame_ways on (reverse o.log.rows.items)) (reverse o.frames.items)
+
+-- the ways end within the first n rows
+abbrev pub AreIn : ℕ → LoggedWays → Type 0
+AreIn n w = (w.along.rows ≤ n) × (w.through.rows ≤ n)
+
+-- The ways into the frames, innermost first, end within the first n rows, and those into the frames below one where the log
+-- ended as it was opened.
+abbrev pub Laid : ℕ → List FrameWays → Type 0
+Laid n [] = Unit {0}
+Laid n (f ∷ fs) = (f.start ≤ n) × AreIn n f.plain × AreIn n f.burdened × Laid f.start fs
+
+pub record IsLaid (o : OpenWays) : Type 0 where
+  pub linked : AreLinked (reverse o.log.rows.items)
+  pub frames : Laid (length o.log.rows.items) (reverse o.frames.items)
+
+-- ---- the steps, on one path
+
+abbrev pub HasOne : List Ways → Type 0
+HasOne [] = ⊥
+HasOne (w ∷ ws) = Unit {0}
+
+abbrev pub HasTwo : List Ways → Type 0
+HasTwo [] = ⊥
+HasTwo (w ∷ ws) = HasOne ws
+
+-- there is an innermost frame, and its strands can have so many instructions more
+abbrev pub FitStrand : ℕ → List Ways → Type 0
+FitStrand count [] = ⊥
+FitStrand count (w ∷ ws) = w.along.own + count < 2 ^ 128
+
+abbrev pub strand_list : ℕ → List Ways → List Ways
+strand_list count [] = []
+strand_list count (w ∷ ws) = strand_ways count w ∷ ws
+
+abbrev pub waited_list : Bool → List Ways → List Ways
+waited_list takes [] = []
+waited_list takes (w ∷ ws) = waited_ways takes w ∷ ws
+
+-- what the close of a frame adds to its row besides its strands
+abbrev pub bare_row : ClosedFrame → Row
+bare_row c = frame_row (record c { local = 0 })
+
+abbrev pub returned_list : FrameKind → Bool → Bool → ℕ → Row → List Ways → List Ways
+returned_list kind takes wins site row [] = []
+returned_list kind takes wins site row (w ∷ []) = []
+returned_list kind takes wins site row (w ∷ v ∷ ws) = returned_ways kind wins (closed_rows (Some site) row (way_on takes w)) v ∷ ws
+
+-- the rows of the root frame, which alone is open and closes, its own the last
+abbrev pub root_rows : Bool → Row → List Ways → List Leaf
+root_rows takes row [] = []
+root_rows takes row (w ∷ ws) = closed_rows None row (way_on takes w)
+
+-- ---- one frame in the log
+
+-- the way on which the frame goes on where it waits
+abbrev pub chosen : Bool → LoggedWays → LoggedWay
+chosen takes w = cond takes w.through w.along
+
+abbrev pub nothing : LoggedWay
+nothing = record { rows = 0; own = 0 }
+
+-- a frame of that kind has returned, whose way through it ends with that row
+abbrev pub come : FrameKind → Bool → ℕ → LoggedWays → LoggedWays
+come Root wins rows w = w
+come Called wins rows w = record { along = record { rows = rows; own = w.along.own }; through = w.through }
+come Spawned wins rows w = record { along = w.along; through = cond wins (record { rows = rows; own = w.along.own }) w.through }
+
+-- whether the way through a frame of that kind is kept on either path
+abbrev pub entered : FrameKind → OnPaths → Bool
+entered Root wins = false
+entered Called wins = true
+entered Spawned wins = wins.plain || wins.burdened
+
+-- The ways into the parent of a frame of that kind, which returns, that stay as they are end within the first n rows.
+abbrev pub StayIn : ℕ → FrameKind → Bool → LoggedWays → Type 0
+StayIn n Root wins w = AreIn n w
+StayIn n Called wins w = AreIn n w
+StayIn n Spawned wins w = (w.along.rows ≤ n) × cond wins (Unit {0}) (w.through.rows ≤ n)

@@ -1,0 +1,140 @@
+//! The closed frames that ways enter.
+
+ghost use Rattle.std.specs.Prelude.{◌≡◌, ◌+◌, ◌<◌, ◌≤◌, ◌^◌, ◌++◌, ◌∷◌, [], ℕ, length, reverse, take, OnOk, IfOk, Option};
+ghost use Rattle.spp_dag.specs.Shares.{plus};
+ghost use Rattle.spp_site.specs.Rows.{Fits};
+ghost use Rattle.spp_site.specs.Profiles.{key_row};
+ghost use Rattle.spp_ways.specs.Ways.{rows_at};
+ghost use Rattle.spp_ways.specs.Logs.{AreLinked, before_on, within_on, closed_on, rows_in};
+
+use spp_site::{ClosedFrame, Table};
+use std::alloc::{AllocError, Global};
+
+/// A closed frame, and for either path how the ways lead on from it.
+#[derive(Clone, Copy)]
+pub(crate) struct LogRow {
+    /// Its work.
+    pub(crate) work: u128,
+    /// Its span.
+    pub(crate) span: u128,
+    /// The counts of its own strands on the way through it without burdens.
+    pub(crate) own: u128,
+    /// And on that under the burdens.
+    pub(crate) burdened_own: u128,
+    /// Where the way ends that leads to it in its parent.
+    pub(crate) before: u32,
+    /// Where the way through it ends.
+    pub(crate) within: u32,
+    /// The same of the way under the burdens that leads to it.
+    pub(crate) burdened_before: u32,
+    /// And of that through it.
+    pub(crate) burdened_within: u32,
+    /// The call site by which it was entered.
+    pub(crate) site: u32,
+    /// No frame of the same site encloses it.
+    pub(crate) top_site: bool,
+    /// Its caller is enclosed by no frame of the caller's function.
+    pub(crate) top_caller: bool,
+}
+
+impl LogRow {
+    /// Where the way ends that leads to the frame in its parent: without burdens, or under them.
+    fn before(&self, burdened: bool) -> u32
+        ensures { result ≡ before_on burdened self.now }
+    {
+        if burdened { self.burdened_before } else { self.before }
+    }
+
+    /// Where the way through it ends.
+    fn within(&self, burdened: bool) -> u32
+        ensures { result ≡ within_on burdened self.now }
+    {
+        if burdened { self.burdened_within } else { self.within }
+    }
+
+    /// The frame as a table of that path counts it.
+    fn closed(&self, burdened: bool) -> ClosedFrame
+        ensures { result ≡ closed_on burdened self.now }
+    {
+        ClosedFrame {
+            local: if burdened { self.burdened_own } else { self.own },
+            work: self.work,
+            span: self.span,
+            top_site: self.top_site,
+            top_caller: self.top_caller,
+        }
+    }
+}
+
+/// The closed frames that the ways into open frames enter. A way is told by the number of rows up to its last one, 0 where
+/// it enters no closed frame. A row leads to rows before it alone, so that a way stays as it is where the log grows, and
+/// where rows behind its last one are cut off.
+#[derive(Drop)]
+pub(crate) struct Log {
+    rows: Vec<LogRow>,
+}
+
+impl Log {
+    /// No rows. It takes no memory.
+    pub(crate) fn new(alloc: Global) -> Log
+        ensures { result.rows.items ≡ [] }
+    {
+        Log {
+            rows: Vec::new(alloc),
+        }
+    }
+
+    /// How many rows there are.
+    #[inline(always)]
+    pub(crate) fn len(&self) -> u32
+        requires { length self.now.rows.items < 2 ^ 32 }
+        ensures { result ≡ length self.now.rows.items }
+    {
+        self.rows.len() as u32
+    }
+
+    /// Leaves the first rows, so many.
+    #[inline(always)]
+    pub(crate) fn cut(&mut self, to: u32)
+        ensures { self.new.rows.items ≡ take to self.old.rows.items }
+    {
+        self.rows.truncate(to as usize);
+    }
+
+    /// Puts a row behind the others, and gives the number of rows then.
+    #[inline(always)]
+    pub(crate) fn push(&mut self, row: LogRow) -> Result<u32, AllocError>
+        requires { length self.old.rows.items + 1 < 2 ^ 32 }
+        ensures row { OnOk result (self.new.rows.items ≡ self.old.rows.items ++ (row ∷ [])) }
+        ensures count { IfOk result (λ n. n ≡ length self.old.rows.items + 1) }
+    {
+        self.rows.push(row)?;
+        Ok(self.rows.len() as u32)
+    }
+
+    /// Adds the rows of a way to a table: without burdens, or under them. It takes constant time for each, and memory for
+    /// as many numbers as closed frames nest.
+    ///
+    /// # Errors
+    ///
+    /// Where an allocation failed.
+    pub(crate) fn add_up(&self, alloc: Global, burdened: bool, way: u32, table: &mut Table) -> Result<(), AllocError>
+        requires linked { AreLinked (reverse self.now.rows.items) }
+        requires way { way ≤ length self.now.rows.items }
+        requires fits { (key : Option ℕ) → Fits (plus (key_row table.old key) (rows_at (rows_in burdened self.now way) key)) }
+        ensures { OnOk result ((key : Option ℕ) → key_row table.new key ≡ plus (key_row table.old key) (rows_at (rows_in burdened self.now way) key)) }
+    {
+        let mut left = Vec::new(alloc);
+        left.push(way)?;
+        while let Some(count) = left.pop() {
+            if count == 0 {
+                continue;
+            }
+            let row = self.rows[count as usize - 1];
+            table.close(row.site, &row.closed(burdened))?;
+            left.push(row.before(burdened))?;
+            left.push(row.within(burdened))?;
+        }
+        Ok(())
+    }
+}

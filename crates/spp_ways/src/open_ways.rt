@@ -1,0 +1,339 @@
+//! The ways into the open frames of a run, on both paths at once.
+
+ghost use Rattle.std.specs.Prelude.{◌≡◌, ◌+◌, ◌<◌, ◌≤◌, ◌^◌, ◌∷◌, [], ℕ, Bool, false, Option, length, OnOk, IfOk};
+ghost use Rattle.spp_site.specs.Rows.{Fits};
+ghost use Rattle.spp_site.specs.Profiles.{key_row};
+ghost use Rattle.spp_ways.specs.Ways.{no_ways, rows_at};
+ghost use Rattle.spp_ways.specs.OpenWays.{
+  IsLaid,
+  HasOne,
+  HasTwo,
+  FitStrand,
+  ways_of,
+  on_path,
+  path_of,
+  bare_row,
+  strand_list,
+  waited_list,
+  returned_list,
+  root_rows,
+  chosen,
+  nothing,
+  come,
+  entered,
+  AreIn,
+  StayIn,
+};
+
+use crate::log::{Log, LogRow};
+use spp_dag::FrameKind;
+use spp_site::{ClosedFrame, Table};
+use std::alloc::{AllocError, Global};
+
+/// An answer for each of both paths.
+#[derive(Clone, Copy, Debug, PartialEq, Eq)]
+pub struct OnPaths {
+    /// For the path without burdens.
+    pub plain: bool,
+    /// For the path under the burdens.
+    pub burdened: bool,
+}
+
+/// A way into an open frame.
+#[derive(Clone, Copy)]
+struct LoggedWay {
+    /// Where it ends in the log.
+    rows: u32,
+    /// The counts of the frame's own strands on it.
+    own: u128,
+}
+
+impl LoggedWay {
+    /// The way that enters nothing.
+    #[inline(always)]
+    fn none() -> Self
+        ensures { result ≡ nothing }
+    {
+        LoggedWay { rows: 0, own: 0 }
+    }
+}
+
+/// The two ways into an open frame on one path.
+#[derive(Clone, Copy)]
+struct LoggedWays {
+    /// Along the frame itself.
+    along: LoggedWay,
+    /// Through the child that waits in it, if one does.
+    through: LoggedWay,
+}
+
+impl LoggedWays {
+    /// Those of a frame that goes on so, and in which no child waits.
+    #[inline(always)]
+    fn going_on(along: LoggedWay) -> Self
+        ensures { result ≡ record { along = along; through = nothing } }
+    {
+        LoggedWays {
+            along,
+            through: LoggedWay::none(),
+        }
+    }
+
+    /// The way on which the frame goes on where it waits.
+    #[inline(always)]
+    fn chosen(&self, takes: bool) -> LoggedWay
+        ensures { result ≡ chosen takes self.now }
+    {
+        if takes { self.through } else { self.along }
+    }
+
+    /// How many rows of the log are needed for the ways that stay where a frame of that kind returns, which wins against
+    /// the child that waits or not.
+    #[inline(always)]
+    fn needed(&self, kind: FrameKind, wins: bool) -> u32
+        ensures stay { StayIn result kind wins self.now }
+        ensures most { (n : ℕ) → AreIn n self.now → result ≤ n }
+    {
+        match kind {
+            FrameKind::Spawned if wins => self.along.rows,
+            FrameKind::Root | FrameKind::Called | FrameKind::Spawned => {
+                self.along.rows.max(self.through.rows)
+            }
+        }
+    }
+
+    /// A frame of that kind returns, the way through which ends with that row.
+    #[inline(always)]
+    fn come(&mut self, kind: FrameKind, wins: bool, rows: u32)
+        ensures { self.new ≡ come kind wins rows self.old }
+    {
+        match kind {
+            FrameKind::Root => {}
+            FrameKind::Called => self.along.rows = rows,
+            FrameKind::Spawned => {
+                if wins {
+                    self.through = LoggedWay {
+                        rows,
+                        own: self.along.own,
+                    };
+                }
+            }
+        }
+    }
+}
+
+/// An open frame as far as its ways go.
+#[derive(Clone, Copy)]
+struct FrameWays {
+    /// On the path without burdens.
+    plain: LoggedWays,
+    /// On the path under the burdens.
+    burdened: LoggedWays,
+    /// How many rows the log had where the frame was opened: the ways into the frames below end there or before.
+    start: u32,
+}
+
+impl FrameWays {
+    /// A frame that is opened where the log has so many rows.
+    #[inline(always)]
+    fn opened(start: u32) -> Self
+        ensures { result ≡ record { plain = record { along = nothing; through = nothing }; burdened = record { along = nothing; through = nothing }; start = start } }
+    {
+        FrameWays {
+            plain: LoggedWays::going_on(LoggedWay::none()),
+            burdened: LoggedWays::going_on(LoggedWay::none()),
+            start,
+        }
+    }
+
+    /// The way on which the frame goes on where it waits, on that path: without burdens, or under them.
+    fn chosen_on(&self, burdened: bool, takes: OnPaths) -> LoggedWay
+        ensures { result ≡ chosen (on_path burdened takes) (path_of burdened self.now) }
+    {
+        if burdened {
+            self.burdened.chosen(takes.burdened)
+        } else {
+            self.plain.chosen(takes.plain)
+        }
+    }
+}
+
+/// Whether the way through a frame of that kind, which returns, is kept on either path.
+#[inline(always)]
+fn is_entered(kind: FrameKind, wins: OnPaths) -> bool
+    ensures { result ≡ entered kind wins }
+{
+    match kind {
+        FrameKind::Root => false,
+        FrameKind::Called => true,
+        FrameKind::Spawned => wins.plain || wins.burdened,
+    }
+}
+
+/// The ways into the open frames of a run, without burdens and under them: for each frame the greatest way along the frame
+/// itself, and the greatest way through a child that waits in it, with the closed frames that they enter. Which child a
+/// frame takes, and which of two children is kept, is told by whoever keeps their weights.
+///
+/// A frame that closes takes a row of 96 bytes, and rows behind the last one that a way ends with are cut off. An open
+/// frame takes 144 bytes. Each step takes constant time.
+#[derive(Drop)]
+pub struct OpenWays {
+    frames: Vec<FrameWays>,
+    log: Log,
+}
+
+impl OpenWays {
+    /// The ways into the root frame, before the first event.
+    ///
+    /// # Errors
+    ///
+    /// Where an allocation failed.
+    pub fn new(alloc: Global) -> Result<Self, AllocError>
+        ensures laid { IfOk result (λ w. IsLaid w) }
+        ensures ways { IfOk result (λ w. (on : Bool) → ways_of on w ≡ no_ways ∷ []) }
+        ensures rows { IfOk result (λ w. length w.log.rows.items ≡ 0) }
+    {
+        let mut frames = Vec::new(alloc);
+        frames.push(FrameWays::opened(0))?;
+        Ok(OpenWays {
+            frames,
+            log: Log::new(alloc),
+        })
+    }
+
+    /// A call or a spawn.
+    ///
+    /// # Errors
+    ///
+    /// Where an allocation failed.
+    #[inline(always)]
+    pub fn open(&mut self) -> Result<(), AllocError>
+        requires laid { IsLaid self.old }
+        requires few { length self.old.log.rows.items < 2 ^ 32 }
+        ensures laid { OnOk result (IsLaid self.new) }
+        ensures ways { OnOk result ((on : Bool) → ways_of on self.new ≡ no_ways ∷ ways_of on self.old) }
+        ensures rows { OnOk result (length self.new.log.rows.items ≤ length self.old.log.rows.items) }
+    {
+        self.frames.push(FrameWays::opened(self.log.len()))?;
+        Ok(())
+    }
+
+    /// A strand of that many instructions in the innermost frame.
+    #[inline(always)]
+    pub fn strand(&mut self, count: u64)
+        requires laid { IsLaid self.old }
+        requires fits { (on : Bool) → FitStrand count (ways_of on self.old) }
+        ensures laid { IsLaid self.new }
+        ensures ways { (on : Bool) → ways_of on self.new ≡ strand_list count (ways_of on self.old) }
+        ensures rows { length self.new.log.rows.items ≤ length self.old.log.rows.items }
+    {
+        let last = self.frames.len() - 1;
+        let frame = &mut self.frames[last];
+        frame.plain.along.own += u128::from(count);
+        frame.burdened.along.own += u128::from(count);
+    }
+
+    /// The innermost frame waits for its children; on which paths it takes the child that waits.
+    #[inline(always)]
+    pub fn wait(&mut self, takes: OnPaths)
+        requires laid { IsLaid self.old }
+        requires some { HasOne (ways_of false self.old) }
+        ensures laid { IsLaid self.new }
+        ensures ways { (on : Bool) → ways_of on self.new ≡ waited_list (on_path on takes) (ways_of on self.old) }
+        ensures rows { length self.new.log.rows.items ≤ length self.old.log.rows.items }
+    {
+        let last = self.frames.len() - 1;
+        let frame = &mut self.frames[last];
+        let plain = frame.plain.chosen(takes.plain);
+        let burdened = frame.burdened.chosen(takes.burdened);
+        let needed = frame.start.max(plain.rows).max(burdened.rows);
+        frame.plain = LoggedWays::going_on(plain);
+        frame.burdened = LoggedWays::going_on(burdened);
+        self.log.cut(needed);
+    }
+
+    /// The innermost frame returns to the one below: how it was entered; on which paths it takes the child that waits in
+    /// it; on which the way through it is greater than the one through the child that waits in the frame below, or none
+    /// waits; and the frame as the table of the whole dag counts it.
+    ///
+    /// # Errors
+    ///
+    /// Where an allocation failed.
+    #[inline(always)]
+    pub fn ret(
+        &mut self,
+        kind: FrameKind,
+        takes: OnPaths,
+        wins: OnPaths,
+        site: u32,
+        closed: &ClosedFrame,
+    ) -> Result<(), AllocError>
+        requires laid { IsLaid self.old }
+        requires some { HasTwo (ways_of false self.old) }
+        requires few { length self.old.log.rows.items + 1 < 2 ^ 32 }
+        requires site { site < 65536 }
+        ensures laid { OnOk result (IsLaid self.new) }
+        ensures ways { OnOk result ((on : Bool) → ways_of on self.new ≡ returned_list kind (on_path on takes) (on_path on wins) site (bare_row closed.now) (ways_of on self.old)) }
+        ensures rows { OnOk result (length self.new.log.rows.items ≤ length self.old.log.rows.items + 1) }
+    {
+        let last = self.frames.len() - 1;
+        let plain = self.frames[last].plain.chosen(takes.plain);
+        let burdened = self.frames[last].burdened.chosen(takes.burdened);
+        self.frames.truncate(last);
+        let parent = &mut self.frames[last - 1];
+        let plain_stays = parent.plain.needed(kind, wins.plain);
+        let burdened_stays = parent.burdened.needed(kind, wins.burdened);
+        let stays = parent.start.max(plain_stays).max(burdened_stays);
+        if !is_entered(kind, wins) {
+            self.log.cut(stays);
+            return Ok(());
+        }
+        self.log.cut(stays.max(plain.rows).max(burdened.rows));
+        let rows = self.log.push(LogRow {
+            work: closed.work,
+            span: closed.span,
+            own: plain.own,
+            burdened_own: burdened.own,
+            before: parent.plain.along.rows,
+            within: plain.rows,
+            burdened_before: parent.burdened.along.rows,
+            burdened_within: burdened.rows,
+            site,
+            top_site: closed.top_site,
+            top_caller: closed.top_caller,
+        })?;
+        parent.plain.come(kind, wins.plain, rows);
+        parent.burdened.come(kind, wins.burdened, rows);
+        Ok(())
+    }
+
+    /// The table of a path, without burdens or under them, where the root frame, which alone is open, closes: on which paths
+    /// it takes the child that waits in it, and the frame as the table of the whole dag counts it. It takes time linear in
+    /// the number of frames that the path enters.
+    ///
+    /// # Errors
+    ///
+    /// Where an allocation failed.
+    pub fn path_table(
+        &self,
+        alloc: Global,
+        burdened: bool,
+        takes: OnPaths,
+        closed: &ClosedFrame,
+    ) -> Result<Table, AllocError>
+        requires laid { IsLaid self.now }
+        requires some { HasOne (ways_of false self.now) }
+        requires fits { (key : Option ℕ) → Fits (rows_at (root_rows (on_path burdened takes) (bare_row closed.now) (ways_of burdened self.now)) key) }
+        ensures { IfOk result (λ t. (key : Option ℕ) → key_row t key ≡ rows_at (root_rows (on_path burdened takes) (bare_row closed.now) (ways_of burdened self.now)) key) }
+    {
+        let way = self.frames[self.frames.len() - 1].chosen_on(burdened, takes);
+        let mut table = Table::new(alloc);
+        self.log.add_up(alloc, burdened, way.rows, &mut table)?;
+        let root = ClosedFrame {
+            local: way.own,
+            ..*closed
+        };
+        table.add_root(&root.row());
+        Ok(table)
+    }
+}
