@@ -185,7 +185,7 @@ module _ (es : List Event) (wf : IsWellFormed es) (bd : Burdens) (ps : List ℕ)
     r : Back es wf bd o (partner es o) g h k
     r = goes_back es wf bd o u g h k
 
-    waits_after : waiting k.top.state ≡ cond Won (Some o) (waiting g.top.state)
+    pub waits_after : waiting k.top.state ≡ cond Won (Some o) (waiting g.top.state)
     waits_after =
         ap (λ (f : Frame). waiting f.state) r.is ∙ return_waits es wf bd h.top g.top o r.first
         ∙ ap (λ b. cond b (cond Won (Some o) (waiting g.top.state)) (waiting g.top.state)) t
