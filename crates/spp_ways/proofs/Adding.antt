@@ -1,6 +1,5 @@
 -- What the ways into all open frames have of the rows of the path, and that one event adds its gain to it.
-use Rattle.std.proofs.Common.{◌≡◌, ℕ, zero, suc, ◌+◌, ◌≤◌, ◌<◌, Bool, true, false, cond, not, ◌&&◌, refl, arith, sym, ◌∙◌, ap, ap₂, subst, List, [], ◌∷◌, length, map, Option, Some}
-use Rattle.std.proofs.lemmas.Bool.{both_ways}
+use Rattle.std.proofs.Common.{◌≡◌, ℕ, suc, ◌+◌, ◌≤◌, ◌<◌, Bool, true, false, cond, not, ◌&&◌, refl, arith, sym, ◌∙◌, ap, ap₂, subst, List, [], ◌∷◌, length, map, Option, Some}
 use Rattle.spp_event.specs.declared.records.Event.{Event}
 use Rattle.spp_event.specs.declared.records.Event.TheVariants.{Strand, Call, Spawn, Ret, Sync}
 use Rattle.spp_maxplus.specs.declared.state.Burdens.{Burdens}
@@ -21,10 +20,10 @@ use Rattle.spp_dag.proofs.Steps.{entry_follows}
 use Rattle.spp_site.proofs.Rows.{plus-zero, zero-plus, plus-assoc, plus-swap}
 use Rattle.spp_ways.specs.Ways.{Leaf, Ways, rows_at, no_ways, strand_ways, waited_ways, way_on, closed_rows, returned_ways, state_on, burdens_on, takes, wins, ways_after}
 use Rattle.spp_ways.proofs.Waiting.{co, re, At}
-use Rattle.spp_ways.proofs.Going.{goes, passed, passes_where, takes_where}
+use Rattle.spp_ways.proofs.Going.{goes, passes_where, takes_where}
 use Rattle.spp_ways.proofs.Opened.{frame_on, opening_of, never_empty, top_of}
 use Rattle.spp_ways.proofs.Parts.{adds, none_added, strand_added, sync_added, closed_added}
-use Rattle.spp_ways.proofs.Returned.{Goes, returned_goes}
+use Rattle.spp_ways.proofs.Returned.{returned_goes}
 
 -- what the ways into these frames have, for the path through these positions
 abbrev pub total : List ℕ → Bool → List EntryFrame → List Ways → Option ℕ → Row

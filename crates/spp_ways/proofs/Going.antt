@@ -1,6 +1,6 @@
 -- Whether the path goes through the child that waits in a frame: what that says of the positions that it passes, of
 -- what the frame takes, and of the child that waits after a return.
-use Rattle.std.proofs.Common.{◌≡◌, ℕ, suc, ◌+◌, ◌≤◌, ◌<◌, Bool, true, false, cond, not, ◌&&◌, refl, arith, sym, ◌∙◌, ap, ap₂, subst, ◌⊎◌, inl, inr, List, ◌∷◌, length, Option, Some, None}
+use Rattle.std.proofs.Common.{◌≡◌, ℕ, suc, ◌≤◌, ◌<◌, Bool, true, false, cond, not, ◌&&◌, refl, arith, sym, ◌∙◌, ap, subst, inl, inr, List, ◌∷◌, length, Option, Some, None}
 use Rattle.std.proofs.lemmas.Bool.{cases_lt, and_parts, and_from, both_ways, false_from_ne_true, eq-eqb}
 use Rattle.spp_event.specs.declared.records.Event.{Event}
 use Rattle.spp_maxplus.specs.declared.state.State.{State}
@@ -11,7 +11,7 @@ use Rattle.spp_dag.specs.Dag.{IsPath, On}
 use Rattle.spp_dag.specs.Rows.{contains}
 use Rattle.spp_dag.proofs.Ranges.{least_le}
 use Rattle.spp_dag.proofs.Depth.{closed, inside_opens}
-use Rattle.spp_dag.proofs.Machine.{Frame, Shape, shape}
+use Rattle.spp_dag.proofs.Machine.{Frame}
 use Rattle.spp_dag.proofs.Owner.{owner_is}
 use Rattle.spp_dag.proofs.Upper.{spawns_opens}
 use Rattle.spp_dag.proofs.Span.{trail_of}
@@ -21,7 +21,7 @@ use Rattle.spp_dag.proofs.PathLaws.{path_enters, path_calls, taken_joins}
 use Rattle.spp_dag.proofs.Entries.{running_passes}
 use Rattle.spp_dag.proofs.Profiles.{contains_passed}
 use Rattle.spp_ways.specs.Ways.{is_some, takes, wins}
-use Rattle.spp_ways.proofs.Waiting.{waiting, taken_waits, opens_not_syncs, co, re, At, Waits, waited, return_waits, Back, goes_back, joins_past, kept}
+use Rattle.spp_ways.proofs.Waiting.{waiting, taken_waits, opens_not_syncs, co, re, At, WaitsIn, waited, return_waits, Back, goes_back, joins_past, kept}
 
 -- two tests that pass together are one
 both_pass : (a b : Bool) → (a ≡ true → b ≡ true) → (b ≡ true → a ≡ true) → a ≡ b
@@ -70,7 +70,7 @@ module _ (es : List Event) (wf : IsWellFormed es) (bd : Burdens) (ps : List ℕ)
   record Through (f p : ℕ) (h : Stack p) : Type 0 where
     child : ℕ
     waits : waiting h.top.state ≡ Some child
-    place : Waits es wf bd f p child
+    place : WaitsIn es wf bd f p child
     on : On 0 ps (suc child)
 
   through : (p : ℕ) → p ≤ length es → (h : Stack p) → goes ps h.top.state ≡ true → Through h.top.first p h
@@ -92,11 +92,11 @@ module _ (es : List Event) (wf : IsWellFormed es) (bd : Burdens) (ps : List ℕ)
       forth e =
           let r = (running_passes es wf bd ps path i l n).1 (on_of i e) in
           let none : goes ps h.top.state ≡ false = false_from_ne_true (goes ps h.top.state) (λ g.
-              let t = through i (omega arith) h g in
-              let w = t.place in
-              let a = (closed es wf t.child (spawns_opens (event_at es t.child) w.spawned)).after in
-              let b = w.before in
-              r.1 t.child w.spawned (w.own ∙ sym own) (omega arith) w.upto t.on) in
+          let t = through i (omega arith) h g in
+          let w = t.place in
+          let a = (closed es wf t.child (spawns_opens (event_at es t.child) w.spawned)).after in
+          let b = w.before in
+          r.1 t.child w.spawned (w.own ∙ sym own) (omega arith) w.upto t.on) in
           and_from _ _ (of_on h.top.first (subst (λ k. On 0 ps k) own r.0)) (true_not (goes ps h.top.state) none)
 
       back : (passed h.top.first && not (goes ps h.top.state)) ≡ true → passed i ≡ true
@@ -215,7 +215,7 @@ module _ (es : List Event) (wf : IsWellFormed es) (bd : Burdens) (ps : List ℕ)
         c : Through g.top.first o g
         c = through o inside g y
 
-        w : Waits es wf bd g.top.first o c.child
+        w : WaitsIn es wf bd g.top.first o c.child
         w = c.place
 
         own : owner es o ≡ g.top.first

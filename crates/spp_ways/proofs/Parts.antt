@@ -1,13 +1,13 @@
 -- What the ways into open frames have of the rows of the path, and what one event adds to that.
-use Rattle.std.proofs.Common.{◌≡◌, ℕ, ◌+◌, Bool, true, false, cond, not, ◌&&◌, refl, arith, sym, ◌∙◌, ap, ap₂, List, [], ◌∷◌, ◌++◌, Option}
+use Rattle.std.proofs.Common.{◌≡◌, ℕ, ◌+◌, Bool, true, false, cond, not, ◌&&◌, refl, arith, sym, ◌∙◌, ap, List, [], ◌∷◌, ◌++◌, Option}
 use Rattle.std.proofs.lemmas.Bool.{both_ways}
 use Rattle.spp_dag.specs.declared.row.Row.{Row}
 use Rattle.spp_dag.specs.declared.stack.FrameKind.TheVariants.{Called, Spawned}
 use Rattle.spp_dag.specs.Shares.{plus, zero_row}
 use Rattle.spp_dag.specs.Steps.{same_key, strand_row}
 use Rattle.spp_dag.proofs.Shares.{same_rows}
-use Rattle.spp_site.proofs.Rows.{plus-zero, zero-plus, plus-assoc, plus-over}
-use Rattle.spp_ways.specs.Ways.{Leaf, Way, Ways, rows_at, no_way, no_ways, strand_way, strand_ways, way_on, waited_ways, closed_rows, way_through, returned_ways}
+use Rattle.spp_site.proofs.Rows.{plus-zero, zero-plus, plus-assoc}
+use Rattle.spp_ways.specs.Ways.{Leaf, Way, Ways, rows_at, no_ways, strand_ways, way_on, waited_ways, closed_rows, way_through, returned_ways}
 
 plus-turn : (a b : Row) → plus a b ≡ plus b a
 plus-turn a b = same_rows _ _ (omega arith) (omega arith) (omega arith) (omega arith) (omega arith) (omega arith) (omega arith) (omega arith)

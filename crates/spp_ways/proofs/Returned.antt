@@ -1,8 +1,7 @@
 -- What the ways into a frame have of the rows of the path, after the return of a frame that it opened.
-use Rattle.std.proofs.Common.{◌≡◌, ℕ, zero, suc, ◌+◌, Bool, true, false, cond, not, ◌&&◌, refl, arith, sym, ◌∙◌, ap, subst, List, ◌∷◌, length, Option, Some}
+use Rattle.std.proofs.Common.{◌≡◌, ℕ, suc, Bool, true, false, cond, refl, arith, sym, ◌∙◌, ap, subst, List, length, Option, Some}
 use Rattle.spp_event.specs.declared.records.Event.{Event}
 use Rattle.spp_maxplus.specs.declared.state.Burdens.{Burdens}
-use Rattle.spp_dag.specs.declared.row.Row.{Row}
 use Rattle.spp_dag.specs.declared.stack.FrameKind.{FrameKind}
 use Rattle.spp_dag.specs.declared.stack.FrameKind.TheVariants.{Root, Called, Spawned}
 use Rattle.spp_dag.specs.Trace.{event_at, opens, spawns, partner, IsWellFormed}

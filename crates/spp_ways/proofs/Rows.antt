@@ -1,5 +1,5 @@
 -- The ways into the open frames have the rows of the path so far, and at the end those of the whole path.
-use Rattle.std.proofs.Common.{◌≡◌, ℕ, zero, suc, ◌+◌, ◌-◌, ◌≤◌, ◌<◌, Bool, true, false, cond, ◌&&◌, refl, arith, sym, ◌∙◌, ap, ap₂, subst, inl, inr, List, [], ◌∷◌, length, map, take, Option, Some, None, Ok}
+use Rattle.std.proofs.Common.{◌≡◌, ℕ, zero, suc, ◌+◌, ◌-◌, ◌≤◌, Bool, true, false, cond, ◌&&◌, refl, arith, sym, ◌∙◌, ap, ap₂, subst, inl, inr, List, [], ◌∷◌, length, map, take, Option, Some, None, Ok}
 use Rattle.std.proofs.lemmas.List.{length-map, take_all}
 use Rattle.spp_event.specs.declared.records.Event.{Event}
 use Rattle.spp_event.specs.Recordings.{Record}
@@ -11,7 +11,7 @@ use Rattle.spp_dag.specs.declared.stack.OpenFrame.{OpenFrame}
 use Rattle.spp_dag.specs.declared.stack.EntryFrame.{EntryFrame}
 use Rattle.spp_dag.specs.declared.stack.FrameKind.{FrameKind}
 use Rattle.spp_dag.specs.declared.stack.FrameKind.TheVariants.{Root, Called, Spawned}
-use Rattle.spp_dag.specs.Trace.{records, event_at, weight, syncs, IsWellFormed}
+use Rattle.spp_dag.specs.Trace.{records, event_at, weight, IsWellFormed}
 use Rattle.spp_dag.specs.Dag.{IsPath, IsGreatest}
 use Rattle.spp_dag.specs.Stack.{run, root_frame}
 use Rattle.spp_dag.specs.Rows.{AreSpans, row, work, contains, is_top_site, is_top_caller}
@@ -20,7 +20,6 @@ use Rattle.spp_dag.specs.Shares.{share, plus, zero_row}
 use Rattle.spp_dag.specs.Laws.{own_row}
 use Rattle.spp_dag.specs.Steps.{site_by, key_of, same_key, entry_after, closed_row, gain}
 use Rattle.spp_dag.proofs.Machine.{Frame, shape}
-use Rattle.spp_dag.proofs.Owner.{owner_is}
 use Rattle.spp_dag.proofs.Entries.{entry_is_one}
 use Rattle.spp_dag.proofs.Depth.{inside, closed_at_end}
 use Rattle.spp_dag.proofs.Shares.{same_rows, shares_law, cut_law, end_law}
@@ -28,7 +27,7 @@ use Rattle.spp_dag.proofs.Stacks.{machine_gives_spans}
 use Rattle.spp_dag.proofs.Steps.{entry_follows}
 use Rattle.spp_dag.proofs.StepsShares.{share_follows}
 use Rattle.spp_dag.proofs.Profiles.{greatest_one, root_work}
-use Rattle.spp_site.proofs.Rows.{plus-zero, plus-assoc}
+use Rattle.spp_site.proofs.Rows.{plus-zero}
 use Rattle.spp_site.proofs.RowSums.{doubled}
 use Rattle.spp_ways.specs.Laws.{WaysGiveRows}
 use Rattle.spp_ways.specs.Ways.{Ways, HasWays, rows_at, no_ways, closed_rows, way_on, takes, state_on, burdens_on, ways_after}

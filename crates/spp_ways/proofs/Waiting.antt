@@ -6,8 +6,8 @@ use Rattle.spp_event.specs.declared.records.Event.TheVariants.{Strand, Call, Spa
 use Rattle.spp_maxplus.specs.declared.state.State.{State}
 use Rattle.spp_maxplus.specs.declared.state.Burdens.{Burdens}
 use Rattle.spp_maxplus.specs.Candidate.{better}
-use Rattle.spp_maxplus.specs.State.{close, taken, taken_of, after_spawn, after_call}
-use Rattle.spp_dag.specs.Trace.{event_at, opens, spawns, syncs, partner, owner, join, is_spawned, IsWellFormed}
+use Rattle.spp_maxplus.specs.State.{close, taken_of, after_spawn, after_call}
+use Rattle.spp_dag.specs.Trace.{event_at, opens, spawns, syncs, partner, owner, join, IsWellFormed}
 use Rattle.spp_dag.specs.Dag.{IsPath, On}
 use Rattle.spp_dag.proofs.Ranges.{least_le}
 use Rattle.spp_dag.proofs.Depth.{closed, inside_opens, is_return, slice_get_no}
@@ -65,21 +65,21 @@ module _ (es : List Event) (wf : IsWellFormed es) (bd : Burdens) where
   At = Shape es 1 co re
 
   -- the child spawned at s waits in the frame f before the event at p
-  pub record Waits (f p s : ℕ) : Type 0 where
+  pub record WaitsIn (f p s : ℕ) : Type 0 where
     pub spawned : spawns (event_at es s) ≡ true
     pub own : owner es s ≡ f
     pub before : partner es s < p
     pub upto : p ≤ join es s
 
-  pub waited : (p : ℕ) → p ≤ length es → (h : At p) (s : ℕ) → waiting h.top.state ≡ Some s → Waits h.top.first p s
+  pub waited : (p : ℕ) → p ≤ length es → (h : At p) (s : ℕ) → waiting h.top.state ≡ Some s → WaitsIn h.top.first p s
   waited p l h s e = by h.top.state.child (reached_top es 1 co re wf (λ _. 0) re (λ s. let z : bd.join ≡ 0 + bd.join = omega arith in z) p l h).child e
     where
-      by : (c : Option (ℕ × ℕ)) → ChildAt es 1 (λ _. 0) co re h.top.first p c → waiting_of c ≡ Some s → Waits h.top.first p s
+      by : (c : Option (ℕ × ℕ)) → ChildAt es 1 (λ _. 0) co re h.top.first p c → waiting_of c ≡ Some s → WaitsIn h.top.first p s
       by None d e = let z : None ≡ Some s = e in cc
       by (Some c) d e =
           let z : Some c.1 ≡ Some s = e in
           let q : c.1 ≡ s = cc in
-          subst (λ k. Waits h.top.first p k) q (record { spawned = d.spawned; own = d.own; before = d.before; upto = d.waiting })
+          subst (λ k. WaitsIn h.top.first p k) q (record { spawned = d.spawned; own = d.own; before = d.before; upto = d.waiting })
 
   -- ---- a return
 
