@@ -1,15 +1,14 @@
 -- What the ways into open frames are for: those into the root frame at the end give the rows of the path.
-use Rattle.std.specs.Prelude.{◌≡◌, ℕ, Bool, cond, List, [], ◌∷◌, length, Option, None}
+use Rattle.std.specs.Prelude.{◌≡◌, ℕ, Bool, List, [], ◌∷◌, length, Option, None}
 use Rattle.spp_event.specs.declared.records.Event.{Event}
 use Rattle.spp_maxplus.specs.declared.state.Burdens.{Burdens}
 use Rattle.spp_dag.specs.declared.stack.EntryFrame.{EntryFrame}
 use Rattle.spp_dag.specs.Trace.{IsWellFormed}
 use Rattle.spp_dag.specs.Dag.{IsPath}
 use Rattle.spp_dag.specs.Rows.{AreSpans, row, contains}
-use Rattle.spp_dag.specs.Shares.{plus, zero_row}
 use Rattle.spp_dag.specs.Steps.{closed_row}
 use Rattle.spp_dag.specs.Choices.{IsEntry}
-use Rattle.spp_ways.specs.Ways.{Leaf, Way, Ways, HasWays, rows_at, closed_rows, way_on, takes, state_on, burdens_on}
+use Rattle.spp_ways.specs.Ways.{Ways, HasWays, rows_at, closed_rows, way_on, takes, state_on, burdens_on}
 
 -- The way into the root frame that it closes with, its own row among the others, has the rows of the path.
 abbrev pub WaysGiveRows : Type 0
