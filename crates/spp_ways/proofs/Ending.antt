@@ -19,7 +19,7 @@ use Rattle.spp_ways.specs.Ways.{Leaf, Way, rows_at}
 use Rattle.spp_ways.specs.Logs.{way_rows}
 use Rattle.spp_ways.specs.OpenWays.{Laid, AreIn, IsLaid, on_path, path_of, way_in, bare_row, root_rows, frame_ways, ways_of, chosen}
 use Rattle.spp_ways.proofs.Returning.{leaf_row, chosen_on, chosen_in}
-use Rattle.spp_ways.proofs.Summing.{rows_at-append, row_fits}
+use Rattle.spp_ways.proofs.Parts.{rows_at-append}
 
 path_in : (on : Bool) (n : ℕ) (f : FrameWays) → AreIn n f.plain → AreIn n f.burdened → AreIn n (path_of on f)
 path_in false n f a b = a

@@ -12,15 +12,10 @@ use Rattle.spp_site.proofs.Rows.{plus-zero, zero-plus, plus-assoc, plus-swap, pl
 use Rattle.spp_ways.specs.declared.log.LogRow.{LogRow}
 use Rattle.spp_ways.specs.Ways.{Leaf, rows_at}
 use Rattle.spp_ways.specs.Logs.{way_rows, before_on, within_on, closed_on, leaf_on, IsLinked, AreLinked}
+use Rattle.spp_ways.proofs.Parts.{rows_at-append}
 use Rattle.spp_ways.proofs.Staying.{rows_stay, rows_last, rows_none, Cut, cut, linked_less}
 
 -- ---- sums of rows
-
-pub rows_at-append : (xs ys : List Leaf) (key : Option ℕ) → rows_at (xs ++ ys) key ≡ plus (rows_at xs key) (rows_at ys key)
-rows_at-append [] ys key = sym (zero-plus (rows_at ys key))
-rows_at-append (x ∷ xs) ys key =
-    ap (plus (cond (same_key x.key key) x.row zero_row)) (rows_at-append xs ys key)
-    ∙ sym (plus-assoc (cond (same_key x.key key) x.row zero_row) (rows_at xs key) (rows_at ys key))
 
 pub row_fits : (r s q : Row) → plus r s ≡ q → Fits q → Fits r
 row_fits r s q e f =
