@@ -31,12 +31,12 @@ use Rattle.spp_dag.specs.declared.choices.Choice.{Choice}
 use Rattle.spp_dag.specs.ChoiceLists.{IsEnd, IsJoin, AreEnds, AreJoins, AreChoices}
 use Rattle.spp_dag.proofs.EventsOfRecords.{event_is}
 use Rattle.spp_pass.specs.declared.counted_frame.CountedFrame.{CountedFrame}
-use Rattle.spp_pass.specs.declared.summing.FirstPass.{FirstPass}
+use Rattle.spp_pass.specs.declared.counting.Ended.{Ended}
 use Rattle.spp_pass.specs.LeanFrames.{LeanFrame}
 use Rattle.spp_site.specs.Profiles.{IsDagTable}
 use Rattle.spp_maxplus.specs.Weights.{close}
 use Rattle.spp_pass.specs.LeanFrames.{advance}
-use Rattle.spp_pass.specs.Passes.{Seen, state_of, burdened_state_of, joins_at, ends_at, start_seen, strand_seen, sync_seen, open_seen, OnTop, HasOpen, CanAdd, CanReturn, IsReturned, Returns, CanFinish, IsFinished}
+use Rattle.spp_pass.specs.Passes.{Seen, state_of, burdened_state_of, joins_at, ends_at, start_seen, strand_seen, sync_seen, open_seen, OnTop, HasOpen, CanAdd, CanReturn, IsReturned, Returns, CanFinish, IsEnded}
 use Rattle.spp_pass.specs.Outside.{AreBelow}
 use Rattle.spp_pass.proofs.Keeping as figures
 use Rattle.spp_pass.proofs.Keeping.{kept_none, kept_more, all_kept}
@@ -395,68 +395,33 @@ module _ (trace : Recording) (burdens : Burdens) (short : length trace.records �
           let c = finishable i (omega arith) (counted f) s.open_sites s.open_funcs s.work s.table at.bounded in
           (c.0, subst (λ r. Fits (plus s.table.root r)) (sym (row_is f s.work at.neat.0)) c.1)
 
-  -- what the pass tells is so
-  pub record IsTold (p : FirstPass) : Type 0 where
-    pub figures : AreFigures trace.records burdens p.figures
-    pub small : p.figures.work < 2 ^ 92
-    pub dag : IsDagTable trace p.dag
-    pub choices : (es : List Event) → AreEvents trace.records es → AreChoices es burdens p.choices
+  -- what is told at the end is so
+  pub record IsTold (e : Ended) : Type 0 where
+    pub figures : AreFigures trace.records burdens e.figures
+    pub small : e.figures.work < 2 ^ 92
+    pub dag : IsDagTable trace e.dag
 
-  told_from : (s : Seen) (f : CountedFrame) (p : FirstPass) → Passed trace burdens 0 i (record s { frames = f ∷ [] }) → IsFinished i s (f ∷ []) p → IsTold p
-  told_from s f p at h =
+  told_from : (s : Seen) (f : CountedFrame) (e : Ended) → Passed trace burdens 0 i (record s { frames = f ∷ [] }) → IsEnded s (f ∷ []) e → IsTold e
+  told_from s f e at h =
       let fig = all_kept trace.records burdens trace.root i s.work (lean f) [] last refl at.reached in
       let w : s.work ≤ 18446744073709551615 * i = at.reached.small in
       let es = fig.events in
       let are = fig.are_events in
-      let wf_of = λ (es : List Event) (are : AreEvents trace.records es). let z : IsWellFormed es = subst (λ (x : List Record). nesting.IsWellFormed x) are fig.well_formed in z in
-      let wf = wf_of es are in
+      let wf : IsWellFormed es = subst (λ (x : List Record). nesting.IsWellFormed x) are fig.well_formed in
       let sp = (spans_law es wf).0 in
-      let ended = λ (es : List Event) (are : AreEvents trace.records es) (span : ℕ → ℕ) (spans : AreSpans es span).
-      subst (λ k. Shared es burdens trace.root span 0 k (told (record s { frames = f ∷ [] }))) (last ∙ events_len trace es are) (at.shared es are (wf_of es are) span spans) in
+      let ended =
+      subst (λ k. Shared es burdens trace.root sp.0 0 k (told (record s { frames = f ∷ [] }))) (last ∙ events_len trace es are) (at.shared es are wf sp.0 sp.1) in
       record {
         figures = subst (λ x. AreFigures trace.records burdens x) (sym h.0) fig;
         small = subst (λ (x : Figures). x.work < 2 ^ 92) (sym h.0) (omega arith);
         dag = subst (λ t. IsDagTable trace t) (sym (h.1 ∙ ap (λ r. let u : Sums = record s.table { root = plus s.table.root r } in u) (row_is f s.work at.neat.0)))
-            (fig.well_formed, (es, are, (sp.0, sp.1, finished es wf trace.root sp.0 sp.1 burdens (counted f) s.open_sites s.open_funcs s.work s.table at.bounded.open_frames (ended es are sp.0 sp.1))));
-        choices = λ es are.
-            let wf = wf_of es are in
-            let sp = (spans_law es wf).0 in
-            let n = events_len trace es are in
-            let here : i ≡ length es = last ∙ n in
-            let noted = at.noted es are wf in
-            let j = joins_of es wf burdens trace.root i s.work f [] (at.shared es are wf sp.0 sp.1).entry ((let z : i ≤ length es = omega arith in z), λ l. absurd (omega arith)) in
-            let joins = more_from (λ (j : Choice). j.at) (IsJoin es unburdened) 0 i s.joins _ (omega arith) noted.1 j.joins in
-            let burdened = more_from (λ (j : Choice). j.at) (IsJoin es burdens) 0 i s.burdened_joins _ (omega arith) noted.2 j.burdened in
-            record {
-              ends = all_ends es wf p.choices.ends.items (subst (λ l. AreEndsTo es 0 (length es) l) (sym h.2) (subst (λ k. AreEndsTo es 0 k s.ends) here noted.0));
-              joins = all_joins es unburdened p.choices.joins.items
-                  (subst (λ l. AreJoinsTo es unburdened 0 (suc (length es)) l) (sym h.3) (subst (λ k. AreJoinsTo es unburdened 0 (suc k) (s.joins ++ joins_at i (state_of f))) here joins));
-              burdened_joins = all_joins es burdens p.choices.burdened_joins.items
-                  (subst (λ l. AreJoinsTo es burdens 0 (suc (length es)) l) (sym h.4) (subst (λ k. AreJoinsTo es burdens 0 (suc k) (s.burdened_joins ++ joins_at i (burdened_state_of f))) here burdened));
-            };
-      }
-    where
-      -- no end is past the events
-      all_ends : (es : List Event) → IsWellFormed es → (ends : List End) → AreEndsTo es 0 (length es) ends → AreEnds es ends
-      all_ends es wf ends a = record {
-        rise = a.rise;
-        are = λ e. (
-          λ m. ((a.are e).0 m).0.0,
-          λ p. (a.are e).1 ((p, omega arith), subst (λ k. k < length es) p.1 (closed es wf e.spawn (spawns_opens (event_at es e.spawn) p.0)).within),
-        );
+            (fig.well_formed, (es, are, (sp.0, sp.1, finished es wf trace.root sp.0 sp.1 burdens (counted f) s.open_sites s.open_funcs s.work s.table at.bounded.open_frames ended)));
       }
 
-      -- and no join past the end
-      all_joins : (es : List Event) (paths : Burdens) (joins : List Choice) → AreJoinsTo es paths 0 (suc (length es)) joins → AreJoins es paths joins
-      all_joins es paths joins b = record {
-        rise = b.rise;
-        are = λ j. (λ m. ((b.are j).0 m).0.0, λ p. (b.are j).1 ((p, omega arith), let l : j.at ≤ length es = p.0 in omega arith));
-      }
-
-  pub is_told : (s : Seen) (p : FirstPass) → length s.frames ≡ 1 → Passed trace burdens 0 i s → IsFinished i s s.frames p → IsTold p
-  is_told s p one at h = by s.frames one at h
+  pub is_told : (s : Seen) (e : Ended) → length s.frames ≡ 1 → Passed trace burdens 0 i s → IsEnded s s.frames e → IsTold e
+  is_told s e one at h = by s.frames one at h
     where
-      by : (frames : List CountedFrame) → length frames ≡ 1 → Passed trace burdens 0 i (record s { frames = frames }) → IsFinished i s frames p → IsTold p
-      by [] e at h = absurd h
-      by (f ∷ g ∷ fs) e at h = absurd (omega arith)
-      by (f ∷ []) e at h = told_from s f p at h
+      by : (frames : List CountedFrame) → length frames ≡ 1 → Passed trace burdens 0 i (record s { frames = frames }) → IsEnded s frames e → IsTold e
+      by [] q at h = absurd h
+      by (f ∷ g ∷ fs) q at h = absurd (omega arith)
+      by (f ∷ []) q at h = told_from s f e at h

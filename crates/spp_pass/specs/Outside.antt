@@ -108,6 +108,10 @@ AreBelow n fs = AllByRecursion (λ f. f.site < n) fs
 abbrev pub FitsOpen : Seen → Type 0
 FitsOpen s = (key : Option ℕ) → Fits (plus (key_row s.table key) (local_rows s.frames key))
 
+-- the share of the part
+abbrev pub IsShareSuspended : Seen → Sums → Type 0
+IsShareSuspended s share = (key : Option ℕ) → key_row share key ≡ plus (key_row s.table key) (local_rows s.frames key)
+
 -- what the part comes to
 pub record IsSuspended (s : Seen) (p : PartResult) : Type 0 where
   pub share : (key : Option ℕ) → key_row p.share key ≡ plus (key_row s.table key) (local_rows s.frames key)

@@ -15,8 +15,13 @@ use Rattle.spp_dag.specs.declared.choices.Choice.{Choice}
 use Rattle.spp_site.specs.declared.closed_frame.ClosedFrame.{ClosedFrame}
 use Rattle.spp_pass.specs.declared.counted_frame.CountedFrame.{CountedFrame}
 use Rattle.spp_pass.specs.declared.counted_frame.Returned.{Returned}
+use Rattle.spp_dag.specs.declared.choices.Choices.{Choices}
+use Rattle.spp_ways.specs.declared.open_ways.OnPaths.{OnPaths}
+use Rattle.spp_ways.specs.Ways.{takes, outruns}
+use Rattle.spp_pass.specs.declared.counting.Counting.{Counting}
+use Rattle.spp_pass.specs.declared.counting.Closing.{Closing}
+use Rattle.spp_pass.specs.declared.counting.Ended.{Ended}
 use Rattle.spp_pass.specs.declared.summing.Summing.{Summing}
-use Rattle.spp_pass.specs.declared.summing.FirstPass.{FirstPass}
 use Rattle.spp_maxplus.specs.declared.weights.Weights.{Weights}
 use Rattle.spp_maxplus.specs.Weights.{start, close, after_strand, after_sync}
 use Rattle.spp_pass.specs.LeanFrames.{after_child}
@@ -113,6 +118,10 @@ closed_of f work = record {
 abbrev pub row_of : CountedFrame → ℕ → Row
 row_of f work = frame_row (closed_of f work)
 
+-- on which paths a frame takes the child that waits in it
+abbrev pub takes_of : CountedFrame → OnPaths
+takes_of f = record { plain = takes (state_of f); burdened = takes (burdened_state_of f) }
+
 -- a strand of that many instructions fits
 pub record FitsStrand (count : ℕ) (f : CountedFrame) : Type 0 where
   pub plain : close f.plain + count < 2 ^ 128
@@ -138,17 +147,33 @@ pub record Seen : Type 0 where
   pub joins : List Choice
   pub burdened_joins : List Choice
 
-abbrev pub seen : Summing → Seen
-seen s = record {
-  frames = reverse s.frames.items;
-  open_sites = is_marked s.open_sites;
-  open_funcs = is_marked s.open_funcs;
-  work = s.work;
-  table = s.table;
-  ends = s.choices.ends.items;
-  joins = s.choices.joins.items;
-  burdened_joins = s.choices.burdened_joins.items;
+-- the choices that a pass has noted
+pub record Notes : Type 0 where
+  pub ends : List End
+  pub joins : List Choice
+  pub burdened_joins : List Choice
+
+abbrev pub no_notes : Notes
+no_notes = record { ends = []; joins = []; burdened_joins = [] }
+
+-- what is counted, with these choices beside it
+abbrev pub seen_with : Counting → Notes → Seen
+seen_with c n = record {
+  frames = reverse c.frames.items;
+  open_sites = is_marked c.open_sites;
+  open_funcs = is_marked c.open_funcs;
+  work = c.work;
+  table = c.table;
+  ends = n.ends;
+  joins = n.joins;
+  burdened_joins = n.burdened_joins;
 }
+
+abbrev pub notes_of : Choices → Notes
+notes_of c = record { ends = c.ends.items; joins = c.joins.items; burdened_joins = c.burdened_joins.items }
+
+abbrev pub seen : Summing → Seen
+seen s = seen_with s.counting (notes_of s.choices)
 
 -- before the first event the root frame is open, which runs `root`
 abbrev pub start_seen : ℕ → Seen
@@ -276,10 +301,59 @@ abbrev pub CanFinish : Seen → Type 0
 CanFinish s = OnTop (λ f. (f.before ≤ s.work) × Fits (plus s.table.root (row_of f s.work))) s.frames
 
 -- the innermost of the frames has closed at the end, and this is told
-abbrev pub IsFinished : ℕ → Seen → List CountedFrame → FirstPass → Type 0
-IsFinished at s [] p = ⊥
-IsFinished at s (f ∷ fs) p = (p.figures ≡ record { work = s.work; span = close f.plain; burdened = close f.burdened })
-    × (p.dag ≡ record s.table { root = plus s.table.root (row_of f s.work) })
-    × (p.choices.ends.items ≡ s.ends)
-    × (p.choices.joins.items ≡ s.joins ++ joins_at at (state_of f))
-    × (p.choices.burdened_joins.items ≡ s.burdened_joins ++ joins_at at (burdened_state_of f))
+abbrev pub IsEnded : Seen → List CountedFrame → Ended → Type 0
+IsEnded s [] e = ⊥
+IsEnded s (f ∷ fs) e = (e.figures ≡ record { work = s.work; span = close f.plain; burdened = close f.burdened })
+    × (e.dag ≡ record s.table { root = plus s.table.root (row_of f s.work) })
+    × (e.root ≡ closed_of f s.work)
+    × (e.takes ≡ takes_of f)
+
+-- ---- what is told of ways
+
+-- the innermost frame is f
+abbrev pub IsTop : CountedFrame → List CountedFrame → Type 0
+IsTop f frames = OnTop (λ g. f ≡ g) frames
+
+abbrev pub AreTakes : OnPaths → List CountedFrame → Type 0
+AreTakes answer frames = OnTop (λ f. answer ≡ takes_of f) frames
+
+-- on which paths the way through the frame f, which returns to g, is greater than that through the child that waits there
+abbrev pub wins_of : Burdens → CountedFrame → CountedFrame → OnPaths
+wins_of burdens f g = record {
+  plain = outruns (state_of g).child (g.plain.spine + close f.plain);
+  burdened = outruns (burdened_state_of g).child (g.burdened.spine + (close f.burdened + burdens.join));
+}
+
+-- what the return of the frame f to g tells
+abbrev pub closing_of : Burdens → ℕ → CountedFrame → CountedFrame → Closing
+closing_of burdens work f g = record {
+  kind = f.kind;
+  site = f.site;
+  closed = closed_of f work;
+  takes = takes_of f;
+  wins = wins_of burdens f g;
+}
+
+abbrev pub IsClosing : Burdens → ℕ → List CountedFrame → Option Closing → Type 0
+IsClosing burdens work [] closing = ⊥
+IsClosing burdens work (f ∷ []) closing = closing ≡ None
+IsClosing burdens work (f ∷ g ∷ fs) closing = closing ≡ Some (closing_of burdens work f g)
+
+-- the choices, where the innermost frame waits, and where it returns
+abbrev pub noted_sync : ℕ → List CountedFrame → Notes → Notes
+noted_sync at frames n = record {
+  ends = n.ends;
+  joins = n.joins ++ top_joins state_of at frames;
+  burdened_joins = n.burdened_joins ++ top_joins burdened_state_of at frames;
+}
+
+abbrev pub top_ends : ℕ → List CountedFrame → List End
+top_ends at [] = []
+top_ends at (f ∷ fs) = ends_at at f.kind f.at
+
+abbrev pub noted_return : ℕ → List CountedFrame → Notes → Notes
+noted_return at frames n = record {
+  ends = n.ends ++ top_ends at frames;
+  joins = n.joins ++ top_joins state_of at frames;
+  burdened_joins = n.burdened_joins ++ top_joins burdened_state_of at frames;
+}

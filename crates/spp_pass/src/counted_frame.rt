@@ -1,6 +1,6 @@
 //! An open frame as the pass has it, and what the events that belong to it do to it.
 
-ghost use Rattle.std.specs.Prelude.{◌≡◌, ◌<◌, ◌≤◌, OnOk};
+ghost use Rattle.std.specs.Prelude.{◌≡◌, ◌+◌, ◌<◌, ◌≤◌, OnOk};
 ghost use Rattle.spp_dag.specs.Shares.{plus};
 ghost use Rattle.spp_dag.specs.Steps.{strand_row};
 ghost use Rattle.spp_site.specs.Rows.{Fits};
@@ -19,12 +19,14 @@ ghost use Rattle.spp_pass.specs.Passes.{
   FitsReturn,
   choice_at,
 };
+ghost use Rattle.spp_ways.specs.Ways.{takes as takes_child, outruns};
 ghost use Rattle.spp_pass.specs.Outside.{entered_frame, spawn_of, frame_key, AreStrandsAdded};
 
 use spp_dag::{Choice, FrameKind, Row};
 use spp_maxplus::{Burdens, ChildKind, Weights};
 use spp_site::{ClosedFrame, Table};
 use spp_stack::Node;
+use spp_ways::OnPaths;
 use std::alloc::AllocError;
 
 /// What the return of a frame tells its parent.
@@ -145,6 +147,33 @@ impl CountedFrame {
                 self.burdened
                     .receive(ChildKind::Spawned, child.burdened, burdens);
             }
+        }
+    }
+
+    /// On which paths it takes the child that waits in it.
+    #[inline(always)]
+    pub(crate) fn takes(&self) -> OnPaths
+        ensures plain { result.plain ≡ takes_child (state_of self.now) }
+        ensures burdened { result.burdened ≡ takes_child (burdened_state_of self.now) }
+    {
+        OnPaths {
+            plain: self.child.is_some() && self.plain.spine <= self.plain.child,
+            burdened: self.burdened_child.is_some() && self.burdened.spine <= self.burdened.child,
+        }
+    }
+
+    /// On which paths the way through a child that returns is greater than that through the child that waits, or none
+    /// waits.
+    #[inline(always)]
+    pub(crate) fn wins(&self, child: Returned, burdens: Burdens) -> OnPaths
+        requires { FitsReturn burdens child self.now }
+        ensures plain { result.plain ≡ outruns (state_of self.now).child (self.now.plain.spine + child.plain) }
+        ensures burdened { result.burdened ≡ outruns (burdened_state_of self.now).child (self.now.burdened.spine + (child.burdened + burdens.join)) }
+    {
+        let through = self.burdened.spine + (child.burdened + u128::from(burdens.join));
+        OnPaths {
+            plain: self.child.is_none() || self.plain.child < self.plain.spine + child.plain,
+            burdened: self.burdened_child.is_none() || self.burdened.child < through,
         }
     }
 

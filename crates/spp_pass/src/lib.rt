@@ -13,10 +13,9 @@
 #![tactic(auto)]
 
 mod counted_frame;
+mod counting;
 mod part;
 mod summing;
-mod whole_run;
 
+pub use counting::{Closing, Counting, Ended};
 pub use part::{PartResult, run_part};
-pub use summing::FirstPass;
-pub use whole_run::first_pass;

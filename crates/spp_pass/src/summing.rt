@@ -1,6 +1,7 @@
-//! What one pass over the events of a run has between two events, and what each event does to it.
+//! What the pass over a part of a run has between two events, and what each event does to it: the counting of its frames,
+//! and the choices that settle the run's paths.
 
-ghost use Rattle.std.specs.Prelude.{◌≡◌, ℕ, ◌+◌, ◌<◌, ◌≤◌, ◌^◌, ◌++◌, ◌∷◌, List, length, OnOk, IfOk};
+ghost use Rattle.std.specs.Prelude.{◌≡◌, ◌++◌, ◌∷◌, List, OnOk, IfOk};
 ghost use Rattle.spp_dag.specs.declared.stack.EntryFrame.{EntryFrame as FrameValue};
 ghost use Rattle.spp_stack.specs.Chain.{HasFrames};
 ghost use Rattle.spp_pass.specs.Passes.{
@@ -10,7 +11,6 @@ ghost use Rattle.spp_pass.specs.Passes.{
   joins_at,
   ends_at,
   seen,
-  start_seen,
   strand_seen,
   sync_seen,
   open_seen,
@@ -18,8 +18,6 @@ ghost use Rattle.spp_pass.specs.Passes.{
   CanAdd,
   CanReturn,
   Returns,
-  CanFinish,
-  IsFinished,
 };
 ghost use Rattle.spp_pass.specs.Outside.{
   IsBegun,
@@ -31,23 +29,12 @@ ghost use Rattle.spp_pass.specs.Outside.{
 };
 
 use crate::counted_frame::CountedFrame;
+use crate::counting::Counting;
 use crate::part::PartResult;
-use spp_dag::{Choice, Choices, End, Figures, FrameKind};
-use spp_maxplus::{Burdens, Weights};
-use spp_site::{Marks, Table};
+use spp_dag::{Choice, Choices, End, FrameKind};
+use spp_maxplus::Burdens;
 use spp_stack::Entry;
 use std::alloc::{AllocError, Global};
-
-/// What one reading of a run's events tells.
-#[derive(Drop)]
-pub struct FirstPass {
-    /// Its work, span and burdened span.
-    pub figures: Figures,
-    /// Its rows by call site, on its whole dag.
-    pub dag: Table,
-    /// What settles its paths.
-    pub choices: Choices,
-}
 
 /// Notes this choice, if there is one.
 #[inline(always)]
@@ -87,71 +74,20 @@ fn note_end(ends: &mut Vec<End>, at: u32, kind: FrameKind, spawn: u32) -> Result
 /// The pass, between two events.
 #[derive(Drop)]
 pub(crate) struct Summing {
-    /// The open frames, the root first. They are changed where they lie, since to move one costs more than all else.
-    frames: Vec<CountedFrame>,
-    /// The sites by which the open frames were entered.
-    open_sites: Marks,
-    /// The functions that the open frames run.
-    open_funcs: Marks,
-    /// The counts of all strands so far.
-    work: u128,
-    /// The rows of the frames that have closed.
-    table: Table,
+    /// The frames.
+    counting: Counting,
     /// The choices so far.
     choices: Choices,
 }
 
 impl Summing {
-    /// The pass before the first event, where the root frame runs `root`.
-    pub(crate) fn new(alloc: Global, root: u32) -> Result<Self, AllocError>
-        ensures { IfOk result (λ s. seen s ≡ start_seen root) }
-    {
-        let mut open_funcs = Marks::new(alloc);
-        open_funcs.add(root)?;
-        let mut frames = Vec::new(alloc);
-        frames.push(CountedFrame {
-            plain: Weights::start(),
-            burdened: Weights::start(),
-            before: 0,
-            local: 0,
-            child: None,
-            burdened_child: None,
-            at: 0,
-            site: 0,
-            func: root,
-            kind: FrameKind::Root,
-            top_site: true,
-            top_caller: true,
-            top_func: true,
-        })?;
-        Ok(Summing {
-            frames,
-            open_sites: Marks::new(alloc),
-            open_funcs,
-            work: 0,
-            table: Table::new(alloc),
-            choices: Choices {
-                ends: Vec::new(alloc),
-                joins: Vec::new(alloc),
-                burdened_joins: Vec::new(alloc),
-            },
-        })
-    }
-
     /// The pass before the first event of a part, where these frames are open. It has come to the innermost of them;
     /// the others are outside.
     pub(crate) fn within(alloc: Global, entry: &Entry<'_>) -> Result<Self, AllocError>
         ensures { IfOk result (λ s. (f : FrameValue) (fs : List FrameValue) → HasFrames entry.now (f ∷ fs) → IsBegun f fs entry.now.work (seen s)) }
     {
-        let (open_sites, open_funcs) = entry.marks(alloc)?;
-        let mut frames = Vec::new(alloc);
-        frames.push(CountedFrame::entered(entry.innermost()))?;
         Ok(Summing {
-            frames,
-            open_sites,
-            open_funcs,
-            work: entry.work(),
-            table: Table::new(alloc),
+            counting: Counting::within(alloc, entry)?,
             choices: Choices {
                 ends: Vec::new(alloc),
                 joins: Vec::new(alloc),
@@ -170,24 +106,8 @@ impl Summing {
         requires { HasOpen (seen self.old) }
         ensures { IfOk result (λ left. (fs : List FrameValue) → IsOutside outside.entry fs → IsReached (seen self.old) (seen self.new) fs left) }
     {
-        if self.frames.len() > 1 {
-            return Ok(outside);
-        }
-        let Some(entry) = outside else {
-            return Ok(None);
-        };
-        self.frames
-            .insert(0, CountedFrame::entered(entry.innermost()))?;
-        Ok(entry.below())
-    }
-
-    /// How many frames besides the root are open.
-    pub(crate) fn depth(&self) -> u32
-        requires some { HasOpen (seen self.now) }
-        requires few { length (seen self.now).frames ≤ 2 ^ 32 }
-        ensures { result + 1 ≡ length (seen self.now).frames }
-    {
-        (self.frames.len() - 1) as u32
+        let left = self.counting.reach(outside)?;
+        Ok(left)
     }
 
     /// A strand of that many instructions.
@@ -196,9 +116,7 @@ impl Summing {
         requires { CanAdd count (seen self.old) }
         ensures { seen self.new ≡ strand_seen count (seen self.old) }
     {
-        let last = self.frames.len() - 1;
-        self.frames[last].strand(count);
-        self.work += u128::from(count);
+        self.counting.strand(count);
     }
 
     /// A call or a spawn at the position `at`.
@@ -213,26 +131,7 @@ impl Summing {
         requires { HasOpen (seen self.old) }
         ensures { OnOk result (seen self.new ≡ open_seen kind at site func (seen self.old)) }
     {
-        let top_caller = self.frames[self.frames.len() - 1].top_func;
-        let top_site = !self.open_sites.has(site);
-        let top_func = !self.open_funcs.has(func);
-        self.frames.push(CountedFrame {
-            plain: Weights::start(),
-            burdened: Weights::start(),
-            before: self.work,
-            local: 0,
-            child: None,
-            burdened_child: None,
-            at,
-            site,
-            func,
-            kind,
-            top_site,
-            top_caller,
-            top_func,
-        })?;
-        self.open_sites.add(site)?;
-        self.open_funcs.add(func)?;
+        self.counting.open(kind, at, site, func)?;
         Ok(())
     }
 
@@ -242,9 +141,8 @@ impl Summing {
         requires { HasOpen (seen self.old) }
         ensures { OnOk result (seen self.new ≡ sync_seen at (seen self.old)) }
     {
-        let last = self.frames.len() - 1;
-        note_joins(&mut self.choices, &self.frames[last], at)?;
-        self.frames[last].sync();
+        note_joins(&mut self.choices, self.counting.top(), at)?;
+        self.counting.sync();
         Ok(())
     }
 
@@ -254,45 +152,11 @@ impl Summing {
         requires { CanReturn burdens (seen self.old) (seen self.old).frames }
         ensures { IfOk result (λ went. Returns burdens at (seen self.old) (seen self.old).frames went (seen self.new)) }
     {
-        let last = self.frames.len() - 1;
-        if last == 0 {
-            return Ok(false);
-        }
-        let child = &self.frames[last];
+        let child = self.counting.top();
         note_joins(&mut self.choices, child, at)?;
         note_end(&mut self.choices.ends, at, child.kind, child.at)?;
-        self.table.close(child.site, &child.closed(self.work))?;
-        self.open_sites.remove_if(child.top_site, child.site);
-        self.open_funcs.remove_if(child.top_func, child.func);
-        let returned = child.returned();
-        self.frames.truncate(last);
-        self.frames[last - 1].receive(returned, burdens);
-        Ok(true)
-    }
-
-    /// What the pass tells, where the root, which alone is open, closes at the end `at`.
-    pub(crate) fn finish(self, at: u32) -> Result<FirstPass, AllocError>
-        requires { CanFinish (seen self) }
-        ensures { IfOk result (λ p. IsFinished at (seen self) (seen self).frames p) }
-    {
-        let root = self.frames[self.frames.len() - 1];
-        let Summing {
-            work,
-            mut table,
-            mut choices,
-            ..
-        } = self;
-        note_joins(&mut choices, &root, at)?;
-        table.add_root(&root.closed(work).row());
-        Ok(FirstPass {
-            figures: Figures {
-                work,
-                span: root.plain.close(),
-                burdened: root.burdened.close(),
-            },
-            dag: table,
-            choices,
-        })
+        let closing = self.counting.ret(burdens)?;
+        Ok(closing.is_some())
     }
 
     /// What the pass over a part tells. The strands of the frames that are still open are in their rows.
@@ -301,17 +165,9 @@ impl Summing {
         requires sites { AreBelow 65536 (seen self).frames }
         ensures { IfOk result (λ p. IsSuspended (seen self) p) }
     {
-        let Summing {
-            frames,
-            mut table,
-            choices,
-            ..
-        } = self;
-        for frame in &frames {
-            frame.add_local(&mut table)?;
-        }
+        let Summing { counting, choices } = self;
         Ok(PartResult {
-            share: table.into_share(),
+            share: counting.suspend()?,
             choices,
         })
     }

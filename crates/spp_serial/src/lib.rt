@@ -1,62 +1,92 @@
-//! The profiler that runs on one thread.
+//! The profiler that runs on one thread, in one reading of the events.
 #![tactic(auto)]
 
-ghost use Rattle.std.specs.Prelude.{◌<◌, ◌^◌, List, IfOk, IfErr};
-ghost use Rattle.spp_event.specs.declared.records.Event.{Event};
-ghost use Rattle.spp_frame.specs.Nesting.{AreEvents, IsWellFormed};
+ghost use Rattle.std.specs.Prelude.{◌<◌, ◌^◌, ◌≡◌, IfOk, IfErr};
 ghost use Rattle.spp_maxplus.specs.State.{unburdened};
-ghost use Rattle.spp_dag.specs.ChoiceLists.{AreChoices};
 ghost use Rattle.spp_dag.specs.Figures.{AreFigures};
 ghost use Rattle.spp_frame.specs.Answers.{IsFaultOf};
+ghost use Rattle.spp_frame.specs.declared.profile_fault.ProfileFault.TheVariants.{Bad};
 ghost use Rattle.spp_site.specs.Profiles.{IsDagTable, IsPathTable, IsProfileOf};
 
-use spp_dag::Choices;
-use spp_event::Trace;
-use spp_frame::ProfileFault;
+use spp_dag::FrameKind;
+use spp_event::{Event, Events, Reader, Trace};
+use spp_frame::{Fault, ProfileFault, Why};
 use spp_maxplus::Burdens;
-use spp_pass::first_pass;
-use spp_path::{path_table, settle_whole};
+use spp_pass::Counting;
 use spp_site::{Profile, Table};
-use std::alloc::{AllocError, Global};
+use spp_ways::OpenWays;
+use std::alloc::Global;
 
-/// The tables of a run on its two paths.
-#[derive(Drop)]
-struct PathTables {
-    /// On the path without burdens.
-    path: Table,
-    /// On the path under the burdens.
-    burdened_path: Table,
+/// A bad event as what is wrong with a run.
+fn bad(at: u32, why: Why) -> ProfileFault
+    ensures { result ≡ Bad (record { at = at; why = why }) }
+{
+    ProfileFault::Bad(Fault { at, why })
 }
 
-/// The tables of a run on its two paths, told by its choices. Where both paths enter the same children, as where the
-/// burdens are 0, the events are read once for both.
-fn path_tables(
+/// What [`profile_serial`] gives, by a reader that stands at the first event.
+fn profile_by<R: Reader>(
     alloc: Global,
     trace: &Trace<'_>,
     burdens: Burdens,
-    choices: &Choices,
-) -> Result<PathTables, AllocError>
-    requires formed { IsWellFormed trace.now.records }
-    requires choices { (es : List Event) → AreEvents trace.now.records es → AreChoices es burdens choices.now }
+    mut events: R,
+) -> Result<Profile, ProfileFault>
+    requires here { R.stands events trace.now 0 }
+    ensures figures { IfOk result (λ p. AreFigures trace.now.records burdens p.figures) }
+    ensures small { IfOk result (λ p. p.figures.work < 2 ^ 92) }
+    ensures dag { IfOk result (λ p. IsDagTable trace.now p.dag) }
     ensures path { IfOk result (λ p. IsPathTable trace.now unburdened p.path) }
-    ensures burdened { IfOk result (λ p. IsPathTable trace.now burdens p.burdened_path) }
+    ensures burdened_path { IfOk result (λ p. IsPathTable trace.now burdens p.burdened_path) }
+    ensures fault { IfErr result (λ f. IsFaultOf trace.now.records f) }
 {
-    let entered = settle_whole(alloc, &choices.ends, &choices.joins)?;
-    let path = path_table(alloc, trace, &entered)?;
-    if burdens == Burdens::default() {
-        let burdened_path = Table::copy(alloc, &path)?;
-        return Ok(PathTables {
-            path,
-            burdened_path,
-        });
+    burdens.are_small();
+    let count = trace.count();
+    let mut counting = Counting::new(alloc, trace.root())?;
+    let mut ways = OpenWays::new(alloc)?;
+    for at in 0..count {
+        let event = match events.read(trace, at) {
+            Ok(event) => event,
+            Err(fault) => return Err(bad(at, Why::Event(fault))),
+        };
+        match event {
+            Event::Strand { count } => {
+                counting.strand(count);
+                ways.strand(count);
+            }
+            Event::Call { site, func } => {
+                counting.open(FrameKind::Called, at, site, func)?;
+                ways.open()?;
+            }
+            Event::Spawn { site, func } => {
+                counting.open(FrameKind::Spawned, at, site, func)?;
+                ways.open()?;
+            }
+            Event::Ret => match counting.ret(burdens)? {
+                None => return Err(bad(at, Why::RootReturn)),
+                Some(closing) => ways.ret(
+                    closing.kind,
+                    closing.takes,
+                    closing.wins,
+                    closing.site,
+                    &closing.closed,
+                )?,
+            },
+            Event::Sync => {
+                ways.wait(counting.takes());
+                counting.sync();
+            }
+        }
     }
-    let burdened = settle_whole(alloc, &choices.ends, &choices.burdened_joins)?;
-    let burdened_path = if burdened == entered {
-        Table::copy(alloc, &path)?
-    } else {
-        path_table(alloc, trace, &burdened)?
-    };
-    Ok(PathTables {
+    let depth = counting.depth();
+    if depth > 0 {
+        return Err(bad(count, Why::Unclosed { depth }));
+    }
+    let ended = counting.finish();
+    let path = ways.path_table(alloc, false, ended.takes, &ended.root)?;
+    let burdened_path = ways.path_table(alloc, true, ended.takes, &ended.root)?;
+    Ok(Profile {
+        figures: ended.figures,
+        dag: ended.dag,
         path,
         burdened_path,
     })
@@ -65,11 +95,9 @@ fn path_tables(
 /// The profile of a run: its figures under these burdens, and its tables on the whole dag, on the first greatest path
 /// (the critical path), and on the first path that is greatest under the burdens. No row bears burdens.
 ///
-/// The events are read up to three times: once for the figures, the table of the dag and the choices that settle the
-/// paths, and once for each path's table, or once for both where both paths enter the same children. The time is linear
-/// in the numbers of events, sites and functions; the memory too: up to 32 bytes for each spawned child, or twice that
-/// where the lists grew bit by bit, up to 16 bytes more for each one that a path enters, and what the open frames, the
-/// sites and the functions take. The work is below 2^92.
+/// The events are read once, each in constant time, amortized, behind a step for each site and function. The memory is
+/// linear in the numbers of frames that are open at a time, of sites and of functions, and of the closed frames that the
+/// greatest ways into open frames enter: 96 bytes for each of these. The work is below 2^92.
 ///
 /// # Errors
 ///
@@ -87,12 +115,8 @@ pub fn profile_serial(
     ensures profile { IfOk result (λ p. IsProfileOf trace.now burdens p) }
     ensures fault { IfErr result (λ f. IsFaultOf trace.now.records f) }
 {
-    let pass = first_pass(alloc, trace, burdens)?;
-    let tables = path_tables(alloc, trace, burdens, &pass.choices)?;
-    Ok(Profile {
-        figures: pass.figures,
-        dag: pass.dag,
-        path: tables.path,
-        burdened_path: tables.burdened_path,
-    })
+    match trace.events() {
+        Events::Records(events) => profile_by(alloc, trace, burdens, events),
+        Events::Items(events) => profile_by(alloc, trace, burdens, events),
+    }
 }

@@ -20,7 +20,8 @@ use Rattle.spp_dag.proofs.Crossing.{within_owner, owner_le, waits_for, join_spec
 use Rattle.spp_dag.proofs.PathLaws.{path_enters, path_calls, taken_joins}
 use Rattle.spp_dag.proofs.Entries.{running_passes}
 use Rattle.spp_dag.proofs.Profiles.{contains_passed}
-use Rattle.spp_ways.specs.Ways.{is_some, takes, wins}
+use Rattle.std.specs.Prelude.{is_some}
+use Rattle.spp_ways.specs.Ways.{takes, wins}
 use Rattle.spp_ways.proofs.Waiting.{waiting, taken_waits, opens_not_syncs, co, re, At, WaitsIn, waited, return_waits, Back, goes_back, joins_past, kept}
 
 -- two tests that pass together are one

@@ -1,6 +1,6 @@
 -- The ways into an open frame: the greatest one along the frame itself, and the greatest one through a child that waits
 -- in it, each with the rows of the closed frames that it enters, on one of both paths.
-use Rattle.std.specs.Prelude.{◌≡◌, ℕ, zero, suc, ◌+◌, Bool, true, false, cond, nat_lt, List, [], ◌∷◌, ◌++◌, Option, Some, None}
+use Rattle.std.specs.Prelude.{◌≡◌, ℕ, zero, suc, ◌+◌, Bool, true, false, cond, nat_lt, is_some, List, [], ◌∷◌, ◌++◌, Option, Some, None}
 use Rattle.spp_event.specs.declared.records.Event.{Event}
 use Rattle.spp_event.specs.declared.records.Event.TheVariants.{Strand, Call, Spawn, Ret, Sync}
 use Rattle.spp_maxplus.specs.declared.state.State.{State}
@@ -88,10 +88,6 @@ state_on true f = f.burdened
 abbrev pub burdens_on : Bool → Burdens → Burdens
 burdens_on false burdens = unburdened
 burdens_on true burdens = burdens
-
-abbrev pub is_some : Option ℕ → Bool
-is_some None = false
-is_some (Some s) = true
 
 -- whether the frame takes the child that waits in it, where it waits itself
 abbrev pub takes : State → Bool

@@ -1,7 +1,7 @@
-use Rattle.std.proofs.Common.{◌++◌, [], ◌∷◌, reverse, List, ap, ◌∙◌}
+use Rattle.std.proofs.Common.{◌++◌, [], ◌∷◌, reverse, List, refl, ap, ◌∙◌}
 use Rattle.spp_pass.specs.declared.counted_frame.CountedFrame.{CountedFrame}
 use Rattle.spp_pass.proofs.Reaching.{node_enters}
-use Rattle.spp_pass.proofs.summing.Summing.within.Goals as goal
+use Rattle.spp_pass.proofs.counting.Counting.within.Goals as goal
 
 pub returns : goal.returns
 returns c = λ f fs h. record {
@@ -11,7 +11,7 @@ returns c = λ f fs h. record {
   open_funcs = λ x. c.in_ok-open_sites.ensures.funcs (f ∷ fs) h x;
   work = c.work.ensures;
   table = c.new.ensures;
-  ends = c.new-2.ensures.items;
-  joins = c.new-3.ensures.items;
-  burdened_joins = c.new-4.ensures.items;
+  ends = refl;
+  joins = refl;
+  burdened_joins = refl;
 }

@@ -1,0 +1,320 @@
+//! The open frames of a run with their weights, and the frames that have closed by call site, as its events come.
+
+ghost use Rattle.std.specs.Prelude.{◌≡◌, ◌+◌, ◌<◌, ◌≤◌, ◌^◌, ◌∷◌, ℕ, List, length, is_some, OnOk, IfOk};
+ghost use Rattle.spp_dag.specs.declared.stack.EntryFrame.{EntryFrame as FrameValue};
+ghost use Rattle.spp_stack.specs.Chain.{HasFrames};
+ghost use Rattle.spp_pass.specs.Passes.{
+  Notes,
+  no_notes,
+  noted_sync,
+  noted_return,
+  seen_with,
+  start_seen,
+  strand_seen,
+  sync_seen,
+  open_seen,
+  HasOpen,
+  CanAdd,
+  CanReturn,
+  Returns,
+  CanFinish,
+  AreTakes,
+  IsClosing,
+  IsTop,
+  IsEnded,
+};
+ghost use Rattle.spp_pass.specs.Outside.{
+  IsBegun,
+  IsOutside,
+  IsReached,
+  AreBelow,
+  FitsOpen,
+  IsShareSuspended,
+};
+
+use crate::counted_frame::CountedFrame;
+use spp_dag::{Figures, FrameKind};
+use spp_maxplus::{Burdens, Weights};
+use spp_site::{ClosedFrame, Marks, Share, Table};
+use spp_stack::Entry;
+use spp_ways::OnPaths;
+use std::alloc::{AllocError, Global};
+
+/// What the return of a frame tells of the ways through it.
+#[derive(Clone, Copy)]
+pub struct Closing {
+    /// How it was entered.
+    pub kind: FrameKind,
+    /// The call site by which it was entered.
+    pub site: u32,
+    /// The frame as the table of the whole dag counts it.
+    pub closed: ClosedFrame,
+    /// On which paths it takes the child that waits in it.
+    pub takes: OnPaths,
+    /// On which paths the way through it is greater than that through the child that waits in its parent, or none waits.
+    pub wins: OnPaths,
+}
+
+/// What a run comes to, but for its paths.
+#[derive(Drop)]
+pub struct Ended {
+    /// Its work, span and burdened span.
+    pub figures: Figures,
+    /// Its rows by call site, on its whole dag.
+    pub dag: Table,
+    /// The root frame as that table counts it.
+    pub root: ClosedFrame,
+    /// On which paths the root frame takes the child that waits in it.
+    pub takes: OnPaths,
+}
+
+/// The open frames of a run with their weights, and the rows of the frames that have closed, between two events.
+#[derive(Drop)]
+pub struct Counting {
+    /// The open frames, the root first. They are changed where they lie, since to move one costs more than all else.
+    frames: Vec<CountedFrame>,
+    /// The sites by which the open frames were entered.
+    open_sites: Marks,
+    /// The functions that the open frames run.
+    open_funcs: Marks,
+    /// The counts of all strands so far.
+    work: u128,
+    /// The rows of the frames that have closed.
+    table: Table,
+}
+
+impl Counting {
+    /// What there is before the first event, where the root frame runs `root`.
+    ///
+    /// # Errors
+    ///
+    /// Where an allocation failed.
+    pub fn new(alloc: Global, root: u32) -> Result<Self, AllocError>
+        ensures { IfOk result (λ c. seen_with c no_notes ≡ start_seen root) }
+    {
+        let mut open_funcs = Marks::new(alloc);
+        open_funcs.add(root)?;
+        let mut frames = Vec::new(alloc);
+        frames.push(CountedFrame {
+            plain: Weights::start(),
+            burdened: Weights::start(),
+            before: 0,
+            local: 0,
+            child: None,
+            burdened_child: None,
+            at: 0,
+            site: 0,
+            func: root,
+            kind: FrameKind::Root,
+            top_site: true,
+            top_caller: true,
+            top_func: true,
+        })?;
+        Ok(Counting {
+            frames,
+            open_sites: Marks::new(alloc),
+            open_funcs,
+            work: 0,
+            table: Table::new(alloc),
+        })
+    }
+
+    /// What there is before the first event of a part, where these frames are open. The innermost of them has been come
+    /// to; the others are outside.
+    pub(crate) fn within(alloc: Global, entry: &Entry<'_>) -> Result<Self, AllocError>
+        ensures { IfOk result (λ c. (f : FrameValue) (fs : List FrameValue) → HasFrames entry.now (f ∷ fs) → IsBegun f fs entry.now.work (seen_with c no_notes)) }
+    {
+        let (open_sites, open_funcs) = entry.marks(alloc)?;
+        let mut frames = Vec::new(alloc);
+        frames.push(CountedFrame::entered(entry.innermost()))?;
+        Ok(Counting {
+            frames,
+            open_sites,
+            open_funcs,
+            work: entry.work(),
+            table: Table::new(alloc),
+        })
+    }
+
+    /// Comes to the innermost of the frames outside, if no more than one has been come to; gives those that are left
+    /// outside.
+    #[inline(always)]
+    pub(crate) fn reach<'e>(
+        &mut self,
+        outside: Option<Entry<'e>>,
+    ) -> Result<Option<Entry<'e>>, AllocError>
+        requires { HasOpen (seen_with self.old no_notes) }
+        ensures { IfOk result (λ left. (n : Notes) (fs : List FrameValue) → IsOutside outside.entry fs → IsReached (seen_with self.old n) (seen_with self.new n) fs left) }
+    {
+        if self.frames.len() > 1 {
+            return Ok(outside);
+        }
+        let Some(entry) = outside else {
+            return Ok(None);
+        };
+        self.frames
+            .insert(0, CountedFrame::entered(entry.innermost()))?;
+        Ok(entry.below())
+    }
+
+    /// How many frames besides the root are open.
+    pub fn depth(&self) -> u32
+        requires some { HasOpen (seen_with self.now no_notes) }
+        requires few { length (seen_with self.now no_notes).frames ≤ 2 ^ 32 }
+        ensures { result + 1 ≡ length (seen_with self.now no_notes).frames }
+    {
+        (self.frames.len() - 1) as u32
+    }
+
+    /// A strand of that many instructions.
+    #[inline(always)]
+    pub fn strand(&mut self, count: u64)
+        requires { CanAdd count (seen_with self.old no_notes) }
+        ensures { (n : Notes) → seen_with self.new n ≡ strand_seen count (seen_with self.old n) }
+    {
+        let last = self.frames.len() - 1;
+        self.frames[last].strand(count);
+        self.work += u128::from(count);
+    }
+
+    /// A call or a spawn at the position `at`.
+    ///
+    /// # Errors
+    ///
+    /// Where an allocation failed.
+    #[inline(always)]
+    pub fn open(
+        &mut self,
+        kind: FrameKind,
+        at: u32,
+        site: u32,
+        func: u32,
+    ) -> Result<(), AllocError>
+        requires { HasOpen (seen_with self.old no_notes) }
+        ensures { OnOk result ((n : Notes) → seen_with self.new n ≡ open_seen kind at site func (seen_with self.old n)) }
+    {
+        let top_caller = self.frames[self.frames.len() - 1].top_func;
+        let top_site = !self.open_sites.has(site);
+        let top_func = !self.open_funcs.has(func);
+        self.frames.push(CountedFrame {
+            plain: Weights::start(),
+            burdened: Weights::start(),
+            before: self.work,
+            local: 0,
+            child: None,
+            burdened_child: None,
+            at,
+            site,
+            func,
+            kind,
+            top_site,
+            top_caller,
+            top_func,
+        })?;
+        self.open_sites.add(site)?;
+        self.open_funcs.add(func)?;
+        Ok(())
+    }
+
+    /// The innermost frame.
+    #[inline(always)]
+    pub(crate) fn top(&self) -> &CountedFrame
+        requires { HasOpen (seen_with self.now no_notes) }
+        ensures { IsTop result.now (seen_with self.now no_notes).frames }
+    {
+        &self.frames[self.frames.len() - 1]
+    }
+
+    /// On which paths the innermost frame takes the child that waits in it.
+    #[inline(always)]
+    pub fn takes(&self) -> OnPaths
+        requires { HasOpen (seen_with self.now no_notes) }
+        ensures { AreTakes result (seen_with self.now no_notes).frames }
+    {
+        self.top().takes()
+    }
+
+    /// A sync.
+    #[inline(always)]
+    pub fn sync(&mut self)
+        requires { HasOpen (seen_with self.old no_notes) }
+        ensures { (at : ℕ) (n : Notes) → seen_with self.new (noted_sync at (seen_with self.old n).frames n) ≡ sync_seen at (seen_with self.old n) }
+    {
+        let last = self.frames.len() - 1;
+        self.frames[last].sync();
+    }
+
+    /// A return, and what it tells; none where the root frame alone is open.
+    ///
+    /// # Errors
+    ///
+    /// Where an allocation failed.
+    #[inline(always)]
+    pub fn ret(&mut self, burdens: Burdens) -> Result<Option<Closing>, AllocError>
+        requires { CanReturn burdens (seen_with self.old no_notes) (seen_with self.old no_notes).frames }
+        ensures returns { IfOk result (λ closing. (at : ℕ) (n : Notes) → Returns burdens at (seen_with self.old n) (seen_with self.old n).frames (is_some closing) (seen_with self.new (noted_return at (seen_with self.old n).frames n))) }
+        ensures closing { IfOk result (λ closing. IsClosing burdens self.old.work (seen_with self.old no_notes).frames closing) }
+    {
+        let last = self.frames.len() - 1;
+        if last == 0 {
+            return Ok(None);
+        }
+        let child = &self.frames[last];
+        let closed = child.closed(self.work);
+        self.table.close(child.site, &closed)?;
+        self.open_sites.remove_if(child.top_site, child.site);
+        self.open_funcs.remove_if(child.top_func, child.func);
+        let returned = child.returned();
+        let site = child.site;
+        let takes = child.takes();
+        self.frames.truncate(last);
+        let parent = &mut self.frames[last - 1];
+        let wins = parent.wins(returned, burdens);
+        parent.receive(returned, burdens);
+        Ok(Some(Closing {
+            kind: returned.kind,
+            site,
+            closed,
+            takes,
+            wins,
+        }))
+    }
+
+    /// What the run comes to, where the root, which alone is open, closes at the end.
+    pub fn finish(self) -> Ended
+        requires { CanFinish (seen_with self no_notes) }
+        ensures { IsEnded (seen_with self no_notes) (seen_with self no_notes).frames result }
+    {
+        let root = self.frames[self.frames.len() - 1];
+        let Counting {
+            work, mut table, ..
+        } = self;
+        let closed = root.closed(work);
+        table.add_root(&closed.row());
+        Ended {
+            figures: Figures {
+                work,
+                span: root.plain.close(),
+                burdened: root.burdened.close(),
+            },
+            dag: table,
+            root: closed,
+            takes: root.takes(),
+        }
+    }
+
+    /// The share of a part. The strands of the frames that are still open are in their rows.
+    pub(crate) fn suspend(self) -> Result<Share, AllocError>
+        requires fits { FitsOpen (seen_with self no_notes) }
+        requires sites { AreBelow 65536 (seen_with self no_notes).frames }
+        ensures { IfOk result (λ share. IsShareSuspended (seen_with self no_notes) share) }
+    {
+        let Counting {
+            frames, mut table, ..
+        } = self;
+        for frame in &frames {
+            frame.add_local(&mut table)?;
+        }
+        Ok(table.into_share())
+    }
+}
