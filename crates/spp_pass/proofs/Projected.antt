@@ -64,7 +64,7 @@ close_of w (Some s) h = refl
 pub close_is : (f : CountedFrame) → IsNeat f → close f.plain ≡ state.close (state_of f)
 close_is f h = close_of f.plain f.child h.0
 
-burdened_is : (f : CountedFrame) → IsNeat f → close f.burdened ≡ state.close (burdened_state_of f)
+pub burdened_is : (f : CountedFrame) → IsNeat f → close f.burdened ≡ state.close (burdened_state_of f)
 burdened_is f h = close_of f.burdened f.burdened_child h.1
 
 pub row_is : (f : CountedFrame) (w : ℕ) → IsNeat f → row_of f w ≡ full_row (counted f) w

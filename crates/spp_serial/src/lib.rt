@@ -1,7 +1,7 @@
 //! The profiler that runs on one thread, in one reading of the events.
 #![tactic(auto)]
 
-ghost use Rattle.std.specs.Prelude.{◌<◌, ◌^◌, ◌≡◌, IfOk, IfErr};
+ghost use Rattle.std.specs.Prelude.{◌≡◌, ◌<◌, ◌^◌, IfOk, IfErr};
 ghost use Rattle.spp_maxplus.specs.State.{unburdened};
 ghost use Rattle.spp_dag.specs.Figures.{AreFigures};
 ghost use Rattle.spp_frame.specs.Answers.{IsFaultOf};
@@ -37,6 +37,7 @@ fn profile_by<R: Reader>(
     ensures dag { IfOk result (λ p. IsDagTable trace.now p.dag) }
     ensures path { IfOk result (λ p. IsPathTable trace.now unburdened p.path) }
     ensures burdened_path { IfOk result (λ p. IsPathTable trace.now burdens p.burdened_path) }
+    ensures profile { IfOk result (λ p. IsProfileOf trace.now burdens p) }
     ensures fault { IfErr result (λ f. IsFaultOf trace.now.records f) }
 {
     burdens.are_small();
