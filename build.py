@@ -4,8 +4,8 @@ proved already, and hasn't changed, isn't proved again.
 
 `rt run` proves one crate after the other, and `rt all check --jobs N` gives each crate one processor, so that most
 processors wait for the longest chain of crates. So this takes the toolchain's own steps in another order: crates that
-don't stand on each other go side by side, those with the longest chain behind them get several processes each, and the
-rest what the processors have left. Tells how far it is on standard error, and what the prover said of a crate that it
+don't stand on each other go side by side, those that the build waits for get several processes each, and the rest one
+each, with what the processors have left. Tells how far it is on standard error, and what the prover said of a crate that it
 refuses; its status is then other than 0. It counts on the toolchain that README.md names, whose own steps it calls.
 """
 import importlib.machinery
@@ -22,11 +22,16 @@ import time
 
 TOP = os.path.dirname(os.path.realpath(__file__))
 PROCESSORS = len(os.sched_getaffinity(0))
-# How many seconds the longest crates take on four cores of 2.5 GHz. The others are short, or go beside these.
+# How many seconds each crate takes on four cores of 2.5 GHz, beside the others that go then. What isn't here is short.
 SECONDS = {
-    "spp_event": 120, "spp_frame": 80, "spp_dag": 40, "spp_piece": 45, "spp_summary": 120, "spp_stack": 70, "spp_path": 310,
-    "spp_pass": 310, "spp_jobs": 90, "spp_crew": 220, "spp_shell": 245, "spprof": 240,
+    "spp_event": 110, "spp_maxplus": 110, "spp_book": 300, "spp_frame": 60, "spp_cut": 95, "spp_text": 210, "spp_dag": 30,
+    "spp_piece": 30, "spp_summary": 85, "spp_site": 125, "spp_request": 20, "spp_command_line": 350, "spp_stack": 45,
+    "spp_report": 220, "spp_pass": 190, "spp_path": 200, "spp_jobs": 95, "spp_crew": 150, "spp_shell": 165, "spprof": 145,
 }
+# A crate that may begin so many seconds later, and no more, without delaying the build is urgent.
+SLACK = 45
+# How nice the processes of a crate are: of the one with most behind it, of another urgent one, and of the rest.
+FIRST, URGENT, LEAST = 0, 5, 19
 
 
 def toolchain():
@@ -42,15 +47,14 @@ def tell(line):
 
 
 def at_a_time(rt):
-    """How many crates are checked at a time: as many as there are processors, and 4 GB of memory for each."""
+    """How many crates are checked at a time: as many as there are processors, and 4 GB of free memory for each."""
     return max(1, min(PROCESSORS, rt.free() // 4_000_000_000))
 
 
-def prove(crate, is_first, ended):
+def prove(crate, niceness, ended):
     """Proves and builds a crate over what it stands on, and hands on what was said where that fails."""
-    if not is_first:
-        os.setpriority(os.PRIO_PROCESS, threading.get_native_id(), 19)
-    jobs = min(4 if is_first else 2, PROCESSORS) if crate.is_large() else 1
+    os.setpriority(os.PRIO_PROCESS, threading.get_native_id(), niceness)
+    jobs = min(4, PROCESSORS) if crate.is_large() and niceness < LEAST else 1
     flags = ["--jobs", str(jobs)]
     said = "its check could not be run"
     try:
@@ -76,7 +80,7 @@ class Clock:
     """Tells how far a build is, and how long the rest takes: what SECONDS says of it, at the pace of what has been proved."""
 
     def __init__(self, crates):
-        self.crates, self.began, self.done, self.took, self.planned = crates, {}, [], 0, 0
+        self.crates, self.began, self.done, self.took, self.planned, self.last = crates, {}, [], 0, 0, ""
 
     def begin(self, crate):
         self.began[crate] = time.monotonic()
@@ -84,6 +88,7 @@ class Clock:
     def end(self, crate):
         took, planned = time.monotonic() - self.began[crate], SECONDS.get(crate.name, 0)
         self.done.append(crate)
+        self.last = f" ({crate.name} took {took:.0f} s)"
         # A crate that took hardly any time was proved already, and says nothing of the pace.
         if took > planned / 10 > 0:
             self.took, self.planned = self.took + took, self.planned + planned
@@ -95,26 +100,33 @@ class Clock:
             own = 0 if it in self.done else max(own, 0)
             left[it] = own + max((left[low] for low in it.below()), default=0)
         minutes = max(1, round(left[self.crates[-1]] / 60))
-        tell(f"{len(self.done)} of {len(self.crates)} crates; about {minutes} minute{'s' * (minutes > 1)} left")
+        tell(f"{len(self.done)} of {len(self.crates)} crates{self.last}; about {minutes} minute{'s' * (minutes > 1)} left")
 
 
 def prove_all(rt, crates):
     """Proves libraries, each after those that it stands on, and returns whether all are proved. The program is the last of
     these crates, and isn't proved here."""
-    behind, clock = {}, Clock(crates)
-    for it in reversed(crates[:-1]):
-        above = [behind[other] for other in crates[:-1] if it in other.below()]
-        behind[it] = it.count(rb"\n") + max(above, default=0)
+    # How long the longest chain of crates takes that stands below each, and the longest from it to the end.
+    before, behind, clock = {}, {}, Clock(crates)
+    for it in crates:
+        before[it] = max((before[low] + SECONDS.get(low.name, 0) for low in it.below()), default=0)
+    for it in reversed(crates):
+        behind[it] = SECONDS.get(it.name, 0) + max((behind[other] for other in crates if it in other.below()), default=0)
+    longest, places = max(behind.values()), at_a_time(rt)
+    urgent = {it for it in crates if longest - before[it] - behind[it] <= SLACK}
     left, running, ended = sorted(crates[:-1], key=lambda it: -behind[it]), [], queue.Queue()
     while left or running:
-        ready = [it for it in left if all(low in clock.done for low in it.below())]
-        for it in ready[: at_a_time(rt) - len(running)]:
-            is_first = all(behind[it] >= behind[other] for other in running)
+        for it in [it for it in left if all(low in clock.done for low in it.below())]:
+            # Where there are three places or more, the last is for an urgent crate, which comes as soon as it can.
+            if len(running) >= (places if it in urgent else min(places, max(places - 1, 2))):
+                continue
+            is_first = all(behind[it] > behind[other] for other in urgent.intersection(running))
+            niceness = LEAST if it not in urgent else FIRST if is_first else URGENT
             left.remove(it)
             running.append(it)
             clock.begin(it)
             # A thread for each, since one that has taken a lower priority keeps it.
-            threading.Thread(target=prove, args=(it, is_first, ended), daemon=True).start()
+            threading.Thread(target=prove, args=(it, niceness, ended), daemon=True).start()
         try:
             crate, said = ended.get(timeout=60)
         except queue.Empty:
@@ -134,7 +146,7 @@ def main():
     rt.rtlib.guarded()
     crates = sorted(rt.rtlib.crates_below(f"{TOP}/crates/spprof"), key=lambda it: len(it.below()))
     held = rt.rtlib.lock(crates)
-    tell(f"building; the first time this proves all {len(crates)} crates: 22 to 27 minutes on four cores of 2.5 GHz")
+    tell(f"building; the first time this proves all {len(crates)} crates: 16 to 20 minutes on four cores of 2.5 GHz")
     # The program itself is last, and `rt run` proves, compiles and runs it.
     if not prove_all(rt, crates):
         return 1

@@ -25,8 +25,20 @@ named() { # KEY: what release/SOURCES says of it
     sed -n "s/^$1: //p" release/SOURCES
 }
 
+has_four_lines() {
+    [ "$(cut -d : -f 1 release/SOURCES)" = $'toolchain\ntree\nsources\nprogram' ]
+}
+
 has_its_bytes() {
-    [ -x release/spprof-x86_64-linux ] && sha256sum release/spprof-x86_64-linux | grep -q "^$(named program) "
+    [ -x release/spprof-x86_64-linux ] && release/names "$(named sources)" release/spprof-x86_64-linux | cmp -s - <(tail -n 2 release/SOURCES)
+}
+
+# Where git has the tree that the release names, the sources in it are those that the release names.
+has_its_tree() {
+    local tree
+    tree=$(named tree)
+    git cat-file -e "$tree^{tree}" 2> /dev/null || return 0
+    mkdir "$folder/tree" && git archive "$tree" crates.txt crates | tar -x -C "$folder/tree" && [ "$(release/hash "$folder/tree")" = "$(named sources)" ]
 }
 
 is_the_proved_one() {
@@ -37,7 +49,9 @@ is_the_proved_one() {
 if [ ! -e release/SOURCES ]; then
     holds 'there is no released program' false
 else
+    holds 'release/SOURCES has other lines than its four' has_four_lines
     holds 'the program is not the one that release/SOURCES names' has_its_bytes
+    holds 'the tree that release/SOURCES names has other sources' has_its_tree
     if [ "$(named sources)" = "$(release/hash)" ]; then
         holds "the program built here is another; the release was made by $(named toolchain)" is_the_proved_one
     else

@@ -5,13 +5,13 @@
 clone="$folder/a clone" release="$folder/a clone/release" program=spprof-x86_64-linux
 mkdir "$clone" "$folder/bin" "$folder/elsewhere"
 tar -C "$top" --exclude=out -c spprof build.py crates.txt crates examples release | tar -C "$clone" -x
-for tool in bash readlink find sort uname b2sum sha256sum mktemp rm mv; do
+for tool in bash readlink find sort uname b2sum; do
     ln -s "$(command -v $tool)" "$folder/bin/$tool"
 done
 sources=$("$release/hash")
 if ! grep -qsx "sources: $sources" "$release/SOURCES"; then
     cp "$spprof" "$release/$program"
-    printf 'sources: %s\nprogram: %s\n' "$sources" "$(sha256sum < "$spprof" | cut -c 1-64)" > "$release/SOURCES"
+    "$release/names" "$sources" "$spprof" > "$release/SOURCES"
 fi
 cloned() { # NAME STATUS OUT ERR WORDS..: what the script in the clone answers; the small trace is its input
     local name=$1 wanted=$2 out=$3 err=$4
@@ -47,7 +47,8 @@ cloned 'a checkout that is read only' 0 "work 17$lf" '' check
 chmod -R u+w "$clone"
 [ -z "$(find "$clone" -newer "$folder/began")" ]
 status=$?
-: > "$folder/out" > "$folder/err"
+: > "$folder/out"
+: > "$folder/err"
 judge 'the script in a clone: it writes nothing there' 0 '' ''
 # The release is of the sources of the program alone.
 changed='sources have changed since the program was released'
@@ -92,41 +93,78 @@ fake() { # FILE BODY: a program of that name, in bash
 }
 needs='the released program needs Linux on x86-64 with glibc 2.34 or newer, and'
 mkdir "$folder/other"
-for machine in 'Darwin arm64' 'Linux aarch64'; do
-    fake "$folder/other/uname" "echo $machine"
-    path=$folder/other:$folder/bin builds "on $machine" "$needs this is $machine"
-done
-machine=$(uname -sm)
 sed "s|^loader=.*|loader='$folder/loader'|" "$clone/spprof" > "$clone/other" && chmod +x "$clone/other"
-script=$clone/other builds 'no glibc' "$needs this is $machine without $folder/loader"
+for machine in 'Darwin arm64' 'Linux aarch64' 'Linux x86_64'; do
+    fake "$folder/other/uname" "echo $machine"
+    script=$clone/other path=$folder/other:$folder/bin builds "on $machine without glibc" "$needs this is $machine without $folder/loader"
+done
 for body in 'echo "ld.so (GNU libc) stable release version 2.33."' 'echo "--version: cannot open shared object file"; exit 127'; do
     fake "$folder/loader" "$body"
     script=$clone/other builds 'on an older glibc' "$needs the loader $folder/loader tells no such version"
 done
 fake "$folder/loader" 'echo "ld.so (GNU libc) stable release version 2.34."'
 script=$clone/other cloned 'on glibc 2.34' 0 "work 17$lf" '' check
-# What was built here comes first, as long as it's up to date.
+# What was built here comes first, as long as it's of these sources.
 cloned '--build without the toolchain' 125 '' "spprof: the Rattle toolchain's command 'rt', which builds spprof, isn't in PATH$lf" --build
-mv "$folder/bin/b2sum" "$folder/aside"
-builds 'no b2sum' 'b2sum and sha256sum of GNU coreutils are needed to check a program that is there'
-mv "$folder/aside" "$folder/bin/b2sum"
 fake "$folder/other/rt" ''
+no_hash="the sources here can't be read and hashed, for which it needs find, sort and b2sum (GNU findutils and coreutils)"
+for tool in find sort b2sum; do
+    mv "$folder/bin/$tool" "$folder/aside"
+    builds "no $tool" "$no_hash"
+    path=$folder/other:$folder/bin cloned "--build without $tool" 125 '' "spprof: $no_hash$lf" --build
+    mv "$folder/aside" "$folder/bin/$tool"
+done
 fake "$folder/other/python3" 'exit 1'
 path=$folder/other:$folder/bin cloned '--build that fails' 125 '' '' --build
-mkdir -p "$clone/crates/spprof/out"
+source=$clone/crates/spprof/src/main.rt out=$clone/crates/spprof/out
+mkdir -p "$out"
 fake "$folder/built" 'echo "built here: $GLIBC_TUNABLES $*"; exit 9'
-fake "$folder/other/python3" "cp '$folder/built' '$clone/crates/spprof/out/spprof'"
 ln -s "$(command -v cp)" "$folder/bin/cp"
 unset GLIBC_TUNABLES
+cp -p "$source" "$folder/source"
+fake "$folder/other/python3" "cp '$folder/built' '$out/spprof'; echo '// changed' >> '$source'"
+path=$folder/other:$folder/bin cloned '--build while a source changes' 125 '' "spprof: sources have changed while it was built; run this again$lf" --build
+builds 'what was built while a source changed' "$changed"
+cp -p "$folder/source" "$source"
+cloned 'what was built while a source changed, which is as before' 0 "work 17$lf" '' check
+fake "$folder/other/python3" "cp '$folder/built' '$out/spprof'"
 path=$folder/other:$folder/bin cloned '--build' 0 '' "spprof: built$lf" --build
 cloned 'what was built' 9 "built here: glibc.malloc.hugetlb=1 check -$lf" '' check -
-touch "$clone/crates/spprof/src/main.rt"
+GLIBC_TUNABLES=glibc.malloc.hugetlb=0 cloned 'a setting of the user' 9 "built here: glibc.malloc.hugetlb=0 check$lf" '' check
+touch "$source"
 cloned 'what was built is of the same sources' 9 "built here: *" '' check
-cp -p "$clone/crates/spprof/src/main.rt" "$folder/aside"
-echo '// changed' >> "$clone/crates/spprof/src/main.rt"
-builds 'what was built is behind' "$changed"
-rm "$folder/other/uname"
+# Sources that differ, though no file is newer than what was built.
+for file in crates/spprof/src/main.rt crates/spp_dag/specs/Dag.antt; do
+    cp -p "$clone/$file" "$folder/aside"
+    rm "$clone/$file"
+    builds "what was built, $file being gone" "$changed"
+    cp -p "$folder/aside" "$clone/$file" && echo '// changed' >> "$clone/$file" && touch -r "$folder/aside" "$clone/$file"
+    builds "what was built, an older $file" "$changed"
+    cp -p "$folder/aside" "$clone/$file"
+    mv "$clone/$file" "$clone/${file%/*}/Other.${file##*.}"
+    builds "what was built, $file being renamed" "$changed"
+    mv "$clone/${file%/*}/Other.${file##*.}" "$clone/$file"
+done
+# The end of a file's bytes at the front of the next one's.
+first=$clone/crates/spp_site/src/slots.rt second=$clone/crates/spp_site/src/table.rt
+cp "$first" "$folder/first" && cp "$second" "$folder/second"
+head -c -100 "$folder/first" > "$first" && { tail -c 100 "$folder/first" && cat "$folder/second"; } > "$second"
+builds 'what was built, bytes being moved' "$changed"
+cp "$folder/first" "$first" && cp "$folder/second" "$second"
+# A source that is a link is read where it leads.
+mv "$source" "$folder/source" && ln -s "$folder/source" "$source"
+cloned 'what was built, a source being a link' 9 "built here: *" '' check
+echo '// changed' >> "$folder/source"
+builds 'what was built, a linked source having changed' "$changed"
+rm "$source" && sed '$d' "$folder/source" > "$source"
+cloned 'what was built, all being as before' 9 "built here: *" '' check
+# A program that something else built since, or a changed one.
+echo '# changed' >> "$out/spprof"
+cloned 'another program than was built' 0 "work 17$lf" '' check
+cp "$folder/built" "$out/spprof"
+cloned 'the program that was built' 9 "built here: *" '' check
+echo '// changed' >> "$source"
 path=$folder/other:$folder/bin cloned 'a changed source' 9 "built here: *" "spprof: $changed; building it here${lf}spprof: built$lf" check
-cp -p "$folder/aside" "$clone/crates/spprof/src/main.rt"
-touch "$clone/crates/spprof/src/main.rt"
+cloned 'a changed source that was built' 9 "built here: *" '' check
+sed -i '$d' "$source"
 cloned 'what was built is of other sources' 0 "work 17$lf" '' check
