@@ -1,5 +1,5 @@
 -- The way into the root frame, where it closes.
-use Rattle.std.proofs.Common.{◌≡◌, ℕ, ◌-◌, ◌≤◌, ◌<◌, Bool, true, false, cond, List, [], ◌∷◌, ◌++◌, length, map, reverse, get_or, Option, Some, None, refl, sym, ap, subst, ◌∙◌, arith}
+use Rattle.std.proofs.Common.{◌≡◌, ℕ, ◌-◌, ◌≤◌, ◌<◌, Bool, true, false, cond, List, [], ◌∷◌, ◌++◌, length, map, reverse, get_or, Option, Some, None, refl, sym, ap, ap₂, subst, ◌∙◌, arith}
 use Rattle.spp_dag.specs.declared.row.Row.{Row}
 use Rattle.spp_dag.specs.Shares.{plus, zero_row}
 use Rattle.spp_dag.specs.Steps.{same_key, strand_row}
@@ -15,22 +15,31 @@ use Rattle.spp_ways.specs.declared.open_ways.OnPaths.{OnPaths}
 use Rattle.spp_ways.specs.declared.open_ways.LoggedWay.{LoggedWay}
 use Rattle.spp_ways.specs.declared.open_ways.FrameWays.{FrameWays}
 use Rattle.spp_ways.specs.declared.open_ways.OpenWays.{OpenWays}
-use Rattle.spp_ways.specs.Ways.{Leaf, Way, rows_at}
-use Rattle.spp_ways.specs.Logs.{way_rows}
-use Rattle.spp_ways.specs.OpenWays.{Laid, AreIn, IsLaid, on_path, path_of, way_in, bare_row, root_rows, frame_ways, ways_of, chosen}
+use Rattle.spp_ways.specs.declared.open_ways.LoggedWays.{LoggedWays}
+use Rattle.spp_ways.specs.Ways.{Ways, rows_at, way_on}
+use Rattle.spp_ways.specs.Logs.{way_row}
+use Rattle.spp_ways.specs.OpenWays.{IsWay, AreBoth, AllWays, AreWays, Laid, IsLaid, on_path, path_of, bare_row, root_rows, chosen}
+use Rattle.spp_ways.proofs.Staying.{in_path}
 use Rattle.spp_ways.proofs.Returning.{leaf_row, chosen_on, chosen_in}
 use Rattle.spp_ways.proofs.Parts.{rows_at-append}
-
-path_in : (on : Bool) (n : ℕ) (f : FrameWays) → AreIn n f.plain → AreIn n f.burdened → AreIn n (path_of on f)
-path_in false n f a b = a
-path_in true n f a b = b
 
 -- the way of the innermost frame f on one path, and the rows with which it closes as the root
 pub record RootWay (o : OpenWays) (on : Bool) (takes : OnPaths) (closed : ClosedFrame) (f : FrameWays) : Type 0 where
   pub within : (chosen (on_path on takes) (path_of on f)).rows ≤ length o.log.rows.items
-  pub rows : (key : Option ℕ) → rows_at (root_rows (on_path on takes) (bare_row closed) (ways_of on o)) key
-      ≡ plus (rows_at (way_rows on (reverse o.log.rows.items) (chosen (on_path on takes) (path_of on f)).rows) key)
+  pub rows : (ws : List Ways) → AreWays on o ws → (key : Option ℕ) → rows_at (root_rows (on_path on takes) (bare_row closed) ws) key
+      ≡ plus (way_row on (reverse o.log.rows.items) (chosen (on_path on takes) (path_of on f)).rows key)
       (cond (same_key None key) (frame_row (record closed { local = (chosen (on_path on takes) (path_of on f)).own })) zero_row)
+
+root_sum : (on : Bool) (log : List LogRow) (takes : Bool) (closed : ClosedFrame) (u : LoggedWays) (fs : List FrameWays) (f : FrameWays) → path_of on f ≡ u → (ws : List Ways) → AllWays on log (f ∷ fs) ws
+    → (key : Option ℕ) → rows_at (root_rows takes (bare_row closed) ws) key
+    ≡ plus (way_row on log (chosen takes u).rows key) (cond (same_key None key) (frame_row (record closed { local = (chosen takes u).own })) zero_row)
+root_sum on log takes closed u fs f is [] h key = absurd h
+root_sum on log takes closed u fs f is (w ∷ ws) h key =
+    let way : IsWay on log (chosen takes u) (way_on takes w) = chosen_on on log takes u w (subst (λ (x : LoggedWays). AreBoth on log x w) is h.0) in
+    rows_at-append (way_on takes w).rows (record { key = None; row = plus (strand_row (way_on takes w).own) (bare_row closed) } ∷ []) key
+    ∙ ap₂ plus (sym (way.1 key))
+    (plus-zero (cond (same_key None key) (plus (strand_row (way_on takes w).own) (bare_row closed)) zero_row)
+    ∙ ap (λ (r : Row). cond (same_key None key) r zero_row) (ap (λ k. plus (strand_row k) (bare_row closed)) (sym way.0) ∙ sym (leaf_row closed (chosen takes u).own)))
 
 pub root_way : (o : OpenWays) (on : Bool) (takes : OnPaths) (closed : ClosedFrame) → IsLaid o → (some : 0 < length o.frames.items)
     → RootWay o on takes closed (topped o.frames.items some).top
@@ -38,18 +47,10 @@ root_way o on takes closed laid some =
     let t = topped o.frames.items some in
     let log : List LogRow = reverse o.log.rows.items in
     let f : FrameWays = t.top in
-    let w : LoggedWay = chosen (on_path on takes) (path_of on f) in
     let at : Laid (length o.log.rows.items) (f ∷ t.below) = subst (Laid (length o.log.rows.items)) t.is laid.frames in
-    let same = chosen_on on log (on_path on takes) (path_of on f) in
     record {
-      within = chosen_in (length o.log.rows.items) (on_path on takes) (path_of on f) (path_in on (length o.log.rows.items) f at.1 at.2);
-      rows = λ (key : Option ℕ).
-          ap (λ (l : List FrameWays). rows_at (root_rows (on_path on takes) (bare_row closed) (map (frame_ways on log) l)) key) t.is
-          ∙ ap (λ (x : Way). rows_at (x.rows ++ (record { key = None; row = plus (strand_row x.own) (bare_row closed) } ∷ [])) key) (sym same)
-          ∙ rows_at-append (way_rows on log w.rows) (record { key = None; row = plus (strand_row w.own) (bare_row closed) } ∷ []) key
-          ∙ ap (plus (rows_at (way_rows on log w.rows) key))
-          (plus-zero (cond (same_key None key) (plus (strand_row w.own) (bare_row closed)) zero_row)
-          ∙ ap (λ (r : Row). cond (same_key None key) r zero_row) (sym (leaf_row closed w.own)));
+      within = chosen_in (length o.log.rows.items) (on_path on takes) (path_of on f) (in_path on (length o.log.rows.items) f at.1 at.2);
+      rows = λ ws h key. root_sum on log (on_path on takes) closed (path_of on f) t.below f refl ws (subst (λ (l : List FrameWays). AllWays on log l ws) t.is h) key;
     }
 
 -- a table that was just made

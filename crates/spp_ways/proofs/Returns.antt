@@ -8,11 +8,11 @@ use Rattle.spp_ways.specs.declared.log.LogRow.{LogRow}
 use Rattle.spp_ways.specs.declared.open_ways.OnPaths.{OnPaths}
 use Rattle.spp_ways.specs.declared.open_ways.LoggedWays.{LoggedWays}
 use Rattle.spp_ways.specs.declared.open_ways.FrameWays.{FrameWays}
-use Rattle.spp_ways.specs.Ways.{Leaf, Ways, way_on, closed_rows, returned_ways}
+use Rattle.spp_ways.specs.Ways.{Ways, way_on, closed_rows, returned_ways}
 use Rattle.spp_ways.specs.Logs.{IsLinked, AreLinked}
-use Rattle.spp_ways.specs.OpenWays.{on_path, ways_in, path_of, frame_ways, AreIn, Laid, returned_list, bare_row, chosen, come, entered, StayIn}
-use Rattle.spp_ways.proofs.Staying.{all_stay, Cut, cut, linked_less}
-use Rattle.spp_ways.proofs.Returning.{come_ways, come_in, gone_ways}
+use Rattle.spp_ways.specs.OpenWays.{AreBoth, AllWays, on_path, path_of, AreIn, Laid, returned_list, bare_row, chosen, come, entered, StayIn}
+use Rattle.spp_ways.proofs.Staying.{AreAlike, rows_older, all_move, Cut, cut, cut_alike, linked_less}
+use Rattle.spp_ways.proofs.Returning.{come_ways, come_in, gone_in, gone_ways}
 
 -- the row of a frame that returns, where its own ways and those into its parent are these
 abbrev pub returned_row : OnPaths → ℕ → ClosedFrame → FrameWays → FrameWays → LogRow
@@ -45,17 +45,16 @@ stays_on false n kind wins g p b = p
 stays_on true n kind wins g p b = b
 
 -- the child's ways and the parent's on one path, with what the row says of them
-module _ (on : Bool) (off rest : List LogRow) (kind : FrameKind) (takes wins : OnPaths) (site : ℕ) (closed : ClosedFrame) (v g : FrameWays) where
-  pub path_come : StayIn (length rest) kind wins.plain g.plain → StayIn (length rest) kind wins.burdened g.burdened
-      → (chosen takes.plain v.plain).rows ≤ length rest → (chosen takes.burdened v.burdened).rows ≤ length rest
-      → frame_ways on (returned_row takes site closed v g ∷ rest) (come_frame kind wins (suc (length rest)) g)
-      ≡ returned_ways kind (on_path on wins) (closed_rows (Some site) (bare_row closed) (way_on (on_path on takes) (frame_ways on (off ++ rest) v))) (frame_ways on (off ++ rest) g)
-  path_come p b vp vb = by on
-    where
-      by : (on : Bool) → frame_ways on (returned_row takes site closed v g ∷ rest) (come_frame kind wins (suc (length rest)) g)
-          ≡ returned_ways kind (on_path on wins) (closed_rows (Some site) (bare_row closed) (way_on (on_path on takes) (frame_ways on (off ++ rest) v))) (frame_ways on (off ++ rest) g)
-      by false = come_ways false off rest (returned_row takes site closed v g) kind takes.plain wins.plain site closed v.plain g.plain p vp refl refl refl refl
-      by true = come_ways true off rest (returned_row takes site closed v g) kind takes.burdened wins.burdened site closed v.burdened g.burdened b vb refl refl refl refl
+pub path_come : (on : Bool) (log rest : List LogRow) → AreAlike on (length rest) log rest → (kind : FrameKind) (takes wins : OnPaths) (site : ℕ) (closed : ClosedFrame) (v g : FrameWays) (x w : Ways)
+    → AreBoth on log (path_of on v) x → AreBoth on log (path_of on g) w
+    → StayIn (length rest) kind wins.plain g.plain → StayIn (length rest) kind wins.burdened g.burdened
+    → (chosen takes.plain v.plain).rows ≤ length rest → (chosen takes.burdened v.burdened).rows ≤ length rest
+    → AreBoth on (returned_row takes site closed v g ∷ rest) (path_of on (come_frame kind wins (suc (length rest)) g))
+    (returned_ways kind (on_path on wins) (closed_rows (Some site) (bare_row closed) (way_on (on_path on takes) x)) w)
+path_come false log rest same kind takes wins site closed v g x w c h p b vp vb =
+    come_ways false log rest same (returned_row takes site closed v g) kind takes.plain wins.plain site closed g.plain v.plain x w c h p vp refl refl refl refl
+path_come true log rest same kind takes wins site closed v g x w c h p b vp vb =
+    come_ways true log rest same (returned_row takes site closed v g) kind takes.burdened wins.burdened site closed g.burdened v.burdened x w c h b vb refl refl refl refl
 
 is_gone : (kind : FrameKind) (wins : OnPaths) → entered kind wins ≡ false → (kind ≡ Called → ⊥) × (kind ≡ Spawned → wins.plain ≡ false) × (kind ≡ Spawned → wins.burdened ≡ false)
 is_gone Root wins e = (λ q. cc, λ q. cc, λ q. cc)
@@ -83,6 +82,9 @@ module _ (items : List LogRow) (v g : FrameWays) (below : List FrameWays) (linke
   pub return_linked : AreLinked (reverse (take t items))
   return_linked = linked_less c.off rest (subst AreLinked c.is linked)
 
+  alike : (on : Bool) → AreAlike on (length rest) (reverse items) rest
+  alike on = cut_alike on items t (length rest) short (omega (arith, left))
+
   here_plain : StayIn (length rest) kind wins.plain g.plain
   here_plain = subst (λ n. StayIn n kind wins.plain g.plain) (sym left) plain
 
@@ -91,30 +93,26 @@ module _ (items : List LogRow) (v g : FrameWays) (below : List FrameWays) (linke
 
   -- the way through the child is kept on neither path
   module _ (gone : entered kind wins ≡ false) where
-    abbrev rows : Bool → List Leaf
-    rows on = closed_rows (Some site) (bare_row closed) (way_on (on_path on takes) (frame_ways on (c.off ++ rest) v))
-
-    parent : (on : Bool) → frame_ways on rest g ≡ returned_ways kind (on_path on wins) (rows on) (frame_ways on (c.off ++ rest) g)
-    parent false = let h = is_gone kind wins gone in (gone_ways false c.off rest kind wins.plain (rows false) g.plain h.0 h.1 here_plain).1
-    parent true = let h = is_gone kind wins gone in (gone_ways true c.off rest kind wins.burdened (rows true) g.burdened h.0 h.2 here_burdened).1
+    in_both : AreIn (length rest) g.plain × AreIn (length rest) g.burdened
+    in_both = let h = is_gone kind wins gone in (gone_in (length rest) kind wins.plain g.plain h.0 h.1 here_plain, gone_in (length rest) kind wins.burdened g.burdened h.0 h.2 here_burdened)
 
     pub gone_laid : Laid (length (take t items)) (g ∷ below)
     gone_laid =
-        let h = is_gone kind wins gone in
         let n : length (take t items) ≡ t = length-take-le t items short in
-        subst (λ k. Laid k (g ∷ below)) (left ∙ sym n) (
-          (let z : g.start ≤ length rest = omega (arith, left) in z),
-          (gone_ways false c.off rest kind wins.plain (rows false) g.plain h.0 h.1 here_plain).0,
-          (gone_ways true c.off rest kind wins.burdened (rows true) g.burdened h.0 h.2 here_burdened).0,
-          laid.3.3,
-        )
+        subst (λ k. Laid k (g ∷ below)) (left ∙ sym n) ((let z : g.start ≤ length rest = omega (arith, left) in z), in_both.0, in_both.1, laid.3.3)
 
-    pub gone_all : (on : Bool) → map (frame_ways on (reverse (take t items))) (g ∷ below)
-        ≡ returned_list kind (on_path on takes) (on_path on wins) site (bare_row closed) (map (frame_ways on (reverse items)) (v ∷ g ∷ below))
-    gone_all on =
-        let under : map (frame_ways on rest) below ≡ map (frame_ways on (c.off ++ rest)) below = sym (all_stay on c.off rest g.start below (omega (arith, left)) laid.3.3) in
-        ap₂ (λ (a : Ways) (b : List Ways). a ∷ b) (parent on) under
-        ∙ ap (λ (l : List LogRow). returned_list kind (on_path on takes) (on_path on wins) site (bare_row closed) (map (frame_ways on l) (v ∷ g ∷ below))) (sym c.is)
+    path_wins : (on : Bool) → kind ≡ Spawned → on_path on wins ≡ false
+    path_wins false = (is_gone kind wins gone).1
+    path_wins true = (is_gone kind wins gone).2
+
+    pub gone_all : (on : Bool) (ws : List Ways) → AllWays on (reverse items) (v ∷ g ∷ below) ws
+        → AllWays on (reverse (take t items)) (g ∷ below) (returned_list kind (on_path on takes) (on_path on wins) site (bare_row closed) ws)
+    gone_all on [] h = absurd h
+    gone_all on (x ∷ []) h = absurd h.1
+    gone_all on (x ∷ w ∷ ws) h =
+        let same = alike on in
+        let moved = all_move on (length rest) (length rest) (reverse items) rest same (omega arith) (g ∷ below) (w ∷ ws) ((let z : g.start ≤ length rest = omega (arith, left) in z), in_both.0, in_both.1, laid.3.3) h.1 in
+        (gone_ways on rest kind (on_path on wins) (closed_rows (Some site) (bare_row closed) (way_on (on_path on takes) x)) (path_of on g) w (is_gone kind wins gone).0 (path_wins on) moved.0, moved.1)
 
   -- it is kept on one of them
   module _ (in_plain : (chosen takes.plain v.plain).rows ≤ t) (in_burdened : (chosen takes.burdened v.burdened).rows ≤ t) (few : site < 65536) where
@@ -149,14 +147,15 @@ module _ (items : List LogRow) (v g : FrameWays) (below : List FrameWays) (linke
       laid.3.3,
     )
 
-    pub kept_all : (on : Bool) → map (frame_ways on (reverse (take t items ++ (row ∷ [])))) (come_frame kind wins (suc (length rest)) g ∷ below)
-        ≡ returned_list kind (on_path on takes) (on_path on wins) site (bare_row closed) (map (frame_ways on (reverse items)) (v ∷ g ∷ below))
-    kept_all on =
+    pub kept_all : (on : Bool) (ws : List Ways) → AllWays on (reverse items) (v ∷ g ∷ below) ws
+        → AllWays on (reverse (take t items ++ (row ∷ []))) (come_frame kind wins (suc (length rest)) g ∷ below) (returned_list kind (on_path on takes) (on_path on wins) site (bare_row closed) ws)
+    kept_all on [] h = absurd h
+    kept_all on (x ∷ []) h = absurd h.1
+    kept_all on (x ∷ w ∷ ws) h =
+        let same = alike on in
         let z1 : (chosen takes.plain v.plain).rows ≤ length rest = omega (arith, left) in
         let z2 : (chosen takes.burdened v.burdened).rows ≤ length rest = omega (arith, left) in
         let begin : g.start ≤ length rest = omega (arith, left) in
-        let under : map (frame_ways on (row ∷ rest)) below ≡ map (frame_ways on (c.off ++ rest)) below =
-        all_stay on (row ∷ []) rest g.start below begin laid.3.3 ∙ sym (all_stay on c.off rest g.start below begin laid.3.3) in
-        ap (λ (l : List LogRow). map (frame_ways on l) (come_frame kind wins (suc (length rest)) g ∷ below)) last
-        ∙ ap₂ (λ (a : Ways) (b : List Ways). a ∷ b) (path_come on c.off rest kind takes wins site closed v g here_plain here_burdened z1 z2) under
-        ∙ ap (λ (l : List LogRow). returned_list kind (on_path on takes) (on_path on wins) site (bare_row closed) (map (frame_ways on l) (v ∷ g ∷ below))) (sym c.is)
+        let more : AreAlike on (length rest) (reverse items) (row ∷ rest) = λ k l key. rows_older on row rest k l key ∙ same k l key in
+        subst (λ (l : List LogRow). AllWays on l (come_frame kind wins (suc (length rest)) g ∷ below) (returned_list kind (on_path on takes) (on_path on wins) site (bare_row closed) (x ∷ w ∷ ws))) (sym last)
+        (path_come on (reverse items) rest same kind takes wins site closed v g x w h.0 h.1.0 here_plain here_burdened z1 z2, all_move on (length rest) g.start (reverse items) (row ∷ rest) more begin below ws laid.3.3 h.1.1)

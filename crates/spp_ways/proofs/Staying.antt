@@ -1,61 +1,73 @@
 -- A way stays as it is where the log grows, and where rows behind its last one are cut off.
-use Rattle.std.proofs.Common.{◌≡◌, ℕ, zero, suc, ◌+◌, ◌≤◌, ◌<◌, Bool, true, false, List, [], ◌∷◌, ◌++◌, length, map, reverse, take, drop, nat_eq, refl, sym, ap, ap₂, subst, ◌∙◌, arith}
+use Rattle.std.proofs.Common.{◌≡◌, ℕ, zero, suc, ◌+◌, ◌≤◌, ◌<◌, Bool, true, false, List, [], ◌∷◌, ◌++◌, length, Option, reverse, take, drop, nat_eq, refl, sym, ap, ap₂, subst, ◌∙◌, arith}
 use Rattle.std.proofs.lemmas.Bool.{ne_eqb, eq-eqb}
 use Rattle.std.proofs.lemmas.List.{reverse-append, length-reverse, length-append, length-take-le, take-append-drop}
 use Rattle.spp_ways.specs.declared.log.LogRow.{LogRow}
 use Rattle.spp_ways.specs.declared.open_ways.LoggedWays.{LoggedWays}
 use Rattle.spp_ways.specs.declared.open_ways.FrameWays.{FrameWays}
-use Rattle.spp_ways.specs.Ways.{Leaf, Ways}
-use Rattle.spp_ways.specs.Logs.{way_rows, before_on, within_on, leaf_on, IsLinked, AreLinked}
-use Rattle.spp_ways.specs.OpenWays.{ways_in, path_of, frame_ways, AreIn, Laid}
+use Rattle.spp_dag.specs.Shares.{plus, zero_row}
+use Rattle.spp_ways.specs.declared.open_ways.LoggedWay.{LoggedWay}
+use Rattle.spp_ways.specs.Ways.{Way, Ways}
+use Rattle.spp_ways.specs.Logs.{way_row, before_on, within_on, row_on, IsLinked, AreLinked}
+use Rattle.spp_ways.specs.OpenWays.{IsWay, AreBoth, AllWays, path_of, AreIn, Laid}
 
 -- a row behind the last one of a way
-pub rows_older : (on : Bool) (r : LogRow) (rs : List LogRow) (k : ℕ) → k ≤ length rs → way_rows on (r ∷ rs) k ≡ way_rows on rs k
-rows_older on r rs k l =
+pub rows_older : (on : Bool) (r : LogRow) (rs : List LogRow) (k : ℕ) → k ≤ length rs → (key : Option ℕ) → way_row on (r ∷ rs) k key ≡ way_row on rs k key
+rows_older on r rs k l key =
     let e : nat_eq k (suc (length rs)) ≡ false = ne_eqb _ _ (λ q. omega arith) in
-    rw (e, way_rows)
+    rw (e, way_row)
 
 -- rows behind it
-pub rows_stay : (on : Bool) (xs rs : List LogRow) (k : ℕ) → k ≤ length rs → way_rows on (xs ++ rs) k ≡ way_rows on rs k
-rows_stay on [] rs k l = refl
-rows_stay on (x ∷ xs) rs k l = rows_older on x (xs ++ rs) k (let n = length-append xs rs in omega arith) ∙ rows_stay on xs rs k l
+pub rows_stay : (on : Bool) (xs rs : List LogRow) (k : ℕ) → k ≤ length rs → (key : Option ℕ) → way_row on (xs ++ rs) k key ≡ way_row on rs k key
+rows_stay on [] rs k l key = refl
+rows_stay on (x ∷ xs) rs k l key = rows_older on x (xs ++ rs) k (let n = length-append xs rs in omega arith) key ∙ rows_stay on xs rs k l key
 
 -- the way that ends with the last row
-pub rows_last : (on : Bool) (r : LogRow) (rs : List LogRow)
-    → way_rows on (r ∷ rs) (suc (length rs)) ≡ way_rows on rs (before_on on r) ++ (way_rows on rs (within_on on r) ++ (leaf_on on r ∷ []))
-rows_last on r rs =
+pub rows_last : (on : Bool) (r : LogRow) (rs : List LogRow) (key : Option ℕ)
+    → way_row on (r ∷ rs) (suc (length rs)) key ≡ plus (way_row on rs (before_on on r) key) (plus (way_row on rs (within_on on r) key) (row_on on r key))
+rows_last on r rs key =
     let e : nat_eq (suc (length rs)) (suc (length rs)) ≡ true = eq-eqb _ _ refl in
-    rw (e, way_rows)
+    rw (e, way_row)
 
 -- the way that enters nothing
-pub rows_none : (on : Bool) (rs : List LogRow) → way_rows on rs 0 ≡ []
-rows_none on [] = refl
-rows_none on (r ∷ rs) = rows_older on r rs 0 (omega arith) ∙ rows_none on rs
+pub rows_none : (on : Bool) (rs : List LogRow) (key : Option ℕ) → way_row on rs 0 key ≡ zero_row
+rows_none on [] key = refl
+rows_none on (r ∷ rs) key = rows_older on r rs 0 (omega arith) key ∙ rows_none on rs key
 
--- the ways into one frame
-pub ways_stay : (on : Bool) (xs rs : List LogRow) (w : LoggedWays) → AreIn (length rs) w → ways_in on (xs ++ rs) w ≡ ways_in on rs w
-ways_stay on xs rs w h =
-    ap₂ (λ (a b : List Leaf). let u : Ways = record { along = record { rows = a; own = w.along.own }; through = record { rows = b; own = w.through.own } } in u)
-    (rows_stay on xs rs w.along.rows h.0) (rows_stay on xs rs w.through.rows h.1)
+-- a way in another log, where it is as it was
+pub way_moves : (on : Bool) (log new : List LogRow) (w : LoggedWay) (v : Way) → ((key : Option ℕ) → way_row on new w.rows key ≡ way_row on log w.rows key) → IsWay on log w v → IsWay on new w v
+way_moves on log new w v e h = (h.0, λ key. e key ∙ h.1 key)
 
 pub in_more : (n m : ℕ) → n ≤ m → (w : LoggedWays) → AreIn n w → AreIn m w
 in_more n m l w h = (let a = h.0 in omega arith, let b = h.1 in omega arith)
 
-in_path : (on : Bool) (n : ℕ) (f : FrameWays) → AreIn n f.plain → AreIn n f.burdened → AreIn n (path_of on f)
+pub in_path : (on : Bool) (n : ℕ) (f : FrameWays) → AreIn n f.plain → AreIn n f.burdened → AreIn n (path_of on f)
 in_path false n f a b = a
 in_path true n f a b = b
 
-pub frame_stays : (on : Bool) (xs rs : List LogRow) (f : FrameWays) → AreIn (length rs) f.plain → AreIn (length rs) f.burdened
-    → frame_ways on (xs ++ rs) f ≡ frame_ways on rs f
-frame_stays on xs rs f a b = ways_stay on xs rs (path_of on f) (in_path on (length rs) f a b)
+-- the two logs have the first n rows in common: ways that end there are the same in both
+abbrev pub AreAlike : Bool → ℕ → List LogRow → List LogRow → Type 0
+AreAlike on n log new = (k : ℕ) → k ≤ n → (key : Option ℕ) → way_row on new k key ≡ way_row on log k key
 
--- those into frames that were open where the log had no more rows
-pub all_stay : (on : Bool) (xs rs : List LogRow) (n : ℕ) (fs : List FrameWays) → n ≤ length rs → Laid n fs → map (frame_ways on (xs ++ rs)) fs ≡ map (frame_ways on rs) fs
-all_stay on xs rs n [] l h = refl
-all_stay on xs rs n (f ∷ fs) l h =
-    let start : f.start ≤ n = h.0 in
-    ap₂ (λ (a : Ways) (b : List Ways). a ∷ b) (frame_stays on xs rs f (in_more n (length rs) l f.plain h.1) (in_more n (length rs) l f.burdened h.2))
-    (all_stay on xs rs f.start fs (omega arith) h.3)
+pub both_move : (on : Bool) (n : ℕ) (log new : List LogRow) → AreAlike on n log new → (w : LoggedWays) (v : Ways) → AreIn n w → AreBoth on log w v → AreBoth on new w v
+both_move on n log new same w v l h = (way_moves on log new w.along v.along (same w.along.rows l.0) h.0, way_moves on log new w.through v.through (same w.through.rows l.1) h.1)
+
+pub all_move : (on : Bool) (n m : ℕ) (log new : List LogRow) → AreAlike on n log new → m ≤ n → (fs : List FrameWays) (vs : List Ways) → Laid m fs → AllWays on log fs vs → AllWays on new fs vs
+all_move on n m log new same l [] [] h a = tt
+all_move on n m log new same l [] (v ∷ vs) h a = absurd a
+all_move on n m log new same l (f ∷ fs) [] h a = absurd a
+all_move on n m log new same l (f ∷ fs) (v ∷ vs) h a =
+    let start : f.start ≤ m = h.0 in (
+      both_move on n log new same (path_of on f) v (in_more m n l (path_of on f) (in_path on m f h.1 h.2)) a.0,
+      all_move on n f.start log new same (omega arith) fs vs h.3 a.1,
+    )
+
+-- a log with more rows, and one with fewer
+pub alike_more : (on : Bool) (xs rs : List LogRow) (n : ℕ) → n ≤ length rs → AreAlike on n rs (xs ++ rs)
+alike_more on xs rs n l = λ k m key. rows_stay on xs rs k (omega arith) key
+
+pub alike_less : (on : Bool) (xs rs : List LogRow) (n : ℕ) → n ≤ length rs → AreAlike on n (xs ++ rs) rs
+alike_less on xs rs n l = λ k m key. sym (rows_stay on xs rs k (omega arith) key)
 
 pub laid_more : (n m : ℕ) → n ≤ m → (fs : List FrameWays) → Laid n fs → Laid m fs
 laid_more n m l [] h = tt
@@ -79,3 +91,9 @@ cut items to l = record {
 pub linked_less : (xs rs : List LogRow) → AreLinked (xs ++ rs) → AreLinked rs
 linked_less [] rs h = h
 linked_less (x ∷ xs) rs h = linked_less xs rs h.1
+
+-- the first n rows are those of the log before
+pub cut_alike : (on : Bool) (items : List LogRow) (to n : ℕ) → to ≤ length items → n ≤ to → AreAlike on n (reverse items) (reverse (take to items))
+cut_alike on items to n l m =
+    let c = cut items to l in
+    subst (λ (x : List LogRow). AreAlike on n x (reverse (take to items))) (sym c.is) (alike_less on c.off (reverse (take to items)) n (let z = c.count in omega arith))

@@ -1,49 +1,52 @@
 -- What the steps do to the ways into open frames.
-use Rattle.std.proofs.Common.{◌≡◌, ℕ, suc, ◌+◌, ◌-◌, ◌≤◌, ◌<◌, ◌^◌, Bool, true, false, List, [], ◌∷◌, ◌++◌, length, map, reverse, take, set, refl, sym, ap, ap₂, subst, ◌∙◌, arith}
-use Rattle.std.proofs.lemmas.List.{length-reverse, length-map}
+use Rattle.std.proofs.Common.{◌≡◌, ℕ, suc, ◌+◌, ◌-◌, ◌≤◌, ◌<◌, ◌^◌, Bool, true, false, List, [], ◌∷◌, length, Option, reverse, set, refl, sym, ap, subst, ◌∙◌, arith}
+use Rattle.std.proofs.lemmas.List.{length-reverse}
 use Rattle.spp_site.proofs.LastFirst.{topped}
+use Rattle.spp_dag.specs.Shares.{zero_row}
 use Rattle.spp_ways.specs.declared.log.LogRow.{LogRow}
-use Rattle.spp_ways.specs.declared.open_ways.LoggedWay.{LoggedWay}
 use Rattle.spp_ways.specs.declared.open_ways.LoggedWays.{LoggedWays}
 use Rattle.spp_ways.specs.declared.open_ways.FrameWays.{FrameWays}
 use Rattle.spp_ways.specs.declared.open_ways.OpenWays.{OpenWays}
-use Rattle.spp_ways.specs.Ways.{Ways, no_ways, strand_ways}
-use Rattle.spp_ways.specs.Logs.{way_rows}
-use Rattle.spp_ways.specs.OpenWays.{frame_ways, path_of, ways_of, nothing, HasOne, HasTwo, FitStrand, strand_list, Laid, IsLaid}
+use Rattle.spp_ways.specs.Ways.{Way, Ways, no_way, no_ways, strand_ways}
+use Rattle.spp_ways.specs.OpenWays.{IsWay, AreBoth, AllWays, AreWays, path_of, nothing, HasOne, HasTwo, FitStrand, strand_list, Laid, IsLaid}
 use Rattle.spp_ways.proofs.Staying.{rows_none}
 
+-- as many frames are open as there are ways
+pub as_many : (on : Bool) (log : List LogRow) (fs : List FrameWays) (ws : List Ways) → AllWays on log fs ws → length ws ≡ length fs
+as_many on log [] [] h = refl
+as_many on log [] (w ∷ ws) h = absurd h
+as_many on log (f ∷ fs) [] h = absurd h
+as_many on log (f ∷ fs) (w ∷ ws) h = ap suc (as_many on log fs ws h.1)
+
 -- there is an innermost frame
-pub some_frame : (on : Bool) (log : List LogRow) (fs : List FrameWays) → HasOne (map (frame_ways on log) (reverse fs)) → 0 < length fs
-some_frame on log fs h = by (reverse fs) refl h
-  where
-    by : (rs : List FrameWays) → reverse fs ≡ rs → HasOne (map (frame_ways on log) rs) → 0 < length fs
-    by [] e h = absurd h
-    by (r ∷ rs) e h = let n : length (reverse fs) ≡ suc (length rs) = ap length e in let m = length-reverse fs in omega arith
+pub some_frame : (on : Bool) (o : OpenWays) (ws : List Ways) → AreWays on o ws → HasOne ws → 0 < length o.frames.items
+some_frame on o [] h one = absurd one
+some_frame on o (w ∷ ws) h one = let n = as_many on (reverse o.log.rows.items) (reverse o.frames.items) (w ∷ ws) h in let m = length-reverse o.frames.items in omega arith
 
 -- and one below it
-pub two_frames : (on : Bool) (log : List LogRow) (fs : List FrameWays) → HasTwo (map (frame_ways on log) (reverse fs)) → 1 < length fs
-two_frames on log fs h = by (reverse fs) refl h
-  where
-    by : (rs : List FrameWays) → reverse fs ≡ rs → HasTwo (map (frame_ways on log) rs) → 1 < length fs
-    by [] e h = absurd h
-    by (r ∷ []) e h = absurd h
-    by (r ∷ q ∷ rs) e h = let n : length (reverse fs) ≡ suc (suc (length rs)) = ap length e in let m = length-reverse fs in omega arith
+pub two_frames : (on : Bool) (o : OpenWays) (ws : List Ways) → AreWays on o ws → HasTwo ws → 1 < length o.frames.items
+two_frames on o [] h two = absurd two
+two_frames on o (w ∷ []) h two = absurd two
+two_frames on o (w ∷ v ∷ ws) h two = let n = as_many on (reverse o.log.rows.items) (reverse o.frames.items) (w ∷ v ∷ ws) h in let m = length-reverse o.frames.items in omega arith
 
 fit_one : (count : ℕ) (ws : List Ways) → FitStrand count ws → HasOne ws
 fit_one count [] h = h
 fit_one count (w ∷ ws) h = tt
 
-pub fit_frame : (on : Bool) (count : ℕ) (log : List LogRow) (fs : List FrameWays) → FitStrand count (map (frame_ways on log) (reverse fs)) → 0 < length fs
-fit_frame on count log fs h = some_frame on log fs (fit_one count _ h)
+pub fit_frame : (on : Bool) (count : ℕ) (o : OpenWays) (ws : List Ways) → AreWays on o ws → FitStrand count ws → 0 < length o.frames.items
+fit_frame on count o ws h f = some_frame on o ws h (fit_one count ws f)
 
 -- ---- a frame that is opened
 
 abbrev pub opened : ℕ → FrameWays
 opened start = record { plain = record { along = nothing; through = nothing }; burdened = record { along = nothing; through = nothing }; start = start }
 
-pub opened_ways : (on : Bool) (log : List LogRow) (start : ℕ) → frame_ways on log (opened start) ≡ no_ways
-opened_ways false log start = ap (λ (r : List _). let u : Ways = record { along = record { rows = r; own = 0 }; through = record { rows = r; own = 0 } } in u) (rows_none false log)
-opened_ways true log start = ap (λ (r : List _). let u : Ways = record { along = record { rows = r; own = 0 }; through = record { rows = r; own = 0 } } in u) (rows_none true log)
+pub no_way_is : (on : Bool) (log : List LogRow) → IsWay on log nothing no_way
+no_way_is on log = (refl, λ key. rows_none on log key)
+
+pub opened_ways : (on : Bool) (log : List LogRow) (start : ℕ) → AreBoth on log (path_of on (opened start)) no_ways
+opened_ways false log start = (no_way_is false log, no_way_is false log)
+opened_ways true log start = (no_way_is true log, no_way_is true log)
 
 -- ---- a strand
 
@@ -53,18 +56,32 @@ strand_on count w = record { along = record { rows = w.along.rows; own = w.along
 abbrev pub strand_frame : ℕ → FrameWays → FrameWays
 strand_frame count f = record { plain = strand_on count f.plain; burdened = strand_on count f.burdened; start = f.start }
 
-pub strand_is : (on : Bool) (log : List LogRow) (count : ℕ) (f : FrameWays) → frame_ways on log (strand_frame count f) ≡ strand_ways count (frame_ways on log f)
-strand_is false log count f = refl
-strand_is true log count f = refl
+strand_both : (on : Bool) (log : List LogRow) (count : ℕ) (w : LoggedWays) (v : Ways) → AreBoth on log w v → AreBoth on log (strand_on count w) (strand_ways count v)
+strand_both on log count w v h = ((ap (λ n. n + count) h.0.0, h.0.1), h.1)
 
-pub strand_fits : (on : Bool) (count : ℕ) (log : List LogRow) (f : FrameWays) (fs : List FrameWays) → FitStrand count (map (frame_ways on log) (f ∷ fs))
-    → (path_of on f).along.own + count < 2 ^ 128
-strand_fits on count log f fs h = h
+strand_is : (on : Bool) (log : List LogRow) (count : ℕ) (f : FrameWays) (v : Ways) → AreBoth on log (path_of on f) v → AreBoth on log (path_of on (strand_frame count f)) (strand_ways count v)
+strand_is false log count f v h = strand_both false log count f.plain v h
+strand_is true log count f v h = strand_both true log count f.burdened v h
 
--- the innermost frame f has become g
+pub strand_all : (on : Bool) (log : List LogRow) (count : ℕ) (f : FrameWays) (fs : List FrameWays) (ws : List Ways) → AllWays on log (f ∷ fs) ws → AllWays on log (strand_frame count f ∷ fs) (strand_list count ws)
+strand_all on log count f fs [] h = absurd h
+strand_all on log count f fs (w ∷ ws) h = (strand_is on log count f w h.0, h.1)
+
+own_fits : (on : Bool) (log : List LogRow) (count : ℕ) (f : FrameWays) (fs : List FrameWays) (ws : List Ways) → AllWays on log (f ∷ fs) ws → FitStrand count ws → (path_of on f).along.own + count < 2 ^ 128
+own_fits on log count f fs [] h fit = absurd fit
+own_fits on log count f fs (w ∷ ws) h fit = let e = h.0.0.0 in omega arith
+
+-- the innermost frame's strands fit
+pub strand_fits : (on : Bool) (count : ℕ) (o : OpenWays) (some : 0 < length o.frames.items) (ws : List Ways) → AreWays on o ws → FitStrand count ws
+    → (path_of on (topped o.frames.items some).top).along.own + count < 2 ^ 128
+strand_fits on count o some ws h fit =
+    let t = topped o.frames.items some in
+    own_fits on (reverse o.log.rows.items) count t.top t.below ws (subst (λ (l : List FrameWays). AllWays on (reverse o.log.rows.items) l ws) t.is h) fit
+
+-- the innermost frame has changed
 pub record StrandDone (count : ℕ) (o : OpenWays) (frames : List FrameWays) : Type 0 where
   pub laid : Laid (length o.log.rows.items) (reverse frames)
-  pub ways : (on : Bool) → map (frame_ways on (reverse o.log.rows.items)) (reverse frames) ≡ strand_list count (ways_of on o)
+  pub ways : (on : Bool) (ws : List Ways) → AreWays on o ws → AllWays on (reverse o.log.rows.items) (reverse frames) (strand_list count ws)
 
 pub strand_done : (count : ℕ) (o : OpenWays) (some : 0 < length o.frames.items) → IsLaid o
     → StrandDone count o (set o.frames.items (length o.frames.items - 1) (strand_frame count (topped o.frames.items some).top))
@@ -75,8 +92,7 @@ strand_done count o some laid =
     let old : Laid (length o.log.rows.items) (t.top ∷ t.below) = subst (Laid (length o.log.rows.items)) t.is laid.frames in
     record {
       laid = subst (Laid (length o.log.rows.items)) (sym put) (old.0, old.1, old.2, old.3);
-      ways = λ on.
-          ap (map (frame_ways on (reverse o.log.rows.items))) put
-          ∙ ap (λ (w : Ways). w ∷ map (frame_ways on (reverse o.log.rows.items)) t.below) (strand_is on (reverse o.log.rows.items) count t.top)
-          ∙ ap (λ (l : List FrameWays). strand_list count (map (frame_ways on (reverse o.log.rows.items)) l)) (sym t.is);
+      ways = λ on ws h.
+          subst (λ (l : List FrameWays). AllWays on (reverse o.log.rows.items) l (strand_list count ws)) (sym put)
+          (strand_all on (reverse o.log.rows.items) count t.top t.below ws (subst (λ (l : List FrameWays). AllWays on (reverse o.log.rows.items) l ws) t.is h));
     }

@@ -1,10 +1,12 @@
 -- A log of closed frames, and the ways that end in it.
-use Rattle.std.specs.Prelude.{ℕ, suc, ◌≤◌, ◌<◌, Bool, true, false, cond, nat_eq, List, [], ◌∷◌, ◌++◌, length, reverse, Some}
+use Rattle.std.specs.Prelude.{ℕ, suc, ◌≤◌, ◌<◌, Bool, cond, nat_eq, List, [], ◌∷◌, length, reverse, Option, Some}
+use Rattle.spp_dag.specs.declared.row.Row.{Row}
+use Rattle.spp_dag.specs.Shares.{plus, zero_row}
+use Rattle.spp_dag.specs.Steps.{same_key}
 use Rattle.spp_site.specs.Rows.{frame_row}
 use Rattle.spp_site.specs.declared.closed_frame.ClosedFrame.{ClosedFrame}
 use Rattle.spp_ways.specs.declared.log.LogRow.{LogRow}
 use Rattle.spp_ways.specs.declared.log.Log.{Log}
-use Rattle.spp_ways.specs.Ways.{Leaf}
 
 -- ---- what a row of the log says of one of both paths: without burdens (false), or under them (true)
 
@@ -26,21 +28,22 @@ closed_on on r = record {
   top_caller = r.top_caller;
 }
 
-abbrev pub leaf_on : Bool → LogRow → Leaf
-leaf_on on r = record { key = Some r.site; row = frame_row (closed_on on r) }
+-- what a row of the log adds to the row of a key
+abbrev pub row_on : Bool → LogRow → Option ℕ → Row
+row_on on r key = cond (same_key (Some r.site) key) (frame_row (closed_on on r)) zero_row
 
 -- ---- the ways
 
--- The rows of the way that ends with the k-th row of a log, whose rows are told the last first; none where k is 0. They
--- are those of the way that leads to the frame of that row, those of the way through it, and its own.
-abbrev pub way_rows : Bool → List LogRow → ℕ → List Leaf
-way_rows on [] k = []
-way_rows on (r ∷ rs) k = cond (nat_eq k (suc (length rs)))
-    (way_rows on rs (before_on on r) ++ (way_rows on rs (within_on on r) ++ (leaf_on on r ∷ [])))
-    (way_rows on rs k)
+-- What the way that ends with the k-th row of a log, whose rows are told the last first, adds to the row of a key; nothing
+-- where k is 0. It is what the way adds that leads to the frame of that row, the way through it, and the frame itself.
+abbrev pub way_row : Bool → List LogRow → ℕ → Option ℕ → Row
+way_row on [] k key = zero_row
+way_row on (r ∷ rs) k key = cond (nat_eq k (suc (length rs)))
+    (plus (way_row on rs (before_on on r) key) (plus (way_row on rs (within_on on r) key) (row_on on r key)))
+    (way_row on rs k key)
 
-abbrev pub rows_in : Bool → Log → ℕ → List Leaf
-rows_in on log k = way_rows on (reverse log.rows.items) k
+abbrev pub row_in : Bool → Log → ℕ → Option ℕ → Row
+row_in on log k key = way_row on (reverse log.rows.items) k key
 
 -- a row leads to rows before it alone
 pub record IsLinked (n : ℕ) (r : LogRow) : Type 0 where

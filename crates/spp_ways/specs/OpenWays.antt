@@ -1,5 +1,5 @@
 -- The ways into open frames as they lie in a log, on both paths at once.
-use Rattle.std.specs.Prelude.{ℕ, ◌+◌, ◌≤◌, ◌<◌, ◌^◌, Bool, true, false, cond, ◌||◌, List, [], ◌∷◌, length, map, reverse, Some, None}
+use Rattle.std.specs.Prelude.{◌≡◌, ℕ, ◌+◌, ◌≤◌, ◌<◌, ◌^◌, Bool, true, false, cond, ◌||◌, List, [], ◌∷◌, length, reverse, Option, Some, None}
 use Rattle.spp_dag.specs.declared.row.Row.{Row}
 use Rattle.spp_dag.specs.declared.stack.FrameKind.{FrameKind}
 use Rattle.spp_dag.specs.declared.stack.FrameKind.TheVariants.{Root, Called, Spawned}
@@ -11,8 +11,8 @@ use Rattle.spp_ways.specs.declared.open_ways.LoggedWay.{LoggedWay}
 use Rattle.spp_ways.specs.declared.open_ways.LoggedWays.{LoggedWays}
 use Rattle.spp_ways.specs.declared.open_ways.FrameWays.{FrameWays}
 use Rattle.spp_ways.specs.declared.open_ways.OpenWays.{OpenWays}
-use Rattle.spp_ways.specs.Logs.{way_rows, AreLinked}
-use Rattle.spp_ways.specs.Ways.{Leaf, Way, Ways, strand_ways, waited_ways, way_on, closed_rows, returned_ways}
+use Rattle.spp_ways.specs.Logs.{way_row, AreLinked}
+use Rattle.spp_ways.specs.Ways.{Leaf, Way, Ways, strand_ways, waited_ways, way_on, closed_rows, returned_ways, rows_at}
 
 -- the answer for one of both paths: without burdens (false), or under them (true)
 abbrev pub on_path : Bool → OnPaths → Bool
@@ -20,21 +20,26 @@ on_path on a = cond on a.burdened a.plain
 
 -- ---- what lies in the log
 
-abbrev pub way_in : Bool → List LogRow → LoggedWay → Way
-way_in on log w = record { rows = way_rows on log w.rows; own = w.own }
+-- the way of a frame that lies so in a log is this one
+abbrev pub IsWay : Bool → List LogRow → LoggedWay → Way → Type 0
+IsWay on log w v = (w.own ≡ v.own) × ((key : Option ℕ) → way_row on log w.rows key ≡ rows_at v.rows key)
 
-abbrev pub ways_in : Bool → List LogRow → LoggedWays → Ways
-ways_in on log w = record { along = way_in on log w.along; through = way_in on log w.through }
+abbrev pub AreBoth : Bool → List LogRow → LoggedWays → Ways → Type 0
+AreBoth on log w v = IsWay on log w.along v.along × IsWay on log w.through v.through
 
 abbrev pub path_of : Bool → FrameWays → LoggedWays
 path_of on f = cond on f.burdened f.plain
 
-abbrev pub frame_ways : Bool → List LogRow → FrameWays → Ways
-frame_ways on log f = ways_in on log (path_of on f)
+-- the ways into these frames are these
+abbrev pub AllWays : Bool → List LogRow → List FrameWays → List Ways → Type 0
+AllWays on log [] [] = Unit {0}
+AllWays on log [] (v ∷ vs) = ⊥
+AllWays on log (f ∷ fs) [] = ⊥
+AllWays on log (f ∷ fs) (v ∷ vs) = AreBoth on log (path_of on f) v × AllWays on log fs vs
 
--- the ways into the open frames, innermost first
-abbrev pub ways_of : Bool → OpenWays → List Ways
-ways_of on o = map (frame_ways on (reverse o.log.rows.items)) (reverse o.frames.items)
+-- on one of both paths these are the ways into the open frames, innermost first: they have these sums
+abbrev pub AreWays : Bool → OpenWays → List Ways → Type 0
+AreWays on o ways = AllWays on (reverse o.log.rows.items) (reverse o.frames.items) ways
 
 -- the ways end within the first n rows
 abbrev pub AreIn : ℕ → LoggedWays → Type 0

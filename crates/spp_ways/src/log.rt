@@ -4,8 +4,7 @@ ghost use Rattle.std.specs.Prelude.{◌≡◌, ◌+◌, ◌<◌, ◌≤◌, ◌^
 ghost use Rattle.spp_dag.specs.Shares.{plus};
 ghost use Rattle.spp_site.specs.Rows.{Fits};
 ghost use Rattle.spp_site.specs.Profiles.{key_row};
-ghost use Rattle.spp_ways.specs.Ways.{rows_at};
-ghost use Rattle.spp_ways.specs.Logs.{AreLinked, before_on, within_on, closed_on, rows_in};
+ghost use Rattle.spp_ways.specs.Logs.{AreLinked, before_on, within_on, closed_on, row_in};
 
 use spp_site::{ClosedFrame, Table};
 use std::alloc::{AllocError, Global};
@@ -121,8 +120,8 @@ impl Log {
     pub(crate) fn add_up(&self, alloc: Global, burdened: bool, way: u32, table: &mut Table) -> Result<(), AllocError>
         requires linked { AreLinked (reverse self.now.rows.items) }
         requires way { way ≤ length self.now.rows.items }
-        requires fits { (key : Option ℕ) → Fits (plus (key_row table.old key) (rows_at (rows_in burdened self.now way) key)) }
-        ensures { OnOk result ((key : Option ℕ) → key_row table.new key ≡ plus (key_row table.old key) (rows_at (rows_in burdened self.now way) key)) }
+        requires fits { (key : Option ℕ) → Fits (plus (key_row table.old key) (row_in burdened self.now way key)) }
+        ensures { OnOk result ((key : Option ℕ) → key_row table.new key ≡ plus (key_row table.old key) (row_in burdened self.now way key)) }
     {
         let mut left = Vec::new(alloc);
         left.push(way)?;

@@ -1,15 +1,15 @@
 //! The ways into the open frames of a run, on both paths at once.
 
-ghost use Rattle.std.specs.Prelude.{◌≡◌, ◌+◌, ◌<◌, ◌≤◌, ◌^◌, ◌∷◌, [], ℕ, Bool, false, Option, length, OnOk, IfOk};
+ghost use Rattle.std.specs.Prelude.{◌≡◌, ◌+◌, ◌<◌, ◌≤◌, ◌^◌, ◌∷◌, [], ℕ, Bool, List, false, Option, length, OnOk, IfOk};
 ghost use Rattle.spp_site.specs.Rows.{Fits};
 ghost use Rattle.spp_site.specs.Profiles.{key_row};
-ghost use Rattle.spp_ways.specs.Ways.{no_ways, rows_at};
+ghost use Rattle.spp_ways.specs.Ways.{Ways, no_ways, rows_at};
 ghost use Rattle.spp_ways.specs.OpenWays.{
   IsLaid,
   HasOne,
   HasTwo,
   FitStrand,
-  ways_of,
+  AreWays,
   on_path,
   path_of,
   bare_row,
@@ -190,7 +190,7 @@ impl OpenWays {
     /// Where an allocation failed.
     pub fn new(alloc: Global) -> Result<Self, AllocError>
         ensures laid { IfOk result (λ w. IsLaid w) }
-        ensures ways { IfOk result (λ w. (on : Bool) → ways_of on w ≡ no_ways ∷ []) }
+        ensures ways { IfOk result (λ w. (on : Bool) → AreWays on w (no_ways ∷ [])) }
         ensures rows { IfOk result (λ w. length w.log.rows.items ≡ 0) }
     {
         let mut frames = Vec::new(alloc);
@@ -211,7 +211,7 @@ impl OpenWays {
         requires laid { IsLaid self.old }
         requires few { length self.old.log.rows.items < 2 ^ 32 }
         ensures laid { OnOk result (IsLaid self.new) }
-        ensures ways { OnOk result ((on : Bool) → ways_of on self.new ≡ no_ways ∷ ways_of on self.old) }
+        ensures ways { OnOk result ((on : Bool) (ways : List Ways) → AreWays on self.old ways → AreWays on self.new (no_ways ∷ ways)) }
         ensures rows { OnOk result (length self.new.log.rows.items ≤ length self.old.log.rows.items) }
     {
         self.frames.push(FrameWays::opened(self.log.len()))?;
@@ -222,9 +222,9 @@ impl OpenWays {
     #[inline(always)]
     pub fn strand(&mut self, count: u64)
         requires laid { IsLaid self.old }
-        requires fits { (on : Bool) → FitStrand count (ways_of on self.old) }
+        requires fits { (on : Bool) → (ways : List Ways) × AreWays on self.old ways × FitStrand count ways }
         ensures laid { IsLaid self.new }
-        ensures ways { (on : Bool) → ways_of on self.new ≡ strand_list count (ways_of on self.old) }
+        ensures ways { (on : Bool) (ways : List Ways) → AreWays on self.old ways → AreWays on self.new (strand_list count ways) }
         ensures rows { length self.new.log.rows.items ≤ length self.old.log.rows.items }
     {
         let last = self.frames.len() - 1;
@@ -237,9 +237,9 @@ impl OpenWays {
     #[inline(always)]
     pub fn wait(&mut self, takes: OnPaths)
         requires laid { IsLaid self.old }
-        requires some { HasOne (ways_of false self.old) }
+        requires some { (ways : List Ways) × AreWays false self.old ways × HasOne ways }
         ensures laid { IsLaid self.new }
-        ensures ways { (on : Bool) → ways_of on self.new ≡ waited_list (on_path on takes) (ways_of on self.old) }
+        ensures ways { (on : Bool) (ways : List Ways) → AreWays on self.old ways → AreWays on self.new (waited_list (on_path on takes) ways) }
         ensures rows { length self.new.log.rows.items ≤ length self.old.log.rows.items }
     {
         let last = self.frames.len() - 1;
@@ -269,11 +269,11 @@ impl OpenWays {
         closed: &ClosedFrame,
     ) -> Result<(), AllocError>
         requires laid { IsLaid self.old }
-        requires some { HasTwo (ways_of false self.old) }
+        requires some { (ways : List Ways) × AreWays false self.old ways × HasTwo ways }
         requires few { length self.old.log.rows.items + 1 < 2 ^ 32 }
         requires site { site < 65536 }
         ensures laid { OnOk result (IsLaid self.new) }
-        ensures ways { OnOk result ((on : Bool) → ways_of on self.new ≡ returned_list kind (on_path on takes) (on_path on wins) site (bare_row closed.now) (ways_of on self.old)) }
+        ensures ways { OnOk result ((on : Bool) (ways : List Ways) → AreWays on self.old ways → AreWays on self.new (returned_list kind (on_path on takes) (on_path on wins) site (bare_row closed.now) ways)) }
         ensures rows { OnOk result (length self.new.log.rows.items ≤ length self.old.log.rows.items + 1) }
     {
         let last = self.frames.len() - 1;
@@ -322,9 +322,8 @@ impl OpenWays {
         closed: &ClosedFrame,
     ) -> Result<Table, AllocError>
         requires laid { IsLaid self.now }
-        requires some { HasOne (ways_of false self.now) }
-        requires fits { (key : Option ℕ) → Fits (rows_at (root_rows (on_path burdened takes) (bare_row closed.now) (ways_of burdened self.now)) key) }
-        ensures { IfOk result (λ t. (key : Option ℕ) → key_row t key ≡ rows_at (root_rows (on_path burdened takes) (bare_row closed.now) (ways_of burdened self.now)) key) }
+        requires fits { (ways : List Ways) × AreWays burdened self.now ways × HasOne ways × ((key : Option ℕ) → Fits (rows_at (root_rows (on_path burdened takes) (bare_row closed.now) ways) key)) }
+        ensures { IfOk result (λ t. (ways : List Ways) → AreWays burdened self.now ways → (key : Option ℕ) → key_row t key ≡ rows_at (root_rows (on_path burdened takes) (bare_row closed.now) ways) key) }
     {
         let way = self.frames[self.frames.len() - 1].chosen_on(burdened, takes);
         let mut table = Table::new(alloc);

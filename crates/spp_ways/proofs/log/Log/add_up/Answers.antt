@@ -10,10 +10,9 @@ use Rattle.spp_site.specs.Profiles.{key_row}
 use Rattle.spp_site.specs.declared.closed_frame.ClosedFrame.{ClosedFrame}
 use Rattle.spp_site.proofs.Rows.{zero-plus, plus-zero, plus-assoc}
 use Rattle.spp_ways.specs.declared.log.LogRow.{LogRow}
-use Rattle.spp_ways.specs.Ways.{Leaf, rows_at}
-use Rattle.spp_ways.specs.Logs.{way_rows, before_on, within_on, closed_on, leaf_on, rows_in}
+use Rattle.spp_ways.specs.Logs.{way_row, before_on, within_on, closed_on, row_in}
 use Rattle.spp_ways.proofs.Staying.{rows_none}
-use Rattle.spp_ways.proofs.Summing.{row_fits, added_key, all_rows, AllIn, all_rows-append, count-append, in-append, link, next, next_in, next_fewer, next_sums}
+use Rattle.spp_ways.proofs.Summing.{row_fits, added_key, all_rows, all_count, AllIn, all_rows-append, count-append, in-append, link, next, next_in, next_fewer, next_sums}
 use Rattle.spp_ways.proofs.log.Log.add_up.Goals as goal
 
 pub loop-count-smaller-then-count-eq0 : goal.loop-count-smaller-then-count-eq0
@@ -29,8 +28,8 @@ loop-count-smaller-then-count-eq0 c =
     let a = length-append ks (k ∷ []) in
     let b = count-append on log ks k in
     let p : length c.loop-count.left.items ≡ length (ks ++ (k ∷ [])) = ap (λ (l : List ℕ). length l) popped in
-    let q : length (all_rows on log c.loop-count.left.items) ≡ length (all_rows on log (ks ++ (k ∷ []))) = ap (λ (l : List ℕ). length (all_rows on log l)) popped in
-    let z : 2 * length (all_rows on log ks) + length ks < 2 * length (all_rows on log c.loop-count.left.items) + length c.loop-count.left.items = omega arith in
+    let q : all_count on log c.loop-count.left.items ≡ all_count on log (ks ++ (k ∷ [])) = ap (λ (l : List ℕ). all_count on log l) popped in
+    let z : 2 * all_count on log ks + length ks < 2 * all_count on log c.loop-count.left.items + length c.loop-count.left.items = omega arith in
     z
 
 pub loop-count-preserved-then-count-eq0 : goal.loop-count-preserved-then-count-eq0
@@ -47,9 +46,9 @@ loop-count-preserved-then-count-eq0 c =
       within = is_in.0;
       sums = λ (key : Option ℕ).
           ap (plus (key_row c.loop-count.table key))
-          (sym (ap (λ (l : List ℕ). rows_at (all_rows on log l) key) popped ∙ all_rows-append on log ks k key
-          ∙ ap (λ (l : List Leaf). plus (rows_at (all_rows on log ks) key) (rows_at l key)) (ap (way_rows on log) none ∙ rows_none on log)
-          ∙ plus-zero (rows_at (all_rows on log ks) key)))
+          (sym (ap (λ (l : List ℕ). all_rows on log l key) popped ∙ all_rows-append on log ks k key
+          ∙ ap (plus (all_rows on log ks key)) (ap (λ (n : ℕ). way_row on log n key) none ∙ rows_none on log key)
+          ∙ plus-zero (all_rows on log ks key)))
           ∙ c.loop-count.invariant.sums key;
     }
 
@@ -84,9 +83,9 @@ close-requires-clause-limit c =
     let is_row : d ≡ row = c.index.ensures in
     let old : c.loop-count.left.items ≡ ks ++ (suc j ∷ []) = popped ∙ ap (λ (n : ℕ). ks ++ (n ∷ [])) more in
     let sums = λ (key : Option ℕ).
-    ap (plus (key_row c.loop-count.table key)) (sym (next_sums on items c.requires.linked ks d j lt key) ∙ ap (λ (l : List ℕ). rows_at (all_rows on log l) key) (sym old)) ∙ c.loop-count.invariant.sums key in
+    ap (plus (key_row c.loop-count.table key)) (sym (next_sums on items c.requires.linked ks d j lt key) ∙ ap (λ (l : List ℕ). all_rows on log l key) (sym old)) ∙ c.loop-count.invariant.sums key in
     let leaf = λ (r : LogRow) (key : Option ℕ). let x : Row = cond (same_key (Some r.site) key) (frame_row (closed_on on r)) zero_row in x in
-    let after = λ (key : Option ℕ). let x : Row = rows_at (all_rows on log (next on items c.requires.linked ks d j lt)) key in x in
+    let after = λ (key : Option ℕ). let x : Row = all_rows on log (next on items c.requires.linked ks d j lt) key in x in
     subst (λ (r : LogRow). r.site < 65536) (sym is_row) (link items c.requires.linked d j lt).site
 
 pub close-requires-clause-fits : goal.close-requires-clause-fits
@@ -106,11 +105,11 @@ close-requires-clause-fits c =
     let is_row : d ≡ row = c.index.ensures in
     let old : c.loop-count.left.items ≡ ks ++ (suc j ∷ []) = popped ∙ ap (λ (n : ℕ). ks ++ (n ∷ [])) more in
     let sums = λ (key : Option ℕ).
-    ap (plus (key_row c.loop-count.table key)) (sym (next_sums on items c.requires.linked ks d j lt key) ∙ ap (λ (l : List ℕ). rows_at (all_rows on log l) key) (sym old)) ∙ c.loop-count.invariant.sums key in
+    ap (plus (key_row c.loop-count.table key)) (sym (next_sums on items c.requires.linked ks d j lt key) ∙ ap (λ (l : List ℕ). all_rows on log l key) (sym old)) ∙ c.loop-count.invariant.sums key in
     let leaf = λ (r : LogRow) (key : Option ℕ). let x : Row = cond (same_key (Some r.site) key) (frame_row (closed_on on r)) zero_row in x in
-    let after = λ (key : Option ℕ). let x : Row = rows_at (all_rows on log (next on items c.requires.linked ks d j lt)) key in x in
+    let after = λ (key : Option ℕ). let x : Row = all_rows on log (next on items c.requires.linked ks d j lt) key in x in
     let at_row : Fits (plus (row_at c.loop-count.table row.site) (frame_row (closed_on on row))) =
-    row_fits (plus (row_at c.loop-count.table row.site) (frame_row (closed_on on row))) (after (Some row.site)) (plus (key_row c.args.table.now (Some row.site)) (rows_at (rows_in on c.args.self.now c.args.way) (Some row.site)))
+    row_fits (plus (row_at c.loop-count.table row.site) (frame_row (closed_on on row))) (after (Some row.site)) (plus (key_row c.args.table.now (Some row.site)) (row_in on c.args.self.now c.args.way (Some row.site)))
     (plus-assoc (row_at c.loop-count.table row.site) (frame_row (closed_on on row)) (after (Some row.site))
     ∙ ap (λ (r : Row). plus (row_at c.loop-count.table row.site) (plus r (after (Some row.site)))) (own_key row) ∙ sums (Some row.site)) (c.requires.fits (Some row.site)) in
     subst (λ (f : ClosedFrame). Fits (plus (row_at c.loop-count.table d.site) (frame_row f))) (sym c.closed.ensures)
@@ -136,15 +135,15 @@ loop-count-smaller c =
     let is_row : d ≡ row = c.index.ensures in
     let old : c.loop-count.left.items ≡ ks ++ (suc j ∷ []) = popped ∙ ap (λ (n : ℕ). ks ++ (n ∷ [])) more in
     let sums = λ (key : Option ℕ).
-    ap (plus (key_row c.loop-count.table key)) (sym (next_sums on items c.requires.linked ks d j lt key) ∙ ap (λ (l : List ℕ). rows_at (all_rows on log l) key) (sym old)) ∙ c.loop-count.invariant.sums key in
+    ap (plus (key_row c.loop-count.table key)) (sym (next_sums on items c.requires.linked ks d j lt key) ∙ ap (λ (l : List ℕ). all_rows on log l key) (sym old)) ∙ c.loop-count.invariant.sums key in
     let leaf = λ (r : LogRow) (key : Option ℕ). let x : Row = cond (same_key (Some r.site) key) (frame_row (closed_on on r)) zero_row in x in
-    let after = λ (key : Option ℕ). let x : Row = rows_at (all_rows on log (next on items c.requires.linked ks d j lt)) key in x in
+    let after = λ (key : Option ℕ). let x : Row = all_rows on log (next on items c.requires.linked ks d j lt) key in x in
     let pushed : c.push-in-Some-2.new.self.items ≡ next on items c.requires.linked ks d j lt =
     c.in_ok-push-3.ensures.items
     ∙ ap₂ (λ (l : List ℕ) (n : ℕ). l ++ (n ∷ [])) (c.in_ok-push-2.ensures.items ∙ ap (λ (n : ℕ). ks ++ (n ∷ [])) (c.before-in-Some.ensures ∙ ap (before_on on) is_row)) (c.within.ensures ∙ ap (within_on on) is_row) in
     let f = next_fewer on items c.requires.linked ks d j lt in
-    subst (λ (l : List ℕ). 2 * length (all_rows on log c.push-in-Some-2.new.self.items) + length c.push-in-Some-2.new.self.items < 2 * length (all_rows on log l) + length l) (sym old)
-    (subst (λ (l : List ℕ). 2 * length (all_rows on log l) + length l < 2 * length (all_rows on log (ks ++ (suc j ∷ []))) + length (ks ++ (suc j ∷ []))) (sym pushed) f)
+    subst (λ (l : List ℕ). 2 * all_count on log c.push-in-Some-2.new.self.items + length c.push-in-Some-2.new.self.items < 2 * all_count on log l + length l) (sym old)
+    (subst (λ (l : List ℕ). 2 * all_count on log l + length l < 2 * all_count on log (ks ++ (suc j ∷ [])) + length (ks ++ (suc j ∷ []))) (sym pushed) f)
 
 pub loop-count-preserved : goal.loop-count-preserved
 loop-count-preserved c =
@@ -163,9 +162,9 @@ loop-count-preserved c =
     let is_row : d ≡ row = c.index.ensures in
     let old : c.loop-count.left.items ≡ ks ++ (suc j ∷ []) = popped ∙ ap (λ (n : ℕ). ks ++ (n ∷ [])) more in
     let sums = λ (key : Option ℕ).
-    ap (plus (key_row c.loop-count.table key)) (sym (next_sums on items c.requires.linked ks d j lt key) ∙ ap (λ (l : List ℕ). rows_at (all_rows on log l) key) (sym old)) ∙ c.loop-count.invariant.sums key in
+    ap (plus (key_row c.loop-count.table key)) (sym (next_sums on items c.requires.linked ks d j lt key) ∙ ap (λ (l : List ℕ). all_rows on log l key) (sym old)) ∙ c.loop-count.invariant.sums key in
     let leaf = λ (r : LogRow) (key : Option ℕ). let x : Row = cond (same_key (Some r.site) key) (frame_row (closed_on on r)) zero_row in x in
-    let after = λ (key : Option ℕ). let x : Row = rows_at (all_rows on log (next on items c.requires.linked ks d j lt)) key in x in
+    let after = λ (key : Option ℕ). let x : Row = all_rows on log (next on items c.requires.linked ks d j lt) key in x in
     let pushed : c.push-in-Some-2.new.self.items ≡ next on items c.requires.linked ks d j lt =
     c.in_ok-push-3.ensures.items
     ∙ ap₂ (λ (l : List ℕ) (n : ℕ). l ++ (n ∷ [])) (c.in_ok-push-2.ensures.items ∙ ap (λ (n : ℕ). ks ++ (n ∷ [])) (c.before-in-Some.ensures ∙ ap (before_on on) is_row)) (c.within.ensures ∙ ap (within_on on) is_row) in
@@ -176,7 +175,7 @@ loop-count-preserved c =
     record {
       within = subst (AllIn (length items)) (sym pushed) (next_in on items c.requires.linked ks d j lt is_in.0);
       sums = λ (key : Option ℕ).
-          ap₂ plus (added_key c.loop-count.table c.close.new.self row.site (frame_row (closed_on on row)) is_added key) (ap (λ (l : List ℕ). rows_at (all_rows on log l) key) pushed)
+          ap₂ plus (added_key c.loop-count.table c.close.new.self row.site (frame_row (closed_on on row)) is_added key) (ap (λ (l : List ℕ). all_rows on log l key) pushed)
           ∙ plus-assoc (key_row c.loop-count.table key) (leaf row key) (after key)
           ∙ sums key;
     }

@@ -10,12 +10,24 @@ use Rattle.spp_ways.specs.declared.open_ways.LoggedWays.{LoggedWays}
 use Rattle.spp_ways.specs.declared.open_ways.FrameWays.{FrameWays}
 use Rattle.spp_ways.specs.declared.open_ways.OpenWays.{OpenWays}
 use Rattle.spp_ways.specs.Logs.{AreLinked}
-use Rattle.spp_ways.specs.OpenWays.{IsLaid, Laid, AreIn, StayIn, on_path, returned_list, bare_row, frame_ways, chosen, entered}
+use Rattle.spp_ways.specs.OpenWays.{AllWays, Laid, AreIn, StayIn, on_path, returned_list, bare_row, chosen, entered}
 use Rattle.spp_ways.proofs.Staying.{in_more}
 use Rattle.spp_ways.proofs.Steps.{two_frames}
 use Rattle.spp_ways.proofs.Returning.{chosen_in, stay_more}
 use Rattle.spp_ways.proofs.Returns.{returned_row, come_frame, return_linked, gone_laid, gone_all, kept_linked, kept_laid, kept_all}
 use Rattle.spp_ways.proofs.open_ways.OpenWays.ret.Goals as goal
+
+pub overflow_sub-last-2 : goal.overflow_sub-last-2
+overflow_sub-last-2 c =
+    let o : OpenWays = c.args.self.now in
+    let two = two_frames false o c.requires.some.0 c.requires.some.1 c.requires.some.2 in
+    omega (arith, c.len-last.ensures, o.frames.ok.0)
+
+pub index_mut-parent-requires : goal.index_mut-parent-requires
+index_mut-parent-requires c =
+    let o : OpenWays = c.args.self.now in
+    let two = two_frames false o c.requires.some.0 c.requires.some.1 c.requires.some.2 in
+    omega (arith, c.len-last.ensures, c.truncate.ensures.len, o.frames.ok.0)
 
 pub returns-then-not-is_entered-clause-laid : goal.returns-then-not-is_entered-clause-laid
 returns-then-not-is_entered-clause-laid c =
@@ -27,7 +39,7 @@ returns-then-not-is_entered-clause-laid c =
     let wins : OnPaths = c.args.wins in
     let site : ℕ = c.args.site in
     let closed : ClosedFrame = c.args.closed.now in
-    let two = two_frames false (reverse items) fs c.requires.some in
+    let two = two_frames false o c.requires.some.0 c.requires.some.1 c.requires.some.2 in
     let at : c.len-last.result - 1 ≡ length fs - 1 = omega (arith, c.len-last.ensures, o.frames.ok.0) in
     let t = topped fs (omega arith) in
     let rest : List FrameWays = c.truncate.new.self.items in
@@ -70,7 +82,7 @@ returns-then-not-is_entered-clause-laid c =
     }
 
 pub returns-then-not-is_entered-clause-ways : goal.returns-then-not-is_entered-clause-ways
-returns-then-not-is_entered-clause-ways c on =
+returns-then-not-is_entered-clause-ways c on ws h =
     let o : OpenWays = c.args.self.now in
     let fs : List FrameWays = o.frames.items in
     let items : List LogRow = o.log.rows.items in
@@ -79,7 +91,7 @@ returns-then-not-is_entered-clause-ways c on =
     let wins : OnPaths = c.args.wins in
     let site : ℕ = c.args.site in
     let closed : ClosedFrame = c.args.closed.now in
-    let two = two_frames false (reverse items) fs c.requires.some in
+    let two = two_frames false o c.requires.some.0 c.requires.some.1 c.requires.some.2 in
     let at : c.len-last.result - 1 ≡ length fs - 1 = omega (arith, c.len-last.ensures, o.frames.ok.0) in
     let t = topped fs (omega arith) in
     let rest : List FrameWays = c.truncate.new.self.items in
@@ -115,9 +127,9 @@ returns-then-not-is_entered-clause-ways c on =
     let short : n ≤ length items = omega arith in
     let cut : c.cut.new.self.rows.items ≡ take n items = c.cut.ensures in
     let frames : reverse (set rest (c.len-last.result - 1 - 1) old) ≡ g ∷ u.below = ap₂ (λ (k : ℕ) (f : FrameWays). reverse (set rest k f)) next parent ∙ u.put g in
-    ap₂ (λ (l : List LogRow) (k : List FrameWays). map (frame_ways on (reverse l)) k) cut frames
-    ∙ gone_all items v g u.below c.requires.laid.linked laid kind takes wins site closed n start sp sb short off on
-    ∙ ap (λ (l : List FrameWays). returned_list kind (on_path on takes) (on_path on wins) site (bare_row closed) (map (frame_ways on (reverse items)) l)) (sym all)
+    subst (λ (l : List LogRow). AllWays on (reverse l) (reverse (set rest (c.len-last.result - 1 - 1) old)) (returned_list kind (on_path on takes) (on_path on wins) site (bare_row closed) ws)) (sym cut)
+    (subst (λ (l : List FrameWays). AllWays on (reverse (take n items)) l (returned_list kind (on_path on takes) (on_path on wins) site (bare_row closed) ws)) (sym frames)
+    (gone_all items v g u.below c.requires.laid.linked laid kind takes wins site closed n start sp sb short off on ws (subst (λ (l : List FrameWays). AllWays on (reverse items) l ws) all h)))
 
 pub returns-clause-laid : goal.returns-clause-laid
 returns-clause-laid c =
@@ -129,7 +141,7 @@ returns-clause-laid c =
     let wins : OnPaths = c.args.wins in
     let site : ℕ = c.args.site in
     let closed : ClosedFrame = c.args.closed.now in
-    let two = two_frames false (reverse items) fs c.requires.some in
+    let two = two_frames false o c.requires.some.0 c.requires.some.1 c.requires.some.2 in
     let at : c.len-last.result - 1 ≡ length fs - 1 = omega (arith, c.len-last.ensures, o.frames.ok.0) in
     let t = topped fs (omega arith) in
     let rest : List FrameWays = c.truncate.new.self.items in
@@ -203,7 +215,7 @@ returns-clause-laid c =
     }
 
 pub returns-clause-ways : goal.returns-clause-ways
-returns-clause-ways c on =
+returns-clause-ways c on ws h =
     let o : OpenWays = c.args.self.now in
     let fs : List FrameWays = o.frames.items in
     let items : List LogRow = o.log.rows.items in
@@ -212,7 +224,7 @@ returns-clause-ways c on =
     let wins : OnPaths = c.args.wins in
     let site : ℕ = c.args.site in
     let closed : ClosedFrame = c.args.closed.now in
-    let two = two_frames false (reverse items) fs c.requires.some in
+    let two = two_frames false o c.requires.some.0 c.requires.some.1 c.requires.some.2 in
     let at : c.len-last.result - 1 ≡ length fs - 1 = omega (arith, c.len-last.ensures, o.frames.ok.0) in
     let t = topped fs (omega arith) in
     let rest : List FrameWays = c.truncate.new.self.items in
@@ -279,6 +291,6 @@ returns-clause-ways c on =
     ap₂ (λ (x y : LoggedWays). frame x y old) c.come.ensures c.come-2.ensures ∙ ap₂ (λ (k : ℕ) (f : FrameWays). come_frame kind wins k f) count parent in
     let frames : reverse (set rest (c.len-last.result - 1 - 1) (frame c.come.new.self c.come-2.new.self old)) ≡ come_frame kind wins (suc (length (reverse (take n items)))) g ∷ u.below =
     ap₂ (λ (k : ℕ) (f : FrameWays). reverse (set rest k f)) next is_frame ∙ u.put (come_frame kind wins (suc (length (reverse (take n items)))) g) in
-    ap₂ (λ (l : List LogRow) (k : List FrameWays). map (frame_ways on (reverse l)) k) log frames
-    ∙ kept_all items v g u.below c.requires.laid.linked laid kind takes wins site closed n start sp sb short np nb c.requires.site on
-    ∙ ap (λ (l : List FrameWays). returned_list kind (on_path on takes) (on_path on wins) site (bare_row closed) (map (frame_ways on (reverse items)) l)) (sym all)
+    subst (λ (l : List LogRow). AllWays on (reverse l) (reverse (set rest (c.len-last.result - 1 - 1) (frame c.come.new.self c.come-2.new.self old))) (returned_list kind (on_path on takes) (on_path on wins) site (bare_row closed) ws)) (sym log)
+    (subst (λ (l : List FrameWays). AllWays on (reverse (take n items ++ (returned_row takes site closed v g ∷ []))) l (returned_list kind (on_path on takes) (on_path on wins) site (bare_row closed) ws)) (sym frames)
+    (kept_all items v g u.below c.requires.laid.linked laid kind takes wins site closed n start sp sb short np nb c.requires.site on ws (subst (λ (l : List FrameWays). AllWays on (reverse items) l ws) all h)))

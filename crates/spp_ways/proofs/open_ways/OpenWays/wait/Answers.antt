@@ -7,7 +7,7 @@ use Rattle.spp_ways.specs.declared.open_ways.LoggedWays.{LoggedWays}
 use Rattle.spp_ways.specs.declared.open_ways.FrameWays.{FrameWays}
 use Rattle.spp_ways.specs.declared.open_ways.OpenWays.{OpenWays}
 use Rattle.spp_ways.specs.Logs.{AreLinked}
-use Rattle.spp_ways.specs.OpenWays.{IsLaid, Laid, on_path, waited_list, frame_ways, chosen, nothing}
+use Rattle.spp_ways.specs.OpenWays.{AllWays, Laid, on_path, waited_list, chosen, nothing}
 use Rattle.spp_ways.proofs.Steps.{some_frame}
 use Rattle.spp_ways.proofs.Returning.{chosen_in, waited_frame, wait_linked, wait_laid, wait_ways}
 use Rattle.spp_ways.proofs.open_ways.OpenWays.wait.Goals as goal
@@ -18,7 +18,7 @@ returns-clause-laid c =
     let fs : List FrameWays = o.frames.items in
     let items : List LogRow = o.log.rows.items in
     let takes : OnPaths = c.args.takes in
-    let some = some_frame false (reverse items) fs c.requires.some in
+    let some = some_frame false o c.requires.some.0 c.requires.some.1 c.requires.some.2 in
     let t = topped fs some in
     let at : c.len-last.result - 1 ≡ length fs - 1 = omega (arith, c.len-last.ensures, o.frames.ok.0) in
     let old : FrameWays = c.index_mut-frame.result.now in
@@ -51,12 +51,12 @@ returns-clause-laid c =
     }
 
 pub returns-clause-ways : goal.returns-clause-ways
-returns-clause-ways c on =
+returns-clause-ways c on ws h =
     let o : OpenWays = c.args.self.now in
     let fs : List FrameWays = o.frames.items in
     let items : List LogRow = o.log.rows.items in
     let takes : OnPaths = c.args.takes in
-    let some = some_frame false (reverse items) fs c.requires.some in
+    let some = some_frame false o c.requires.some.0 c.requires.some.1 c.requires.some.2 in
     let t = topped fs some in
     let at : c.len-last.result - 1 ≡ length fs - 1 = omega (arith, c.len-last.ensures, o.frames.ok.0) in
     let old : FrameWays = c.index_mut-frame.result.now in
@@ -81,6 +81,6 @@ returns-clause-ways c on =
     let n2 : (chosen takes.plain t.top.plain).rows ≤ c.max-needed.result = omega arith in
     let n3 : (chosen takes.burdened t.top.burdened).rows ≤ c.max-needed.result = omega arith in
     let n4 : c.max-needed.result ≤ length items = omega arith in
-    ap₂ (λ (l : List LogRow) (k : List FrameWays). map (frame_ways on (reverse l)) k) cut (ap reverse moved ∙ t.put (waited_frame takes t.top))
-    ∙ wait_ways items takes t.top t.below c.requires.laid.linked laid c.max-needed.result n1 n2 n3 n4 on
-    ∙ ap (λ (l : List FrameWays). waited_list (on_path on takes) (map (frame_ways on (reverse items)) l)) (sym t.is)
+    subst (λ (l : List LogRow). AllWays on (reverse l) (reverse (set fs (c.len-last.result - 1) (frame c.going_on-frame.result c.going_on-frame-2.result))) (waited_list (on_path on takes) ws)) (sym cut)
+    (subst (λ (l : List FrameWays). AllWays on (reverse (take c.max-needed.result items)) l (waited_list (on_path on takes) ws)) (sym (ap reverse moved ∙ t.put (waited_frame takes t.top)))
+    (wait_ways items takes t.top t.below c.requires.laid.linked laid c.max-needed.result n1 n2 n3 n4 on ws (subst (λ (l : List FrameWays). AllWays on (reverse items) l ws) t.is h)))
