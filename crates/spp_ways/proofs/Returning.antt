@@ -1,5 +1,5 @@
 -- What a wait and a return do to the ways into open frames.
-use Rattle.std.proofs.Common.{◌≡◌, ℕ, suc, ◌+◌, ◌≤◌, ◌<◌, Bool, true, false, cond, ◌||◌, List, [], ◌∷◌, ◌++◌, length, map, reverse, take, Option, Some, refl, sym, ap, ap₂, subst, ◌∙◌, arith}
+use Rattle.std.proofs.Common.{◌≡◌, ℕ, suc, ◌+◌, ◌≤◌, ◌<◌, Bool, true, false, cond, ◌||◌, List, [], ◌∷◌, ◌++◌, length, map, reverse, take, Option, Some, None, refl, sym, ap, ap₂, subst, ◌∙◌, arith}
 use Rattle.std.proofs.lemmas.List.{length-take-le}
 use Rattle.spp_dag.specs.declared.row.Row.{Row}
 use Rattle.spp_dag.specs.declared.stack.FrameKind.{FrameKind}
@@ -15,7 +15,7 @@ use Rattle.spp_ways.specs.declared.open_ways.LoggedWays.{LoggedWays}
 use Rattle.spp_ways.specs.declared.open_ways.FrameWays.{FrameWays}
 use Rattle.spp_site.proofs.Rows.{plus-zero}
 use Rattle.spp_ways.specs.Ways.{Leaf, Way, Ways, rows_at, way_on, way_through, waited_ways, closed_rows, returned_ways}
-use Rattle.spp_ways.specs.Logs.{way_row, row_on, before_on, within_on, closed_on, IsLinked, AreLinked}
+use Rattle.spp_ways.specs.Logs.{way_row, row_on, merged_row, before_on, within_on, closed_on, IsLinked, AreLinked}
 use Rattle.spp_ways.specs.OpenWays.{IsWay, AreBoth, AllWays, on_path, path_of, AreIn, Laid, waited_list, returned_list, bare_row, chosen, nothing, come, entered, StayIn}
 use Rattle.spp_ways.proofs.Parts.{rows_at-append}
 use Rattle.spp_ways.proofs.Staying.{AreAlike, rows_last, rows_older, way_moves, both_move, all_move, in_more, Cut, cut, cut_alike, linked_less}
@@ -54,6 +54,7 @@ waited_frame takes f = record {
   plain = record { along = chosen takes.plain f.plain; through = nothing };
   burdened = record { along = chosen takes.burdened f.burdened; through = nothing };
   start = f.start;
+  limit = f.limit;
 }
 
 -- on one path, in a log that is as it was up to its way
@@ -112,7 +113,7 @@ module _ (on : Bool) (log rest : List LogRow) (same : AreAlike on (length rest) 
     (u v : LoggedWays) (x w : Ways) (child : AreBoth on log v x) (parent : AreBoth on log u w)
     (stays : StayIn (length rest) kind wins u) (within : (chosen takes v).rows ≤ length rest)
     (is_before : before_on on r ≡ u.along.rows) (is_within : within_on on r ≡ (chosen takes v).rows)
-    (is_closed : closed_on on r ≡ record closed { local = (chosen takes v).own }) (is_site : r.site ≡ site) where
+    (is_closed : closed_on on r ≡ record closed { local = (chosen takes v).own }) (is_site : r.site ≡ site) (is_frame : r.merged ≡ None) where
   abbrev pub rows : List Leaf
   rows = closed_rows (Some site) (bare_row closed) (way_on takes x)
 
@@ -125,7 +126,7 @@ module _ (on : Bool) (log rest : List LogRow) (same : AreAlike on (length rest) 
       let row : frame_row (closed_on on r) ≡ plus (strand_row (way_on takes x).own) (bare_row closed) =
       ap frame_row is_closed ∙ leaf_row closed (chosen takes v).own ∙ ap (λ k. plus (strand_row k) (bare_row closed)) way.0 in
       let own : row_on on r key ≡ cond (same_key (Some site) key) (plus (strand_row (way_on takes x).own) (bare_row closed)) zero_row =
-      ap₂ (λ (s : ℕ) (q : Row). cond (same_key (Some s) key) q zero_row) is_site row in
+      ap (λ (m : _). merged_row on r m key) is_frame ∙ ap₂ (λ (s : ℕ) (q : Row). cond (same_key (Some s) key) q zero_row) is_site row in
       rows_last on r rest key ∙ ap₂ plus b (ap₂ plus i own ∙ sym (closed_sum key (Some site) (bare_row closed) (way_on takes x))) ∙ sym (through_rows w.along rows key)
 
   older : (k : ℕ) → k ≤ length rest → (key : Option ℕ) → way_row on (r ∷ rest) k key ≡ way_row on log k key

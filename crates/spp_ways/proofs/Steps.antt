@@ -38,15 +38,15 @@ fit_frame on count o ws h f = some_frame on o ws h (fit_one count ws f)
 
 -- ---- a frame that is opened
 
-abbrev pub opened : ℕ → FrameWays
-opened start = record { plain = record { along = nothing; through = nothing }; burdened = record { along = nothing; through = nothing }; start = start }
+abbrev pub opened : ℕ → ℕ → FrameWays
+opened start limit = record { plain = record { along = nothing; through = nothing }; burdened = record { along = nothing; through = nothing }; start = start; limit = limit }
 
 pub no_way_is : (on : Bool) (log : List LogRow) → IsWay on log nothing no_way
 no_way_is on log = (refl, λ key. rows_none on log key)
 
-pub opened_ways : (on : Bool) (log : List LogRow) (start : ℕ) → AreBoth on log (path_of on (opened start)) no_ways
-opened_ways false log start = (no_way_is false log, no_way_is false log)
-opened_ways true log start = (no_way_is true log, no_way_is true log)
+pub opened_ways : (on : Bool) (log : List LogRow) (start limit : ℕ) → AreBoth on log (path_of on (opened start limit)) no_ways
+opened_ways false log start limit = (no_way_is false log, no_way_is false log)
+opened_ways true log start limit = (no_way_is true log, no_way_is true log)
 
 -- ---- a strand
 
@@ -54,7 +54,7 @@ abbrev pub strand_on : ℕ → LoggedWays → LoggedWays
 strand_on count w = record { along = record { rows = w.along.rows; own = w.along.own + count }; through = w.through }
 
 abbrev pub strand_frame : ℕ → FrameWays → FrameWays
-strand_frame count f = record { plain = strand_on count f.plain; burdened = strand_on count f.burdened; start = f.start }
+strand_frame count f = record { plain = strand_on count f.plain; burdened = strand_on count f.burdened; start = f.start; limit = f.limit }
 
 strand_both : (on : Bool) (log : List LogRow) (count : ℕ) (w : LoggedWays) (v : Ways) → AreBoth on log w v → AreBoth on log (strand_on count w) (strand_ways count v)
 strand_both on log count w v h = ((ap (λ n. n + count) h.0.0, h.0.1), h.1)

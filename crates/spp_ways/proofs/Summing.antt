@@ -7,7 +7,7 @@ use Rattle.spp_dag.specs.declared.row.Row.{Row}
 use Rattle.spp_dag.specs.Shares.{plus, zero_row}
 use Rattle.spp_dag.specs.Steps.{same_key}
 use Rattle.spp_site.specs.Rows.{Fits, frame_row}
-use Rattle.spp_site.specs.Table.{Sums, row_at, IsAdded}
+use Rattle.spp_site.specs.Table.{Sums, row_at, IsAdded, IsSum}
 use Rattle.spp_site.specs.Profiles.{key_row}
 use Rattle.spp_site.proofs.Rows.{plus-zero, zero-plus, plus-assoc, plus-swap, plus-over}
 use Rattle.spp_ways.specs.declared.log.LogRow.{LogRow}
@@ -52,6 +52,11 @@ added_key old new site row h (Some s) = h.sites s ∙ by (nat_eq s site) (nat_eq
     by true true e = refl
     by false true e = cc
     by true false e = cc
+
+-- the sum of two tables
+pub sum_key : (a b t : Sums) → IsSum a b t → (key : Option ℕ) → key_row t key ≡ plus (key_row a key) (key_row b key)
+sum_key a b t h None = h.root
+sum_key a b t h (Some s) = h.sites s
 
 -- ---- the ways that are left
 

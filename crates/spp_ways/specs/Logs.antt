@@ -1,10 +1,14 @@
 -- A log of closed frames, and the ways that end in it.
-use Rattle.std.specs.Prelude.{ℕ, suc, ◌≤◌, ◌<◌, Bool, cond, nat_eq, List, [], ◌∷◌, length, reverse, Option, Some}
+use Rattle.std.specs.Prelude.{◌≡◌, ℕ, suc, ◌≤◌, ◌<◌, Bool, cond, nat_eq, List, [], ◌∷◌, length, reverse, Option, Some, None}
 use Rattle.spp_dag.specs.declared.row.Row.{Row}
 use Rattle.spp_dag.specs.Shares.{plus, zero_row}
 use Rattle.spp_dag.specs.Steps.{same_key}
+use Rattle.std.specs.Global.{Box}
 use Rattle.spp_site.specs.Rows.{frame_row}
 use Rattle.spp_site.specs.declared.closed_frame.ClosedFrame.{ClosedFrame}
+use Rattle.spp_site.specs.Table.{Sums}
+use Rattle.spp_site.specs.Profiles.{key_row}
+use Rattle.spp_ways.specs.declared.log.Merged.{Merged}
 use Rattle.spp_ways.specs.declared.log.LogRow.{LogRow}
 use Rattle.spp_ways.specs.declared.log.Log.{Log}
 
@@ -28,9 +32,28 @@ closed_on on r = record {
   top_caller = r.top_caller;
 }
 
--- what a row of the log adds to the row of a key
+-- what was merged, on that path
+abbrev pub merged_on : Bool → Merged → Sums
+merged_on on m = cond on m.burdened m.plain
+
+abbrev pub merged_row : Bool → LogRow → Option (Box Merged) → Option ℕ → Row
+merged_row on r None key = cond (same_key (Some r.site) key) (frame_row (closed_on on r)) zero_row
+merged_row on r (Some m) key = key_row (merged_on on m.value) key
+
+-- what a row of the log adds to the row of a key: that of its frame, or what was merged
 abbrev pub row_on : Bool → LogRow → Option ℕ → Row
-row_on on r key = cond (same_key (Some r.site) key) (frame_row (closed_on on r)) zero_row
+row_on on r key = merged_row on r r.merged key
+
+-- a row for what was merged, with no way before it or within it
+pub record IsMergedRow (m : Merged) (r : LogRow) : Type 0 where
+  pub box : Box Merged
+  pub merged : r.merged ≡ Some box
+  pub value : box.value ≡ m
+  pub before : r.before ≡ 0
+  pub within : r.within ≡ 0
+  pub burdened_before : r.burdened_before ≡ 0
+  pub burdened_within : r.burdened_within ≡ 0
+  pub site : r.site ≡ 0
 
 -- ---- the ways
 

@@ -3,7 +3,7 @@ use Rattle.std.specs.Prelude.{◌≡◌, ℕ, ◌+◌, ◌≤◌, ◌<◌, ◌^�
 use Rattle.spp_dag.specs.declared.row.Row.{Row}
 use Rattle.spp_dag.specs.declared.stack.FrameKind.{FrameKind}
 use Rattle.spp_dag.specs.declared.stack.FrameKind.TheVariants.{Root, Called, Spawned}
-use Rattle.spp_site.specs.Rows.{frame_row}
+use Rattle.spp_site.specs.Rows.{Fits, frame_row}
 use Rattle.spp_site.specs.declared.closed_frame.ClosedFrame.{ClosedFrame}
 use Rattle.spp_ways.specs.declared.log.LogRow.{LogRow}
 use Rattle.spp_ways.specs.declared.open_ways.OnPaths.{OnPaths}
@@ -78,6 +78,11 @@ abbrev pub waited_list : Bool → List Ways → List Ways
 waited_list takes [] = []
 waited_list takes (w ∷ ws) = waited_ways takes w ∷ ws
 
+-- the sums of the rows of the ways into the innermost frame fit their types
+abbrev pub FitTop : List Ways → Type 0
+FitTop [] = Unit {0}
+FitTop (w ∷ ws) = ((key : Option ℕ) → Fits (rows_at w.along.rows key)) × ((key : Option ℕ) → Fits (rows_at w.through.rows key))
+
 -- what the close of a frame adds to its row besides its strands
 abbrev pub bare_row : ClosedFrame → Row
 bare_row c = frame_row (record c { local = 0 })
@@ -100,6 +105,26 @@ chosen takes w = cond takes w.through w.along
 
 abbrev pub nothing : LoggedWay
 nothing = record { rows = 0; own = 0 }
+
+-- their rows have been merged into these two of the log
+abbrev pub merged_ways : ℕ → ℕ → LoggedWays → LoggedWays
+merged_ways along through w = record { along = record { rows = along; own = w.along.own }; through = record { rows = through; own = w.through.own } }
+
+abbrev pub merged_frame : ℕ → ℕ → ℕ → FrameWays → FrameWays
+merged_frame along through limit f = record {
+  plain = merged_ways along through f.plain;
+  burdened = merged_ways along through f.burdened;
+  start = f.start;
+  limit = limit;
+}
+
+-- the innermost frame has two rows or more
+abbrev pub HasRowsOf : ℕ → List FrameWays → Type 0
+HasRowsOf n [] = ⊥
+HasRowsOf n (f ∷ fs) = f.start + 2 ≤ n
+
+abbrev pub HasRows : OpenWays → Type 0
+HasRows o = HasRowsOf (length o.log.rows.items) (reverse o.frames.items)
 
 -- a frame of that kind has returned, whose way through it ends with that row
 abbrev pub come : FrameKind → Bool → ℕ → LoggedWays → LoggedWays

@@ -1,16 +1,38 @@
 //! The closed frames that ways enter.
 
-ghost use Rattle.std.specs.Prelude.{◌≡◌, ◌+◌, ◌<◌, ◌≤◌, ◌^◌, ◌++◌, ◌∷◌, [], ℕ, length, reverse, take, OnOk, IfOk, Option};
+ghost use Rattle.std.specs.Prelude.{◌≡◌, ◌+◌, ◌<◌, ◌≤◌, ◌^◌, ◌++◌, ◌∷◌, [], ℕ, true, false, length, reverse, take, OnOk, IfOk, Option};
 ghost use Rattle.spp_dag.specs.Shares.{plus};
 ghost use Rattle.spp_site.specs.Rows.{Fits};
 ghost use Rattle.spp_site.specs.Profiles.{key_row};
-ghost use Rattle.spp_ways.specs.Logs.{AreLinked, before_on, within_on, closed_on, row_in};
+ghost use Rattle.spp_ways.specs.Logs.{AreLinked, IsMergedRow, before_on, within_on, closed_on, merged_on, row_on, row_in};
+ghost use Rattle.spp_ways.specs.declared.log.LogRow.{LogRow as LogRowValue};
 
-use spp_site::{ClosedFrame, Table};
+use spp_site::{ClosedFrame, Share, Table};
 use std::alloc::{AllocError, Global};
 
-/// A closed frame, and for either path how the ways lead on from it.
-#[derive(Clone, Copy)]
+/// What the rows of ways come to: on the path without burdens, and on that under them.
+#[derive(Drop)]
+pub(crate) struct Merged {
+    plain: Share,
+    burdened: Share,
+}
+
+impl Merged {
+    /// On that path: without burdens, or under them.
+    fn on(&self, burdened: bool) -> &Share
+        ensures { result.now ≡ merged_on burdened self.now }
+    {
+        if burdened { &self.burdened } else { &self.plain }
+    }
+
+    /// How many rows are stored.
+    pub(crate) fn len(&self) -> usize {
+        self.plain.row_count().saturating_add(self.burdened.row_count())
+    }
+}
+
+/// A closed frame, and for either path how the ways lead on from it; or what the rows of two ways come to.
+#[derive(Drop)]
 pub(crate) struct LogRow {
     /// Its work.
     pub(crate) work: u128,
@@ -34,9 +56,35 @@ pub(crate) struct LogRow {
     pub(crate) top_site: bool,
     /// Its caller is enclosed by no frame of the caller's function.
     pub(crate) top_caller: bool,
+    /// In place of a frame, what was merged.
+    pub(crate) merged: Option<Box<Merged>>,
 }
 
 impl LogRow {
+    /// A row for what was merged, with no way before it or within it.
+    ///
+    /// # Errors
+    ///
+    /// Where an allocation failed.
+    fn of_merged(alloc: Global, merged: Merged) -> Result<Self, AllocError>
+        ensures { IfOk result (λ r. IsMergedRow merged r) }
+    {
+        Ok(LogRow {
+            work: 0,
+            span: 0,
+            own: 0,
+            burdened_own: 0,
+            before: 0,
+            within: 0,
+            burdened_before: 0,
+            burdened_within: 0,
+            site: 0,
+            top_site: false,
+            top_caller: false,
+            merged: Some(Box::new(alloc, merged)?),
+        })
+    }
+
     /// Where the way ends that leads to the frame in its parent: without burdens, or under them.
     fn before(&self, burdened: bool) -> u32
         ensures { result ≡ before_on burdened self.now }
@@ -49,6 +97,18 @@ impl LogRow {
         ensures { result ≡ within_on burdened self.now }
     {
         if burdened { self.burdened_within } else { self.within }
+    }
+
+    /// Adds it to a table of that path.
+    fn add_to(&self, burdened: bool, table: &mut Table) -> Result<(), AllocError>
+        requires site { self.now.site < 65536 }
+        requires fits { (key : Option ℕ) → Fits (plus (key_row table.old key) (row_on burdened self.now key)) }
+        ensures { OnOk result ((key : Option ℕ) → key_row table.new key ≡ plus (key_row table.old key) (row_on burdened self.now key)) }
+    {
+        match &self.merged {
+            None => table.close(self.site, &self.closed(burdened)),
+            Some(merged) => table.absorb(merged.on(burdened)),
+        }
     }
 
     /// The frame as a table of that path counts it.
@@ -129,11 +189,46 @@ impl Log {
             if count == 0 {
                 continue;
             }
-            let row = self.rows[count as usize - 1];
-            table.close(row.site, &row.closed(burdened))?;
+            let row = &self.rows[count as usize - 1];
+            row.add_to(burdened, table)?;
             left.push(row.before(burdened))?;
             left.push(row.within(burdened))?;
         }
         Ok(())
+    }
+
+    /// What the rows of two ways come to, one on the path without burdens and one on that under them. It takes time linear
+    /// in the numbers of rows and of sites.
+    ///
+    /// # Errors
+    ///
+    /// Where an allocation failed.
+    pub(crate) fn merge(&self, alloc: Global, plain: u32, burdened: u32) -> Result<Merged, AllocError>
+        requires linked { AreLinked (reverse self.now.rows.items) }
+        requires plain { plain ≤ length self.now.rows.items }
+        requires burdened { burdened ≤ length self.now.rows.items }
+        requires plain_fits { (key : Option ℕ) → Fits (row_in false self.now plain key) }
+        requires burdened_fits { (key : Option ℕ) → Fits (row_in true self.now burdened key) }
+        ensures plain { IfOk result (λ m. (key : Option ℕ) → key_row m.plain key ≡ row_in false self.now plain key) }
+        ensures burdened { IfOk result (λ m. (key : Option ℕ) → key_row m.burdened key ≡ row_in true self.now burdened key) }
+    {
+        let mut plain_rows = Table::new(alloc);
+        self.add_up(alloc, false, plain, &mut plain_rows)?;
+        let mut burdened_rows = Table::new(alloc);
+        self.add_up(alloc, true, burdened, &mut burdened_rows)?;
+        Ok(Merged {
+            plain: plain_rows.into_share(),
+            burdened: burdened_rows.into_share(),
+        })
+    }
+
+    /// Puts what was merged behind the other rows, and gives the number of rows then.
+    pub(crate) fn push_merged(&mut self, alloc: Global, merged: Merged) -> Result<u32, AllocError>
+        requires { length self.old.rows.items + 1 < 2 ^ 32 }
+        ensures row { OnOk result ((r : LogRowValue) × IsMergedRow merged r × (self.new.rows.items ≡ self.old.rows.items ++ (r ∷ []))) }
+        ensures count { IfOk result (λ n. n ≡ length self.old.rows.items + 1) }
+    {
+        let row = LogRow::of_merged(alloc, merged)?;
+        self.push(row)
     }
 }

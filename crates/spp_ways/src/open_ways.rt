@@ -1,6 +1,6 @@
 //! The ways into the open frames of a run, on both paths at once.
 
-ghost use Rattle.std.specs.Prelude.{◌≡◌, ◌+◌, ◌<◌, ◌≤◌, ◌^◌, ◌∷◌, [], ℕ, Bool, List, false, Option, length, OnOk, IfOk};
+ghost use Rattle.std.specs.Prelude.{◌≡◌, ◌+◌, ◌<◌, ◌≤◌, ◌^◌, ◌∷◌, [], ℕ, Bool, List, true, false, Option, length, OnOk, IfOk};
 ghost use Rattle.spp_site.specs.Rows.{Fits};
 ghost use Rattle.spp_site.specs.Profiles.{key_row};
 ghost use Rattle.spp_ways.specs.Ways.{Ways, no_ways, rows_at};
@@ -21,8 +21,12 @@ ghost use Rattle.spp_ways.specs.OpenWays.{
   nothing,
   come,
   entered,
+  merged_ways,
+  merged_frame,
   AreIn,
   StayIn,
+  FitTop,
+  HasRows,
 };
 
 use crate::log::{Log, LogRow};
@@ -79,6 +83,22 @@ impl LoggedWays {
         }
     }
 
+    /// Those, where their rows have been merged into these two of the log.
+    fn merged(self, along: u32, through: u32) -> Self
+        ensures { result ≡ merged_ways along through self }
+    {
+        LoggedWays {
+            along: LoggedWay {
+                rows: along,
+                own: self.along.own,
+            },
+            through: LoggedWay {
+                rows: through,
+                own: self.through.own,
+            },
+        }
+    }
+
     /// The way on which the frame goes on where it waits.
     #[inline(always)]
     fn chosen(&self, takes: bool) -> LoggedWay
@@ -131,18 +151,34 @@ struct FrameWays {
     burdened: LoggedWays,
     /// How many rows the log had where the frame was opened: the ways into the frames below end there or before.
     start: u32,
+    /// How many rows behind those are merged.
+    limit: u32,
 }
 
 impl FrameWays {
-    /// A frame that is opened where the log has so many rows.
+    /// A frame that is opened where the log has so many rows, and of which so many rows are merged.
     #[inline(always)]
-    fn opened(start: u32) -> Self
-        ensures { result ≡ record { plain = record { along = nothing; through = nothing }; burdened = record { along = nothing; through = nothing }; start = start } }
+    fn opened(start: u32, limit: u32) -> Self
+        ensures { result ≡ record { plain = record { along = nothing; through = nothing }; burdened = record { along = nothing; through = nothing }; start = start; limit = limit } }
     {
         FrameWays {
             plain: LoggedWays::going_on(LoggedWay::none()),
             burdened: LoggedWays::going_on(LoggedWay::none()),
             start,
+            limit,
+        }
+    }
+
+    /// The frame, where the rows of its ways have been merged into these two of the log; of so many rows they are merged
+    /// again.
+    fn merged(self, along: u32, through: u32, limit: u32) -> Self
+        ensures { result ≡ merged_frame along through limit self }
+    {
+        FrameWays {
+            plain: self.plain.merged(along, through),
+            burdened: self.burdened.merged(along, through),
+            start: self.start,
+            limit,
         }
     }
 
@@ -170,34 +206,51 @@ fn is_entered(kind: FrameKind, wins: OnPaths) -> bool
     }
 }
 
+/// Of how many rows those of a frame are merged again, where that many are left of them, and they had been merged of so many.
+fn limit_for(left: usize, limit: u32) -> u32
+    ensures { limit ≤ result }
+{
+    let left = left.min(u32::MAX as usize / 2) as u32;
+    limit.max(left * 2)
+}
+
+/// The least number of rows of a frame at which they are merged.
+const LEAST_LIMIT: u32 = 1024;
+
 /// The ways into the open frames of a run, without burdens and under them: for each frame the greatest way along the frame
 /// itself, and the greatest way through a child that waits in it, with the closed frames that they enter. Which child a
 /// frame takes, and which of two children is kept, is told by whoever keeps their weights.
 ///
-/// A frame that closes takes a row of 96 bytes, and rows behind the last one that a way ends with are cut off. An open
-/// frame takes 144 bytes. Each step takes constant time.
+/// A frame that closes takes a row of 96 bytes. Rows behind the last one that a way ends with are cut off; and where those
+/// of an open frame are too many, the rows of its ways are merged into one for each call site. So what an open frame keeps
+/// doesn't grow with the number of frames that it has called or spawned, but with that of the call sites on its ways. An
+/// open frame takes 144 bytes. Each step takes constant time, amortized.
 #[derive(Drop)]
 pub struct OpenWays {
     frames: Vec<FrameWays>,
     log: Log,
+    /// Of how many rows a frame that is opened has its own merged.
+    limit: u32,
 }
 
 impl OpenWays {
-    /// The ways into the root frame, before the first event.
+    /// The ways into the root frame of a run with so many call sites, before the first event.
     ///
     /// # Errors
     ///
     /// Where an allocation failed.
-    pub fn new(alloc: Global) -> Result<Self, AllocError>
+    pub fn new(alloc: Global, sites: u32) -> Result<Self, AllocError>
         ensures laid { IfOk result (λ w. IsLaid w) }
         ensures ways { IfOk result (λ w. (on : Bool) → AreWays on w (no_ways ∷ [])) }
         ensures rows { IfOk result (λ w. length w.log.rows.items ≡ 0) }
     {
+        let limit = sites.max(LEAST_LIMIT);
         let mut frames = Vec::new(alloc);
-        frames.push(FrameWays::opened(0))?;
+        frames.push(FrameWays::opened(0, limit))?;
         Ok(OpenWays {
             frames,
             log: Log::new(alloc),
+            limit,
         })
     }
 
@@ -214,7 +267,8 @@ impl OpenWays {
         ensures ways { OnOk result ((on : Bool) (ways : List Ways) → AreWays on self.old ways → AreWays on self.new (no_ways ∷ ways)) }
         ensures rows { OnOk result (length self.new.log.rows.items ≤ length self.old.log.rows.items) }
     {
-        self.frames.push(FrameWays::opened(self.log.len()))?;
+        self.frames
+            .push(FrameWays::opened(self.log.len(), self.limit))?;
         Ok(())
     }
 
@@ -252,22 +306,49 @@ impl OpenWays {
         self.log.cut(needed);
     }
 
-    /// The innermost frame returns to the one below: how it was entered; on which paths it takes the child that waits in
-    /// it; on which the way through it is greater than the one through the child that waits in the frame below, or none
-    /// waits; and the frame as the table of the whole dag counts it.
-    ///
-    /// # Errors
-    ///
-    /// Where an allocation failed.
+    /// Merges the rows of the innermost frame.
+    #[cold]
+    #[inline(never)]
+    fn merge(&mut self, alloc: Global) -> Result<(), AllocError>
+        requires laid { IsLaid self.old }
+        requires fits { (on : Bool) → (ways : List Ways) × AreWays on self.old ways × FitTop ways }
+        requires few { length self.old.log.rows.items < 2 ^ 32 }
+        requires many { HasRows self.old }
+        ensures laid { OnOk result (IsLaid self.new) }
+        ensures ways { OnOk result ((on : Bool) (ways : List Ways) → AreWays on self.old ways → AreWays on self.new ways) }
+        ensures rows { OnOk result (length self.new.log.rows.items ≤ length self.old.log.rows.items) }
+    {
+        let last = self.frames.len() - 1;
+        let frame = self.frames[last];
+        let along = self.log.merge(
+            alloc,
+            frame.plain.along.rows,
+            frame.burdened.along.rows,
+        )?;
+        let through = self.log.merge(
+            alloc,
+            frame.plain.through.rows,
+            frame.burdened.through.rows,
+        )?;
+        let rows = along.len().saturating_add(through.len());
+        self.log.cut(frame.start);
+        let along = self.log.push_merged(alloc, along)?;
+        let through = self.log.push_merged(alloc, through)?;
+        self.frames[last] = frame.merged(along, through, limit_for(rows, frame.limit));
+        Ok(())
+    }
+
+    /// The innermost frame returns to the one below, as for [`OpenWays::ret`]; whether the rows of the latter are to be
+    /// merged then.
     #[inline(always)]
-    pub fn ret(
+    fn put(
         &mut self,
         kind: FrameKind,
         takes: OnPaths,
         wins: OnPaths,
         site: u32,
         closed: &ClosedFrame,
-    ) -> Result<(), AllocError>
+    ) -> Result<bool, AllocError>
         requires laid { IsLaid self.old }
         requires some { (ways : List Ways) × AreWays false self.old ways × HasTwo ways }
         requires few { length self.old.log.rows.items + 1 < 2 ^ 32 }
@@ -275,10 +356,12 @@ impl OpenWays {
         ensures laid { OnOk result (IsLaid self.new) }
         ensures ways { OnOk result ((on : Bool) (ways : List Ways) → AreWays on self.old ways → AreWays on self.new (returned_list kind (on_path on takes) (on_path on wins) site (bare_row closed.now) ways)) }
         ensures rows { OnOk result (length self.new.log.rows.items ≤ length self.old.log.rows.items + 1) }
+        ensures many { IfOk result (λ merges. merges ≡ true → HasRows self.new) }
     {
         let last = self.frames.len() - 1;
         let plain = self.frames[last].plain.chosen(takes.plain);
         let burdened = self.frames[last].burdened.chosen(takes.burdened);
+        let limit = self.frames[last].limit;
         self.frames.truncate(last);
         let parent = &mut self.frames[last - 1];
         let plain_stays = parent.plain.needed(kind, wins.plain);
@@ -286,7 +369,7 @@ impl OpenWays {
         let stays = parent.start.max(plain_stays).max(burdened_stays);
         if !is_entered(kind, wins) {
             self.log.cut(stays);
-            return Ok(());
+            return Ok(false);
         }
         self.log.cut(stays.max(plain.rows).max(burdened.rows));
         let rows = self.log.push(LogRow {
@@ -301,9 +384,43 @@ impl OpenWays {
             site,
             top_site: closed.top_site,
             top_caller: closed.top_caller,
+            merged: None,
         })?;
         parent.plain.come(kind, wins.plain, rows);
         parent.burdened.come(kind, wins.burdened, rows);
+        parent.limit = parent.limit.max(limit);
+        Ok(rows > parent.start.saturating_add(parent.limit.max(1)))
+    }
+
+    /// The innermost frame returns to the one below: how it was entered; on which paths it takes the child that waits in
+    /// it; on which the way through it is greater than the one through the child that waits in the frame below, or none
+    /// waits; and the frame as the table of the whole dag counts it.
+    ///
+    /// # Errors
+    ///
+    /// Where an allocation failed.
+    #[inline(always)]
+    pub fn ret(
+        &mut self,
+        alloc: Global,
+        kind: FrameKind,
+        takes: OnPaths,
+        wins: OnPaths,
+        site: u32,
+        closed: &ClosedFrame,
+    ) -> Result<(), AllocError>
+        requires laid { IsLaid self.old }
+        requires some { (ways : List Ways) × AreWays false self.old ways × HasTwo ways }
+        requires few { length self.old.log.rows.items + 1 < 2 ^ 32 }
+        requires site { site < 65536 }
+        requires fits { (on : Bool) → (ways : List Ways) × AreWays on self.old ways × FitTop (returned_list kind (on_path on takes) (on_path on wins) site (bare_row closed.now) ways) }
+        ensures laid { OnOk result (IsLaid self.new) }
+        ensures ways { OnOk result ((on : Bool) (ways : List Ways) → AreWays on self.old ways → AreWays on self.new (returned_list kind (on_path on takes) (on_path on wins) site (bare_row closed.now) ways)) }
+        ensures rows { OnOk result (length self.new.log.rows.items ≤ length self.old.log.rows.items + 1) }
+    {
+        if self.put(kind, takes, wins, site, closed)? {
+            self.merge(alloc)?;
+        }
         Ok(())
     }
 

@@ -10,9 +10,9 @@ use Rattle.spp_site.specs.Profiles.{key_row}
 use Rattle.spp_site.specs.declared.closed_frame.ClosedFrame.{ClosedFrame}
 use Rattle.spp_site.proofs.Rows.{zero-plus, plus-zero, plus-assoc}
 use Rattle.spp_ways.specs.declared.log.LogRow.{LogRow}
-use Rattle.spp_ways.specs.Logs.{way_row, before_on, within_on, closed_on, row_in}
+use Rattle.spp_ways.specs.Logs.{way_row, row_on, before_on, within_on, row_in}
 use Rattle.spp_ways.proofs.Staying.{rows_none}
-use Rattle.spp_ways.proofs.Summing.{row_fits, added_key, all_rows, all_count, AllIn, all_rows-append, count-append, in-append, link, next, next_in, next_fewer, next_sums}
+use Rattle.spp_ways.proofs.Summing.{row_fits, all_rows, all_count, AllIn, all_rows-append, count-append, in-append, link, next, next_in, next_fewer, next_sums}
 use Rattle.spp_ways.proofs.log.Log.add_up.Goals as goal
 
 pub loop-count-smaller-then-count-eq0 : goal.loop-count-smaller-then-count-eq0
@@ -52,8 +52,8 @@ loop-count-preserved-then-count-eq0 c =
           ∙ c.loop-count.invariant.sums key;
     }
 
-pub index-requires : goal.index-requires
-index-requires c =
+pub index-row-requires : goal.index-row-requires
+index-row-requires c =
     let on : Bool = c.args.burdened in
     let items : List LogRow = c.args.self.now.rows.items in
     let log : List LogRow = reverse items in
@@ -66,8 +66,8 @@ index-requires c =
     let lt : j < length items = (let z : k ≤ length items = is_in.1 in omega arith) in
     omega (arith, c.args.self.now.rows.ok.0)
 
-pub close-requires-clause-limit : goal.close-requires-clause-limit
-close-requires-clause-limit c =
+pub add_to-requires-clause-site : goal.add_to-requires-clause-site
+add_to-requires-clause-site c =
     let on : Bool = c.args.burdened in
     let items : List LogRow = c.args.self.now.rows.items in
     let log : List LogRow = reverse items in
@@ -78,18 +78,17 @@ close-requires-clause-limit c =
     let more : k ≡ suc (k - 1) = (let z = c.if-count-eq0.false in omega arith) in
     let j : ℕ = k - 1 in
     let lt : j < length items = (let z : k ≤ length items = is_in.1 in omega arith) in
-    let d : LogRow = c.index.result.now in
+    let d : LogRow = c.index-row.result.now in
     let row : LogRow = get_or items j d in
-    let is_row : d ≡ row = c.index.ensures in
+    let is_row : d ≡ row = c.index-row.ensures in
     let old : c.loop-count.left.items ≡ ks ++ (suc j ∷ []) = popped ∙ ap (λ (n : ℕ). ks ++ (n ∷ [])) more in
     let sums = λ (key : Option ℕ).
     ap (plus (key_row c.loop-count.table key)) (sym (next_sums on items c.requires.linked ks d j lt key) ∙ ap (λ (l : List ℕ). all_rows on log l key) (sym old)) ∙ c.loop-count.invariant.sums key in
-    let leaf = λ (r : LogRow) (key : Option ℕ). let x : Row = cond (same_key (Some r.site) key) (frame_row (closed_on on r)) zero_row in x in
     let after = λ (key : Option ℕ). let x : Row = all_rows on log (next on items c.requires.linked ks d j lt) key in x in
     subst (λ (r : LogRow). r.site < 65536) (sym is_row) (link items c.requires.linked d j lt).site
 
-pub close-requires-clause-fits : goal.close-requires-clause-fits
-close-requires-clause-fits c =
+pub add_to-requires-clause-fits : goal.add_to-requires-clause-fits
+add_to-requires-clause-fits c key =
     let on : Bool = c.args.burdened in
     let items : List LogRow = c.args.self.now.rows.items in
     let log : List LogRow = reverse items in
@@ -100,23 +99,16 @@ close-requires-clause-fits c =
     let more : k ≡ suc (k - 1) = (let z = c.if-count-eq0.false in omega arith) in
     let j : ℕ = k - 1 in
     let lt : j < length items = (let z : k ≤ length items = is_in.1 in omega arith) in
-    let d : LogRow = c.index.result.now in
+    let d : LogRow = c.index-row.result.now in
     let row : LogRow = get_or items j d in
-    let is_row : d ≡ row = c.index.ensures in
+    let is_row : d ≡ row = c.index-row.ensures in
     let old : c.loop-count.left.items ≡ ks ++ (suc j ∷ []) = popped ∙ ap (λ (n : ℕ). ks ++ (n ∷ [])) more in
     let sums = λ (key : Option ℕ).
     ap (plus (key_row c.loop-count.table key)) (sym (next_sums on items c.requires.linked ks d j lt key) ∙ ap (λ (l : List ℕ). all_rows on log l key) (sym old)) ∙ c.loop-count.invariant.sums key in
-    let leaf = λ (r : LogRow) (key : Option ℕ). let x : Row = cond (same_key (Some r.site) key) (frame_row (closed_on on r)) zero_row in x in
     let after = λ (key : Option ℕ). let x : Row = all_rows on log (next on items c.requires.linked ks d j lt) key in x in
-    let at_row : Fits (plus (row_at c.loop-count.table row.site) (frame_row (closed_on on row))) =
-    row_fits (plus (row_at c.loop-count.table row.site) (frame_row (closed_on on row))) (after (Some row.site)) (plus (key_row c.args.table.now (Some row.site)) (row_in on c.args.self.now c.args.way (Some row.site)))
-    (plus-assoc (row_at c.loop-count.table row.site) (frame_row (closed_on on row)) (after (Some row.site))
-    ∙ ap (λ (r : Row). plus (row_at c.loop-count.table row.site) (plus r (after (Some row.site)))) (own_key row) ∙ sums (Some row.site)) (c.requires.fits (Some row.site)) in
-    subst (λ (f : ClosedFrame). Fits (plus (row_at c.loop-count.table d.site) (frame_row f))) (sym c.closed.ensures)
-    (subst (λ (r : LogRow). Fits (plus (row_at c.loop-count.table r.site) (frame_row (closed_on on r)))) (sym is_row) at_row)
-    where
-      own_key : (r : LogRow) → frame_row (closed_on c.args.burdened r) ≡ cond (same_key (Some r.site) (Some r.site)) (frame_row (closed_on c.args.burdened r)) zero_row
-      own_key r = let e : nat_eq r.site r.site ≡ true = eq-eqb r.site r.site refl in ap (λ (b : Bool). cond b (frame_row (closed_on c.args.burdened r)) zero_row) (sym e)
+    subst (λ (r : LogRow). Fits (plus (key_row c.loop-count.table key) (row_on on r key))) (sym is_row)
+    (row_fits (plus (key_row c.loop-count.table key) (row_on on row key)) (after key) _
+    (plus-assoc (key_row c.loop-count.table key) (row_on on row key) (after key) ∙ sums key) (c.requires.fits key))
 
 pub loop-count-smaller : goal.loop-count-smaller
 loop-count-smaller c =
@@ -130,13 +122,12 @@ loop-count-smaller c =
     let more : k ≡ suc (k - 1) = (let z = c.if-count-eq0.false in omega arith) in
     let j : ℕ = k - 1 in
     let lt : j < length items = (let z : k ≤ length items = is_in.1 in omega arith) in
-    let d : LogRow = c.index.result.now in
+    let d : LogRow = c.index-row.result.now in
     let row : LogRow = get_or items j d in
-    let is_row : d ≡ row = c.index.ensures in
+    let is_row : d ≡ row = c.index-row.ensures in
     let old : c.loop-count.left.items ≡ ks ++ (suc j ∷ []) = popped ∙ ap (λ (n : ℕ). ks ++ (n ∷ [])) more in
     let sums = λ (key : Option ℕ).
     ap (plus (key_row c.loop-count.table key)) (sym (next_sums on items c.requires.linked ks d j lt key) ∙ ap (λ (l : List ℕ). all_rows on log l key) (sym old)) ∙ c.loop-count.invariant.sums key in
-    let leaf = λ (r : LogRow) (key : Option ℕ). let x : Row = cond (same_key (Some r.site) key) (frame_row (closed_on on r)) zero_row in x in
     let after = λ (key : Option ℕ). let x : Row = all_rows on log (next on items c.requires.linked ks d j lt) key in x in
     let pushed : c.push-in-Some-2.new.self.items ≡ next on items c.requires.linked ks d j lt =
     c.in_ok-push-3.ensures.items
@@ -157,25 +148,20 @@ loop-count-preserved c =
     let more : k ≡ suc (k - 1) = (let z = c.if-count-eq0.false in omega arith) in
     let j : ℕ = k - 1 in
     let lt : j < length items = (let z : k ≤ length items = is_in.1 in omega arith) in
-    let d : LogRow = c.index.result.now in
+    let d : LogRow = c.index-row.result.now in
     let row : LogRow = get_or items j d in
-    let is_row : d ≡ row = c.index.ensures in
+    let is_row : d ≡ row = c.index-row.ensures in
     let old : c.loop-count.left.items ≡ ks ++ (suc j ∷ []) = popped ∙ ap (λ (n : ℕ). ks ++ (n ∷ [])) more in
     let sums = λ (key : Option ℕ).
     ap (plus (key_row c.loop-count.table key)) (sym (next_sums on items c.requires.linked ks d j lt key) ∙ ap (λ (l : List ℕ). all_rows on log l key) (sym old)) ∙ c.loop-count.invariant.sums key in
-    let leaf = λ (r : LogRow) (key : Option ℕ). let x : Row = cond (same_key (Some r.site) key) (frame_row (closed_on on r)) zero_row in x in
     let after = λ (key : Option ℕ). let x : Row = all_rows on log (next on items c.requires.linked ks d j lt) key in x in
     let pushed : c.push-in-Some-2.new.self.items ≡ next on items c.requires.linked ks d j lt =
     c.in_ok-push-3.ensures.items
     ∙ ap₂ (λ (l : List ℕ) (n : ℕ). l ++ (n ∷ [])) (c.in_ok-push-2.ensures.items ∙ ap (λ (n : ℕ). ks ++ (n ∷ [])) (c.before-in-Some.ensures ∙ ap (before_on on) is_row)) (c.within.ensures ∙ ap (within_on on) is_row) in
-    let added : IsAdded c.loop-count.table c.close.new.self d.site (frame_row c.closed.result) = c.in_ok-close.ensures.added in
-    let is_added : IsAdded c.loop-count.table c.close.new.self row.site (frame_row (closed_on on row)) =
-    subst (λ (r : LogRow). IsAdded c.loop-count.table c.close.new.self r.site (frame_row (closed_on on r))) is_row
-    (subst (λ (f : ClosedFrame). IsAdded c.loop-count.table c.close.new.self d.site (frame_row f)) c.closed.ensures added) in
     record {
       within = subst (AllIn (length items)) (sym pushed) (next_in on items c.requires.linked ks d j lt is_in.0);
       sums = λ (key : Option ℕ).
-          ap₂ plus (added_key c.loop-count.table c.close.new.self row.site (frame_row (closed_on on row)) is_added key) (ap (λ (l : List ℕ). all_rows on log l key) pushed)
-          ∙ plus-assoc (key_row c.loop-count.table key) (leaf row key) (after key)
+          ap₂ plus (c.in_ok-add_to.ensures key ∙ ap (λ (r : LogRow). plus (key_row c.loop-count.table key) (row_on on r key)) is_row) (ap (λ (l : List ℕ). all_rows on log l key) pushed)
+          ∙ plus-assoc (key_row c.loop-count.table key) (row_on on row key) (after key)
           ∙ sums key;
     }

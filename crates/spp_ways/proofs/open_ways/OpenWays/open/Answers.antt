@@ -12,6 +12,6 @@ returns-clause-ways c on ws h =
     let log : List LogRow = reverse c.args.self.now.log.rows.items in
     let fs : List FrameWays = c.args.self.now.frames.items in
     let items : c.push.new.self.items ≡ fs ++ (c.opened.result ∷ []) = c.in_ok-push.ensures.items in
-    let frames : reverse c.push.new.self.items ≡ opened c.len.result ∷ reverse fs =
-    ap reverse (items ∙ ap (λ (f : FrameWays). fs ++ (f ∷ [])) c.opened.ensures) ∙ reverse-append fs (opened c.len.result ∷ []) in
-    subst (λ (l : List FrameWays). AllWays on log l (no_ways ∷ ws)) (sym frames) (opened_ways on log c.len.result, h)
+    let frames : reverse c.push.new.self.items ≡ opened c.len.result c.args.self.now.limit ∷ reverse fs =
+    ap reverse (items ∙ ap (λ (f : FrameWays). fs ++ (f ∷ [])) c.opened.ensures) ∙ reverse-append fs (opened c.len.result c.args.self.now.limit ∷ []) in
+    subst (λ (l : List FrameWays). AllWays on log l (no_ways ∷ ws)) (sym frames) (opened_ways on log c.len.result c.args.self.now.limit, h)

@@ -1,0 +1,395 @@
+use Rattle.std.proofs.Common.{◌≡◌, ℕ, suc, ◌+◌, ◌-◌, ◌≤◌, ◌<◌, max, Bool, true, false, None, List, [], ◌∷◌, ◌++◌, length, map, reverse, take, get_or, set, ap, ap₂, subst, sym, ◌∙◌, arith}
+use Rattle.std.proofs.lemmas.Bool.{ltb-true}
+use Rattle.std.proofs.lemmas.List.{length-take-le, length-reverse, length-append}
+use Rattle.spp_dag.specs.declared.stack.FrameKind.{FrameKind}
+use Rattle.spp_site.proofs.LastFirst.{topped}
+use Rattle.spp_site.specs.declared.closed_frame.ClosedFrame.{ClosedFrame}
+use Rattle.spp_ways.specs.declared.log.LogRow.{LogRow}
+use Rattle.spp_ways.specs.declared.open_ways.OnPaths.{OnPaths}
+use Rattle.spp_ways.specs.declared.open_ways.LoggedWay.{LoggedWay}
+use Rattle.spp_ways.specs.declared.open_ways.LoggedWays.{LoggedWays}
+use Rattle.spp_ways.specs.declared.open_ways.FrameWays.{FrameWays}
+use Rattle.spp_ways.specs.declared.open_ways.OpenWays.{OpenWays}
+use Rattle.spp_ways.specs.Logs.{AreLinked}
+use Rattle.spp_ways.specs.OpenWays.{AllWays, HasRowsOf, Laid, AreIn, StayIn, on_path, returned_list, bare_row, chosen, entered}
+use Rattle.spp_ways.proofs.Staying.{in_more}
+use Rattle.spp_ways.proofs.Steps.{two_frames}
+use Rattle.spp_ways.proofs.Returning.{chosen_in, stay_more}
+use Rattle.spp_ways.proofs.Returns.{returned_row, come_frame, return_linked, gone_laid, gone_all, kept_linked, kept_laid, kept_all}
+use Rattle.spp_ways.proofs.open_ways.OpenWays.put.Goals as goal
+
+pub overflow_sub-last-2 : goal.overflow_sub-last-2
+overflow_sub-last-2 c =
+    let o : OpenWays = c.args.self.now in
+    let two = two_frames false o c.requires.some.0 c.requires.some.1 c.requires.some.2 in
+    omega (arith, c.len-last.ensures, o.frames.ok.0)
+
+pub index_mut-parent-requires : goal.index_mut-parent-requires
+index_mut-parent-requires c =
+    let o : OpenWays = c.args.self.now in
+    let two = two_frames false o c.requires.some.0 c.requires.some.1 c.requires.some.2 in
+    omega (arith, c.len-last.ensures, c.truncate.ensures.len, o.frames.ok.0)
+
+pub index-requires-3 : goal.index-requires-3
+index-requires-3 c =
+    let o : OpenWays = c.args.self.now in
+    let two = two_frames false o c.requires.some.0 c.requires.some.1 c.requires.some.2 in
+    omega (arith, c.len-last.ensures, o.frames.ok.0)
+
+pub returns-then-not-is_entered-clause-laid : goal.returns-then-not-is_entered-clause-laid
+returns-then-not-is_entered-clause-laid c =
+    let o : OpenWays = c.args.self.now in
+    let fs : List FrameWays = o.frames.items in
+    let items : List LogRow = o.log.rows.items in
+    let kind : FrameKind = c.args.kind in
+    let takes : OnPaths = c.args.takes in
+    let wins : OnPaths = c.args.wins in
+    let site : ℕ = c.args.site in
+    let closed : ClosedFrame = c.args.closed.now in
+    let two = two_frames false o c.requires.some.0 c.requires.some.1 c.requires.some.2 in
+    let at : c.len-last.result - 1 ≡ length fs - 1 = omega (arith, c.len-last.ensures, o.frames.ok.0) in
+    let t = topped fs (omega arith) in
+    let rest : List FrameWays = c.truncate.new.self.items in
+    let kept : rest ≡ take (length fs - 1) fs = c.truncate.ensures.items ∙ ap (λ k. take k fs) at in
+    let under : reverse rest ≡ t.below = ap reverse kept ∙ t.less in
+    let fewer : length rest ≡ length fs - 1 = ap (λ (l : List FrameWays). length l) kept ∙ length-take-le (length fs - 1) fs (omega arith) in
+    let u = topped rest (omega arith) in
+    let v : FrameWays = t.top in
+    let g : FrameWays = u.top in
+    let all : reverse fs ≡ v ∷ g ∷ u.below = t.is ∙ ap (λ (l : List FrameWays). v ∷ l) (sym under ∙ u.is) in
+    let laid : Laid (length items) (v ∷ g ∷ u.below) = subst (Laid (length items)) all c.requires.laid.frames in
+    let read1 : FrameWays = c.index.result.now in
+    let is1 : read1 ≡ v = c.index.ensures ∙ ap (λ k. get_or fs k read1) at ∙ t.get read1 in
+    let read2 : FrameWays = c.index-2.result.now in
+    let is2 : read2 ≡ v = c.index-2.ensures ∙ ap (λ k. get_or fs k read2) at ∙ t.get read2 in
+    let next : c.len-last.result - 1 - 1 ≡ length rest - 1 = omega arith in
+    let old : FrameWays = c.index_mut-parent.result.now in
+    let parent : old ≡ g = c.index_mut-parent.ensures.value ∙ ap (λ k. get_or rest k old) next ∙ u.get old in
+    let in_start : g.start ≤ length items = (let a : v.start ≤ length items = laid.0 in let b : g.start ≤ v.start = laid.3.0 in omega arith) in
+    let in_plain : AreIn (length items) g.plain = in_more v.start (length items) laid.0 g.plain laid.3.1 in
+    let in_burdened : AreIn (length items) g.burdened = in_more v.start (length items) laid.0 g.burdened laid.3.2 in
+    let begin : old.start ≡ g.start = ap (λ (f : FrameWays). f.start) parent in
+    let plain_stay : StayIn c.needed-plain_stays.result kind wins.plain g.plain = subst (λ (f : FrameWays). StayIn c.needed-plain_stays.result kind wins.plain f.plain) parent c.needed-plain_stays.ensures.stay in
+    let burdened_stay : StayIn c.needed-burdened_stays.result kind wins.burdened g.burdened = subst (λ (f : FrameWays). StayIn c.needed-burdened_stays.result kind wins.burdened f.burdened) parent c.needed-burdened_stays.ensures.stay in
+    let plain_most : c.needed-plain_stays.result ≤ length items = c.needed-plain_stays.ensures.most (length items) (subst (λ (f : FrameWays). AreIn (length items) f.plain) (sym parent) in_plain) in
+    let burdened_most : c.needed-burdened_stays.result ≤ length items = c.needed-burdened_stays.ensures.most (length items) (subst (λ (f : FrameWays). AreIn (length items) f.burdened) (sym parent) in_burdened) in
+    let stays : c.max-stays.result ≡ max (max old.start c.needed-plain_stays.result) c.needed-burdened_stays.result = c.max-stays.ensures ∙ ap (λ k. max k c.needed-burdened_stays.result) c.max.ensures in
+    let off : entered kind wins ≡ false = sym c.is_entered.ensures ∙ c.if-not-is_entered.true in
+    let n : ℕ = c.max-stays.result in
+    let start : g.start ≤ n = omega arith in
+    let sp : StayIn n kind wins.plain g.plain = stay_more c.needed-plain_stays.result n (omega arith) kind wins.plain g.plain plain_stay in
+    let sb : StayIn n kind wins.burdened g.burdened = stay_more c.needed-burdened_stays.result n (omega arith) kind wins.burdened g.burdened burdened_stay in
+    let short : n ≤ length items = omega arith in
+    let cut : c.cut.new.self.rows.items ≡ take n items = c.cut.ensures in
+    let frames : reverse (set rest (c.len-last.result - 1 - 1) old) ≡ g ∷ u.below = ap₂ (λ (k : ℕ) (f : FrameWays). reverse (set rest k f)) next parent ∙ u.put g in
+    record {
+      linked = subst (λ (l : List LogRow). AreLinked (reverse l)) (sym cut) (return_linked items v g u.below c.requires.laid.linked laid kind takes wins site closed n start sp sb short);
+      frames = subst (λ (l : List LogRow). Laid (length l) (reverse (set rest (c.len-last.result - 1 - 1) old))) (sym cut)
+          (subst (λ (l : List FrameWays). Laid (length (take n items)) l) (sym frames) (gone_laid items v g u.below c.requires.laid.linked laid kind takes wins site closed n start sp sb short off));
+    }
+
+pub returns-then-not-is_entered-clause-ways : goal.returns-then-not-is_entered-clause-ways
+returns-then-not-is_entered-clause-ways c on ws h =
+    let o : OpenWays = c.args.self.now in
+    let fs : List FrameWays = o.frames.items in
+    let items : List LogRow = o.log.rows.items in
+    let kind : FrameKind = c.args.kind in
+    let takes : OnPaths = c.args.takes in
+    let wins : OnPaths = c.args.wins in
+    let site : ℕ = c.args.site in
+    let closed : ClosedFrame = c.args.closed.now in
+    let two = two_frames false o c.requires.some.0 c.requires.some.1 c.requires.some.2 in
+    let at : c.len-last.result - 1 ≡ length fs - 1 = omega (arith, c.len-last.ensures, o.frames.ok.0) in
+    let t = topped fs (omega arith) in
+    let rest : List FrameWays = c.truncate.new.self.items in
+    let kept : rest ≡ take (length fs - 1) fs = c.truncate.ensures.items ∙ ap (λ k. take k fs) at in
+    let under : reverse rest ≡ t.below = ap reverse kept ∙ t.less in
+    let fewer : length rest ≡ length fs - 1 = ap (λ (l : List FrameWays). length l) kept ∙ length-take-le (length fs - 1) fs (omega arith) in
+    let u = topped rest (omega arith) in
+    let v : FrameWays = t.top in
+    let g : FrameWays = u.top in
+    let all : reverse fs ≡ v ∷ g ∷ u.below = t.is ∙ ap (λ (l : List FrameWays). v ∷ l) (sym under ∙ u.is) in
+    let laid : Laid (length items) (v ∷ g ∷ u.below) = subst (Laid (length items)) all c.requires.laid.frames in
+    let read1 : FrameWays = c.index.result.now in
+    let is1 : read1 ≡ v = c.index.ensures ∙ ap (λ k. get_or fs k read1) at ∙ t.get read1 in
+    let read2 : FrameWays = c.index-2.result.now in
+    let is2 : read2 ≡ v = c.index-2.ensures ∙ ap (λ k. get_or fs k read2) at ∙ t.get read2 in
+    let next : c.len-last.result - 1 - 1 ≡ length rest - 1 = omega arith in
+    let old : FrameWays = c.index_mut-parent.result.now in
+    let parent : old ≡ g = c.index_mut-parent.ensures.value ∙ ap (λ k. get_or rest k old) next ∙ u.get old in
+    let in_start : g.start ≤ length items = (let a : v.start ≤ length items = laid.0 in let b : g.start ≤ v.start = laid.3.0 in omega arith) in
+    let in_plain : AreIn (length items) g.plain = in_more v.start (length items) laid.0 g.plain laid.3.1 in
+    let in_burdened : AreIn (length items) g.burdened = in_more v.start (length items) laid.0 g.burdened laid.3.2 in
+    let begin : old.start ≡ g.start = ap (λ (f : FrameWays). f.start) parent in
+    let plain_stay : StayIn c.needed-plain_stays.result kind wins.plain g.plain = subst (λ (f : FrameWays). StayIn c.needed-plain_stays.result kind wins.plain f.plain) parent c.needed-plain_stays.ensures.stay in
+    let burdened_stay : StayIn c.needed-burdened_stays.result kind wins.burdened g.burdened = subst (λ (f : FrameWays). StayIn c.needed-burdened_stays.result kind wins.burdened f.burdened) parent c.needed-burdened_stays.ensures.stay in
+    let plain_most : c.needed-plain_stays.result ≤ length items = c.needed-plain_stays.ensures.most (length items) (subst (λ (f : FrameWays). AreIn (length items) f.plain) (sym parent) in_plain) in
+    let burdened_most : c.needed-burdened_stays.result ≤ length items = c.needed-burdened_stays.ensures.most (length items) (subst (λ (f : FrameWays). AreIn (length items) f.burdened) (sym parent) in_burdened) in
+    let stays : c.max-stays.result ≡ max (max old.start c.needed-plain_stays.result) c.needed-burdened_stays.result = c.max-stays.ensures ∙ ap (λ k. max k c.needed-burdened_stays.result) c.max.ensures in
+    let off : entered kind wins ≡ false = sym c.is_entered.ensures ∙ c.if-not-is_entered.true in
+    let n : ℕ = c.max-stays.result in
+    let start : g.start ≤ n = omega arith in
+    let sp : StayIn n kind wins.plain g.plain = stay_more c.needed-plain_stays.result n (omega arith) kind wins.plain g.plain plain_stay in
+    let sb : StayIn n kind wins.burdened g.burdened = stay_more c.needed-burdened_stays.result n (omega arith) kind wins.burdened g.burdened burdened_stay in
+    let short : n ≤ length items = omega arith in
+    let cut : c.cut.new.self.rows.items ≡ take n items = c.cut.ensures in
+    let frames : reverse (set rest (c.len-last.result - 1 - 1) old) ≡ g ∷ u.below = ap₂ (λ (k : ℕ) (f : FrameWays). reverse (set rest k f)) next parent ∙ u.put g in
+    subst (λ (l : List LogRow). AllWays on (reverse l) (reverse (set rest (c.len-last.result - 1 - 1) old)) (returned_list kind (on_path on takes) (on_path on wins) site (bare_row closed) ws)) (sym cut)
+    (subst (λ (l : List FrameWays). AllWays on (reverse (take n items)) l (returned_list kind (on_path on takes) (on_path on wins) site (bare_row closed) ws)) (sym frames)
+    (gone_all items v g u.below c.requires.laid.linked laid kind takes wins site closed n start sp sb short off on ws (subst (λ (l : List FrameWays). AllWays on (reverse items) l ws) all h)))
+
+pub returns-clause-laid : goal.returns-clause-laid
+returns-clause-laid c =
+    let o : OpenWays = c.args.self.now in
+    let fs : List FrameWays = o.frames.items in
+    let items : List LogRow = o.log.rows.items in
+    let kind : FrameKind = c.args.kind in
+    let takes : OnPaths = c.args.takes in
+    let wins : OnPaths = c.args.wins in
+    let site : ℕ = c.args.site in
+    let closed : ClosedFrame = c.args.closed.now in
+    let two = two_frames false o c.requires.some.0 c.requires.some.1 c.requires.some.2 in
+    let at : c.len-last.result - 1 ≡ length fs - 1 = omega (arith, c.len-last.ensures, o.frames.ok.0) in
+    let t = topped fs (omega arith) in
+    let rest : List FrameWays = c.truncate.new.self.items in
+    let kept : rest ≡ take (length fs - 1) fs = c.truncate.ensures.items ∙ ap (λ k. take k fs) at in
+    let under : reverse rest ≡ t.below = ap reverse kept ∙ t.less in
+    let fewer : length rest ≡ length fs - 1 = ap (λ (l : List FrameWays). length l) kept ∙ length-take-le (length fs - 1) fs (omega arith) in
+    let u = topped rest (omega arith) in
+    let v : FrameWays = t.top in
+    let g : FrameWays = u.top in
+    let all : reverse fs ≡ v ∷ g ∷ u.below = t.is ∙ ap (λ (l : List FrameWays). v ∷ l) (sym under ∙ u.is) in
+    let laid : Laid (length items) (v ∷ g ∷ u.below) = subst (Laid (length items)) all c.requires.laid.frames in
+    let read1 : FrameWays = c.index.result.now in
+    let is1 : read1 ≡ v = c.index.ensures ∙ ap (λ k. get_or fs k read1) at ∙ t.get read1 in
+    let read2 : FrameWays = c.index-2.result.now in
+    let is2 : read2 ≡ v = c.index-2.ensures ∙ ap (λ k. get_or fs k read2) at ∙ t.get read2 in
+    let next : c.len-last.result - 1 - 1 ≡ length rest - 1 = omega arith in
+    let old : FrameWays = c.index_mut-parent.result.now in
+    let parent : old ≡ g = c.index_mut-parent.ensures.value ∙ ap (λ k. get_or rest k old) next ∙ u.get old in
+    let in_start : g.start ≤ length items = (let a : v.start ≤ length items = laid.0 in let b : g.start ≤ v.start = laid.3.0 in omega arith) in
+    let in_plain : AreIn (length items) g.plain = in_more v.start (length items) laid.0 g.plain laid.3.1 in
+    let in_burdened : AreIn (length items) g.burdened = in_more v.start (length items) laid.0 g.burdened laid.3.2 in
+    let begin : old.start ≡ g.start = ap (λ (f : FrameWays). f.start) parent in
+    let plain_stay : StayIn c.needed-plain_stays.result kind wins.plain g.plain = subst (λ (f : FrameWays). StayIn c.needed-plain_stays.result kind wins.plain f.plain) parent c.needed-plain_stays.ensures.stay in
+    let burdened_stay : StayIn c.needed-burdened_stays.result kind wins.burdened g.burdened = subst (λ (f : FrameWays). StayIn c.needed-burdened_stays.result kind wins.burdened f.burdened) parent c.needed-burdened_stays.ensures.stay in
+    let plain_most : c.needed-plain_stays.result ≤ length items = c.needed-plain_stays.ensures.most (length items) (subst (λ (f : FrameWays). AreIn (length items) f.plain) (sym parent) in_plain) in
+    let burdened_most : c.needed-burdened_stays.result ≤ length items = c.needed-burdened_stays.ensures.most (length items) (subst (λ (f : FrameWays). AreIn (length items) f.burdened) (sym parent) in_burdened) in
+    let stays : c.max-stays.result ≡ max (max old.start c.needed-plain_stays.result) c.needed-burdened_stays.result = c.max-stays.ensures ∙ ap (λ k. max k c.needed-burdened_stays.result) c.max.ensures in
+    let n : ℕ = c.max-3.result in
+    let p : c.chosen-plain.result ≡ chosen takes.plain v.plain = c.chosen-plain.ensures ∙ ap (λ (f : FrameWays). chosen takes.plain f.plain) is1 in
+    let b : c.chosen-burdened.result ≡ chosen takes.burdened v.burdened = c.chosen-burdened.ensures ∙ ap (λ (f : FrameWays). chosen takes.burdened f.burdened) is2 in
+    let pr : c.chosen-plain.result.rows ≡ (chosen takes.plain v.plain).rows = ap (λ (w : LoggedWay). w.rows) p in
+    let br : c.chosen-burdened.result.rows ≡ (chosen takes.burdened v.burdened).rows = ap (λ (w : LoggedWay). w.rows) b in
+    let pm = chosen_in (length items) takes.plain v.plain laid.1 in
+    let bm = chosen_in (length items) takes.burdened v.burdened laid.2 in
+    let needed : n ≡ max (max c.max-stays.result c.chosen-plain.result.rows) c.chosen-burdened.result.rows = c.max-3.ensures ∙ ap (λ k. max k c.chosen-burdened.result.rows) c.max-2.ensures in
+    let start : g.start ≤ n = omega arith in
+    let sp : StayIn n kind wins.plain g.plain = stay_more c.needed-plain_stays.result n (omega arith) kind wins.plain g.plain plain_stay in
+    let sb : StayIn n kind wins.burdened g.burdened = stay_more c.needed-burdened_stays.result n (omega arith) kind wins.burdened g.burdened burdened_stay in
+    let short : n ≤ length items = omega arith in
+    let np : (chosen takes.plain v.plain).rows ≤ n = omega arith in
+    let nb : (chosen takes.burdened v.burdened).rows ≤ n = omega arith in
+    let cut : c.cut-2.new.self.rows.items ≡ take n items = c.cut-2.ensures in
+    let row = λ (p b : LoggedWay) (f : FrameWays). let r : LogRow = record {
+      work = closed.work;
+      span = closed.span;
+      own = p.own;
+      burdened_own = b.own;
+      before = f.plain.along.rows;
+      within = p.rows;
+      burdened_before = f.burdened.along.rows;
+      burdened_within = b.rows;
+      site = site;
+      top_site = closed.top_site;
+      top_caller = closed.top_caller;
+      merged = None;
+    } in r in
+    let is_row : row c.chosen-plain.result c.chosen-burdened.result old ≡ returned_row takes site closed v g =
+    ap₂ (λ (x y : LoggedWay). row x y old) p b ∙ ap (row (chosen takes.plain v.plain) (chosen takes.burdened v.burdened)) parent in
+    let log : c.push.new.self.rows.items ≡ take n items ++ (returned_row takes site closed v g ∷ []) =
+    c.in_ok-rows.ensures.row ∙ ap₂ (λ (l : List LogRow) (r : LogRow). l ++ (r ∷ [])) cut is_row in
+    let count : c.in_ok-rows.rows ≡ suc (length (reverse (take n items))) =
+    (let x = c.in_ok-rows.ensures.count in let y : length c.cut-2.new.self.rows.items ≡ length (take n items) = ap (λ (l : List LogRow). length l) cut in let z = length-reverse (take n items) in omega arith) in
+    let limit : ℕ = c.max-parent.result in
+    let frame = λ (x y : LoggedWays) (f : FrameWays). let w : FrameWays = record { plain = x; burdened = y; start = f.start; limit = limit } in w in
+    let is_frame : frame c.come.new.self c.come-2.new.self old ≡ come_frame kind wins (suc (length (reverse (take n items)))) limit g =
+    ap₂ (λ (x y : LoggedWays). frame x y old) c.come.ensures c.come-2.ensures ∙ ap₂ (λ (k : ℕ) (f : FrameWays). come_frame kind wins k limit f) count parent in
+    let frames : reverse (set rest (c.len-last.result - 1 - 1) (frame c.come.new.self c.come-2.new.self old)) ≡ come_frame kind wins (suc (length (reverse (take n items)))) limit g ∷ u.below =
+    ap₂ (λ (k : ℕ) (f : FrameWays). reverse (set rest k f)) next is_frame ∙ u.put (come_frame kind wins (suc (length (reverse (take n items)))) limit g) in
+    record {
+      linked = subst (λ (l : List LogRow). AreLinked (reverse l)) (sym log) (kept_linked items v g u.below c.requires.laid.linked laid kind takes wins site closed n start sp sb short np nb c.requires.site limit);
+      frames = subst (λ (l : List LogRow). Laid (length l) (reverse (set rest (c.len-last.result - 1 - 1) (frame c.come.new.self c.come-2.new.self old)))) (sym log)
+          (subst (λ (l : List FrameWays). Laid (length (take n items ++ (returned_row takes site closed v g ∷ []))) l) (sym frames) (kept_laid items v g u.below c.requires.laid.linked laid kind takes wins site closed n start sp sb short np nb c.requires.site limit));
+    }
+
+pub returns-clause-ways : goal.returns-clause-ways
+returns-clause-ways c on ws h =
+    let o : OpenWays = c.args.self.now in
+    let fs : List FrameWays = o.frames.items in
+    let items : List LogRow = o.log.rows.items in
+    let kind : FrameKind = c.args.kind in
+    let takes : OnPaths = c.args.takes in
+    let wins : OnPaths = c.args.wins in
+    let site : ℕ = c.args.site in
+    let closed : ClosedFrame = c.args.closed.now in
+    let two = two_frames false o c.requires.some.0 c.requires.some.1 c.requires.some.2 in
+    let at : c.len-last.result - 1 ≡ length fs - 1 = omega (arith, c.len-last.ensures, o.frames.ok.0) in
+    let t = topped fs (omega arith) in
+    let rest : List FrameWays = c.truncate.new.self.items in
+    let kept : rest ≡ take (length fs - 1) fs = c.truncate.ensures.items ∙ ap (λ k. take k fs) at in
+    let under : reverse rest ≡ t.below = ap reverse kept ∙ t.less in
+    let fewer : length rest ≡ length fs - 1 = ap (λ (l : List FrameWays). length l) kept ∙ length-take-le (length fs - 1) fs (omega arith) in
+    let u = topped rest (omega arith) in
+    let v : FrameWays = t.top in
+    let g : FrameWays = u.top in
+    let all : reverse fs ≡ v ∷ g ∷ u.below = t.is ∙ ap (λ (l : List FrameWays). v ∷ l) (sym under ∙ u.is) in
+    let laid : Laid (length items) (v ∷ g ∷ u.below) = subst (Laid (length items)) all c.requires.laid.frames in
+    let read1 : FrameWays = c.index.result.now in
+    let is1 : read1 ≡ v = c.index.ensures ∙ ap (λ k. get_or fs k read1) at ∙ t.get read1 in
+    let read2 : FrameWays = c.index-2.result.now in
+    let is2 : read2 ≡ v = c.index-2.ensures ∙ ap (λ k. get_or fs k read2) at ∙ t.get read2 in
+    let next : c.len-last.result - 1 - 1 ≡ length rest - 1 = omega arith in
+    let old : FrameWays = c.index_mut-parent.result.now in
+    let parent : old ≡ g = c.index_mut-parent.ensures.value ∙ ap (λ k. get_or rest k old) next ∙ u.get old in
+    let in_start : g.start ≤ length items = (let a : v.start ≤ length items = laid.0 in let b : g.start ≤ v.start = laid.3.0 in omega arith) in
+    let in_plain : AreIn (length items) g.plain = in_more v.start (length items) laid.0 g.plain laid.3.1 in
+    let in_burdened : AreIn (length items) g.burdened = in_more v.start (length items) laid.0 g.burdened laid.3.2 in
+    let begin : old.start ≡ g.start = ap (λ (f : FrameWays). f.start) parent in
+    let plain_stay : StayIn c.needed-plain_stays.result kind wins.plain g.plain = subst (λ (f : FrameWays). StayIn c.needed-plain_stays.result kind wins.plain f.plain) parent c.needed-plain_stays.ensures.stay in
+    let burdened_stay : StayIn c.needed-burdened_stays.result kind wins.burdened g.burdened = subst (λ (f : FrameWays). StayIn c.needed-burdened_stays.result kind wins.burdened f.burdened) parent c.needed-burdened_stays.ensures.stay in
+    let plain_most : c.needed-plain_stays.result ≤ length items = c.needed-plain_stays.ensures.most (length items) (subst (λ (f : FrameWays). AreIn (length items) f.plain) (sym parent) in_plain) in
+    let burdened_most : c.needed-burdened_stays.result ≤ length items = c.needed-burdened_stays.ensures.most (length items) (subst (λ (f : FrameWays). AreIn (length items) f.burdened) (sym parent) in_burdened) in
+    let stays : c.max-stays.result ≡ max (max old.start c.needed-plain_stays.result) c.needed-burdened_stays.result = c.max-stays.ensures ∙ ap (λ k. max k c.needed-burdened_stays.result) c.max.ensures in
+    let n : ℕ = c.max-3.result in
+    let p : c.chosen-plain.result ≡ chosen takes.plain v.plain = c.chosen-plain.ensures ∙ ap (λ (f : FrameWays). chosen takes.plain f.plain) is1 in
+    let b : c.chosen-burdened.result ≡ chosen takes.burdened v.burdened = c.chosen-burdened.ensures ∙ ap (λ (f : FrameWays). chosen takes.burdened f.burdened) is2 in
+    let pr : c.chosen-plain.result.rows ≡ (chosen takes.plain v.plain).rows = ap (λ (w : LoggedWay). w.rows) p in
+    let br : c.chosen-burdened.result.rows ≡ (chosen takes.burdened v.burdened).rows = ap (λ (w : LoggedWay). w.rows) b in
+    let pm = chosen_in (length items) takes.plain v.plain laid.1 in
+    let bm = chosen_in (length items) takes.burdened v.burdened laid.2 in
+    let needed : n ≡ max (max c.max-stays.result c.chosen-plain.result.rows) c.chosen-burdened.result.rows = c.max-3.ensures ∙ ap (λ k. max k c.chosen-burdened.result.rows) c.max-2.ensures in
+    let start : g.start ≤ n = omega arith in
+    let sp : StayIn n kind wins.plain g.plain = stay_more c.needed-plain_stays.result n (omega arith) kind wins.plain g.plain plain_stay in
+    let sb : StayIn n kind wins.burdened g.burdened = stay_more c.needed-burdened_stays.result n (omega arith) kind wins.burdened g.burdened burdened_stay in
+    let short : n ≤ length items = omega arith in
+    let np : (chosen takes.plain v.plain).rows ≤ n = omega arith in
+    let nb : (chosen takes.burdened v.burdened).rows ≤ n = omega arith in
+    let cut : c.cut-2.new.self.rows.items ≡ take n items = c.cut-2.ensures in
+    let row = λ (p b : LoggedWay) (f : FrameWays). let r : LogRow = record {
+      work = closed.work;
+      span = closed.span;
+      own = p.own;
+      burdened_own = b.own;
+      before = f.plain.along.rows;
+      within = p.rows;
+      burdened_before = f.burdened.along.rows;
+      burdened_within = b.rows;
+      site = site;
+      top_site = closed.top_site;
+      top_caller = closed.top_caller;
+      merged = None;
+    } in r in
+    let is_row : row c.chosen-plain.result c.chosen-burdened.result old ≡ returned_row takes site closed v g =
+    ap₂ (λ (x y : LoggedWay). row x y old) p b ∙ ap (row (chosen takes.plain v.plain) (chosen takes.burdened v.burdened)) parent in
+    let log : c.push.new.self.rows.items ≡ take n items ++ (returned_row takes site closed v g ∷ []) =
+    c.in_ok-rows.ensures.row ∙ ap₂ (λ (l : List LogRow) (r : LogRow). l ++ (r ∷ [])) cut is_row in
+    let count : c.in_ok-rows.rows ≡ suc (length (reverse (take n items))) =
+    (let x = c.in_ok-rows.ensures.count in let y : length c.cut-2.new.self.rows.items ≡ length (take n items) = ap (λ (l : List LogRow). length l) cut in let z = length-reverse (take n items) in omega arith) in
+    let limit : ℕ = c.max-parent.result in
+    let frame = λ (x y : LoggedWays) (f : FrameWays). let w : FrameWays = record { plain = x; burdened = y; start = f.start; limit = limit } in w in
+    let is_frame : frame c.come.new.self c.come-2.new.self old ≡ come_frame kind wins (suc (length (reverse (take n items)))) limit g =
+    ap₂ (λ (x y : LoggedWays). frame x y old) c.come.ensures c.come-2.ensures ∙ ap₂ (λ (k : ℕ) (f : FrameWays). come_frame kind wins k limit f) count parent in
+    let frames : reverse (set rest (c.len-last.result - 1 - 1) (frame c.come.new.self c.come-2.new.self old)) ≡ come_frame kind wins (suc (length (reverse (take n items)))) limit g ∷ u.below =
+    ap₂ (λ (k : ℕ) (f : FrameWays). reverse (set rest k f)) next is_frame ∙ u.put (come_frame kind wins (suc (length (reverse (take n items)))) limit g) in
+    subst (λ (l : List LogRow). AllWays on (reverse l) (reverse (set rest (c.len-last.result - 1 - 1) (frame c.come.new.self c.come-2.new.self old))) (returned_list kind (on_path on takes) (on_path on wins) site (bare_row closed) ws)) (sym log)
+    (subst (λ (l : List FrameWays). AllWays on (reverse (take n items ++ (returned_row takes site closed v g ∷ []))) l (returned_list kind (on_path on takes) (on_path on wins) site (bare_row closed) ws)) (sym frames)
+    (kept_all items v g u.below c.requires.laid.linked laid kind takes wins site closed n start sp sb short np nb c.requires.site limit on ws (subst (λ (l : List FrameWays). AllWays on (reverse items) l ws) all h)))
+
+pub returns-clause-many : goal.returns-clause-many
+returns-clause-many c more =
+    let o : OpenWays = c.args.self.now in
+    let fs : List FrameWays = o.frames.items in
+    let items : List LogRow = o.log.rows.items in
+    let kind : FrameKind = c.args.kind in
+    let takes : OnPaths = c.args.takes in
+    let wins : OnPaths = c.args.wins in
+    let site : ℕ = c.args.site in
+    let closed : ClosedFrame = c.args.closed.now in
+    let two = two_frames false o c.requires.some.0 c.requires.some.1 c.requires.some.2 in
+    let at : c.len-last.result - 1 ≡ length fs - 1 = omega (arith, c.len-last.ensures, o.frames.ok.0) in
+    let t = topped fs (omega arith) in
+    let rest : List FrameWays = c.truncate.new.self.items in
+    let kept : rest ≡ take (length fs - 1) fs = c.truncate.ensures.items ∙ ap (λ k. take k fs) at in
+    let under : reverse rest ≡ t.below = ap reverse kept ∙ t.less in
+    let fewer : length rest ≡ length fs - 1 = ap (λ (l : List FrameWays). length l) kept ∙ length-take-le (length fs - 1) fs (omega arith) in
+    let u = topped rest (omega arith) in
+    let v : FrameWays = t.top in
+    let g : FrameWays = u.top in
+    let all : reverse fs ≡ v ∷ g ∷ u.below = t.is ∙ ap (λ (l : List FrameWays). v ∷ l) (sym under ∙ u.is) in
+    let laid : Laid (length items) (v ∷ g ∷ u.below) = subst (Laid (length items)) all c.requires.laid.frames in
+    let read1 : FrameWays = c.index.result.now in
+    let is1 : read1 ≡ v = c.index.ensures ∙ ap (λ k. get_or fs k read1) at ∙ t.get read1 in
+    let read2 : FrameWays = c.index-2.result.now in
+    let is2 : read2 ≡ v = c.index-2.ensures ∙ ap (λ k. get_or fs k read2) at ∙ t.get read2 in
+    let next : c.len-last.result - 1 - 1 ≡ length rest - 1 = omega arith in
+    let old : FrameWays = c.index_mut-parent.result.now in
+    let parent : old ≡ g = c.index_mut-parent.ensures.value ∙ ap (λ k. get_or rest k old) next ∙ u.get old in
+    let in_start : g.start ≤ length items = (let a : v.start ≤ length items = laid.0 in let b : g.start ≤ v.start = laid.3.0 in omega arith) in
+    let in_plain : AreIn (length items) g.plain = in_more v.start (length items) laid.0 g.plain laid.3.1 in
+    let in_burdened : AreIn (length items) g.burdened = in_more v.start (length items) laid.0 g.burdened laid.3.2 in
+    let begin : old.start ≡ g.start = ap (λ (f : FrameWays). f.start) parent in
+    let plain_stay : StayIn c.needed-plain_stays.result kind wins.plain g.plain = subst (λ (f : FrameWays). StayIn c.needed-plain_stays.result kind wins.plain f.plain) parent c.needed-plain_stays.ensures.stay in
+    let burdened_stay : StayIn c.needed-burdened_stays.result kind wins.burdened g.burdened = subst (λ (f : FrameWays). StayIn c.needed-burdened_stays.result kind wins.burdened f.burdened) parent c.needed-burdened_stays.ensures.stay in
+    let plain_most : c.needed-plain_stays.result ≤ length items = c.needed-plain_stays.ensures.most (length items) (subst (λ (f : FrameWays). AreIn (length items) f.plain) (sym parent) in_plain) in
+    let burdened_most : c.needed-burdened_stays.result ≤ length items = c.needed-burdened_stays.ensures.most (length items) (subst (λ (f : FrameWays). AreIn (length items) f.burdened) (sym parent) in_burdened) in
+    let stays : c.max-stays.result ≡ max (max old.start c.needed-plain_stays.result) c.needed-burdened_stays.result = c.max-stays.ensures ∙ ap (λ k. max k c.needed-burdened_stays.result) c.max.ensures in
+    let n : ℕ = c.max-3.result in
+    let p : c.chosen-plain.result ≡ chosen takes.plain v.plain = c.chosen-plain.ensures ∙ ap (λ (f : FrameWays). chosen takes.plain f.plain) is1 in
+    let b : c.chosen-burdened.result ≡ chosen takes.burdened v.burdened = c.chosen-burdened.ensures ∙ ap (λ (f : FrameWays). chosen takes.burdened f.burdened) is2 in
+    let pr : c.chosen-plain.result.rows ≡ (chosen takes.plain v.plain).rows = ap (λ (w : LoggedWay). w.rows) p in
+    let br : c.chosen-burdened.result.rows ≡ (chosen takes.burdened v.burdened).rows = ap (λ (w : LoggedWay). w.rows) b in
+    let pm = chosen_in (length items) takes.plain v.plain laid.1 in
+    let bm = chosen_in (length items) takes.burdened v.burdened laid.2 in
+    let needed : n ≡ max (max c.max-stays.result c.chosen-plain.result.rows) c.chosen-burdened.result.rows = c.max-3.ensures ∙ ap (λ k. max k c.chosen-burdened.result.rows) c.max-2.ensures in
+    let start : g.start ≤ n = omega arith in
+    let sp : StayIn n kind wins.plain g.plain = stay_more c.needed-plain_stays.result n (omega arith) kind wins.plain g.plain plain_stay in
+    let sb : StayIn n kind wins.burdened g.burdened = stay_more c.needed-burdened_stays.result n (omega arith) kind wins.burdened g.burdened burdened_stay in
+    let short : n ≤ length items = omega arith in
+    let np : (chosen takes.plain v.plain).rows ≤ n = omega arith in
+    let nb : (chosen takes.burdened v.burdened).rows ≤ n = omega arith in
+    let cut : c.cut-2.new.self.rows.items ≡ take n items = c.cut-2.ensures in
+    let row = λ (p b : LoggedWay) (f : FrameWays). let r : LogRow = record {
+      work = closed.work;
+      span = closed.span;
+      own = p.own;
+      burdened_own = b.own;
+      before = f.plain.along.rows;
+      within = p.rows;
+      burdened_before = f.burdened.along.rows;
+      burdened_within = b.rows;
+      site = site;
+      top_site = closed.top_site;
+      top_caller = closed.top_caller;
+      merged = None;
+    } in r in
+    let is_row : row c.chosen-plain.result c.chosen-burdened.result old ≡ returned_row takes site closed v g =
+    ap₂ (λ (x y : LoggedWay). row x y old) p b ∙ ap (row (chosen takes.plain v.plain) (chosen takes.burdened v.burdened)) parent in
+    let log : c.push.new.self.rows.items ≡ take n items ++ (returned_row takes site closed v g ∷ []) =
+    c.in_ok-rows.ensures.row ∙ ap₂ (λ (l : List LogRow) (r : LogRow). l ++ (r ∷ [])) cut is_row in
+    let count : c.in_ok-rows.rows ≡ suc (length (reverse (take n items))) =
+    (let x = c.in_ok-rows.ensures.count in let y : length c.cut-2.new.self.rows.items ≡ length (take n items) = ap (λ (l : List LogRow). length l) cut in let z = length-reverse (take n items) in omega arith) in
+    let limit : ℕ = c.max-parent.result in
+    let frame = λ (x y : LoggedWays) (f : FrameWays). let w : FrameWays = record { plain = x; burdened = y; start = f.start; limit = limit } in w in
+    let is_frame : frame c.come.new.self c.come-2.new.self old ≡ come_frame kind wins (suc (length (reverse (take n items)))) limit g =
+    ap₂ (λ (x y : LoggedWays). frame x y old) c.come.ensures c.come-2.ensures ∙ ap₂ (λ (k : ℕ) (f : FrameWays). come_frame kind wins k limit f) count parent in
+    let frames : reverse (set rest (c.len-last.result - 1 - 1) (frame c.come.new.self c.come-2.new.self old)) ≡ come_frame kind wins (suc (length (reverse (take n items)))) limit g ∷ u.below =
+    ap₂ (λ (k : ℕ) (f : FrameWays). reverse (set rest k f)) next is_frame ∙ u.put (come_frame kind wins (suc (length (reverse (take n items)))) limit g) in
+    let rows : length c.push.new.self.rows.items ≡ c.in_ok-rows.rows =
+    (let x = c.in_ok-rows.ensures.count in let y : length c.push.new.self.rows.items ≡ length (c.cut-2.new.self.rows.items ++ (row c.chosen-plain.result c.chosen-burdened.result old ∷ [])) = ap (λ (l : List LogRow). length l) c.in_ok-rows.ensures.row in
+    let z = length-append c.cut-2.new.self.rows.items (row c.chosen-plain.result c.chosen-burdened.result old ∷ []) in omega arith) in
+    let lt : c.saturating_add.result < c.in_ok-rows.rows = ltb-true c.saturating_add.result c.in_ok-rows.rows more in
+    let sum = c.saturating_add.ensures in
+    let one : 1 ≤ c.max-4.result = (let z = c.max-4.ensures in omega arith) in
+    let small : c.in_ok-rows.rows < 4294967296 = (let z : length items + 1 < 4294967296 = c.requires.few in let y : length c.cut-2.new.self.rows.items ≡ n = ap (λ (l : List LogRow). length l) cut ∙ length-take-le n items short in omega arith) in
+    subst (HasRowsOf (length c.push.new.self.rows.items)) (sym frames) (let z : g.start + 2 ≤ length c.push.new.self.rows.items = omega arith in z)
