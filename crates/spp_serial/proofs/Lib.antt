@@ -1,2 +1,3 @@
+pub mod Low
 pub mod Reading
 pub mod Told

@@ -20,7 +20,8 @@ use Rattle.spp_dag.proofs.Profiles.{spans_law}
 use Rattle.spp_dag.proofs.OpenEntries.{AreOpen}
 use Rattle.spp_ways.specs.declared.open_ways.OnPaths.{OnPaths}
 use Rattle.spp_ways.specs.Ways.{Leaf, Way, Ways, no_ways, way_on, closed_rows, returned_ways, state_on, burdens_on, takes, wins, outruns, ways_after, HasWays}
-use Rattle.spp_ways.specs.OpenWays.{on_path, HasOne, HasTwo, FitStrand, strand_list, waited_list, returned_list, bare_row}
+use Rattle.spp_ways.specs.OpenWays.{on_path, HasOne, HasTwo, FitStrand, FitTop, strand_list, waited_list, returned_list, bare_row}
+use Rattle.spp_serial.proofs.Low.{AreLow, are_more, none_low, strand_low, strand_fits, waited_low, return_low, top_fits}
 use Rattle.spp_pass.specs.declared.counted_frame.CountedFrame.{CountedFrame}
 use Rattle.spp_pass.specs.declared.counting.Closing.{Closing}
 use Rattle.spp_pass.specs.Passes.{Seen, state_of, burdened_state_of, closed_of, takes_of, wins_of, closing_of, start_seen, strand_seen, sync_seen, open_seen, Returns, IsClosing}
@@ -28,16 +29,11 @@ use Rattle.spp_pass.proofs.Bounded.{entries}
 use Rattle.spp_pass.proofs.Projected.{counted, IsNeat, AllNeat, close_is, burdened_is}
 use Rattle.spp_pass.proofs.Passed.{Passed, IsRead, start_passed, strand_passed, sync_passed, call_passed, spawn_passed, return_passed}
 
--- no way has more strands of its own than that
-abbrev pub AreOwn : ℕ → List Ways → Type 0
-AreOwn work [] = Unit {0}
-AreOwn work (w ∷ ws) = (w.along.own ≤ work) × (w.through.own ≤ work) × AreOwn work ws
-
 -- before the event at i these are counted, and these are the ways on the path without burdens (false) and on that under them
 pub record Led (trace : Recording) (burdens : Burdens) (i : ℕ) (s : Seen) (ways : Bool → List Ways) : Type 0 where
   pub passed : Passed trace burdens 0 i s
   pub many : (on : Bool) → length (ways on) ≡ length s.frames
-  pub own : (on : Bool) → AreOwn s.work (ways on)
+  pub low : (on : Bool) → AreLow i s.work (ways on)
   pub has : (es : List Event) → AreEvents trace.records es → IsWellFormed es → (on : Bool) → HasWays es burdens trace.root on i (ways on)
 
 -- ---- the start
@@ -46,19 +42,11 @@ pub start_led : (trace : Recording) (burdens : Burdens) (s : Seen) (ways : Bool 
 start_led trace burdens s ways e h = record {
   passed = start_passed trace burdens s e;
   many = λ on. ap (λ (l : List Ways). length l) (h on) ∙ sym (ap (λ (x : Seen). length x.frames) e);
-  own = λ on. subst (AreOwn s.work) (sym (h on)) (omega arith, omega arith, tt);
+  low = λ on. subst (AreLow 0 s.work) (sym (h on)) (none_low 0 s.work [] tt);
   has = λ es are wf on. h on;
 }
 
 -- ---- one event
-
-own_more : (v w : ℕ) → v ≤ w → (ws : List Ways) → AreOwn v ws → AreOwn w ws
-own_more v w l [] h = tt
-own_more v w l (x ∷ xs) h = (let a = h.0 in omega arith, let b = h.1 in omega arith, own_more v w l xs h.2)
-
-on_own : (takes : Bool) (work : ℕ) (w : Ways) → w.along.own ≤ work → w.through.own ≤ work → (way_on takes w).own ≤ work
-on_own false work w a b = a
-on_own true work w a b = b
 
 -- what a frame takes, and what wins, on one path
 pub takes_on : (on : Bool) (f : CountedFrame) → on_path on (takes_of f) ≡ takes (state_on on (counted f).entry)
@@ -92,14 +80,13 @@ module _ (trace : Recording) (burdens : Burdens) (light : burdens.continuation +
       by (w ∷ ws) e = tt
 
   pub fits : (n : ℕ) → n < 2 ^ 64 → (on : Bool) → FitStrand n (ways on)
-  fits n small on = by (ways on) (led.many on) (led.own on)
+  fits n small on = by (ways on) (led.many on) (led.low on)
     where
-      by : (ws : List Ways) → length ws ≡ length s.frames → AreOwn s.work ws → FitStrand n ws
+      by : (ws : List Ways) → length ws ≡ length s.frames → AreLow i s.work ws → FitStrand n ws
       by [] e h = absurd (let z = some in omega arith)
       by (w ∷ ws) e h =
           let a : s.work ≤ 18446744073709551615 * i = led.passed.reached.small in
-          let b : w.along.own ≤ s.work = h.0 in
-          omega arith
+          strand_fits i s.work n (let z : s.work + n < 2 ^ 128 = omega arith in z) w ws h
 
   -- the entry of the position
   entry : (es : List Event) → AreEvents trace.records es → IsWellFormed es → IsEntry es burdens trace.root i (entries (map counted s.frames)) s.work
@@ -118,7 +105,7 @@ module _ (trace : Recording) (burdens : Burdens) (light : burdens.continuation +
       record {
         passed = strand_passed trace burdens light short 0 i (omega arith) lt n r s new e led.passed;
         many = λ on. ap (λ (l : List Ways). length l) (h on) ∙ longer (ways on) ∙ led.many on ∙ sym frames;
-        own = λ on. subst (λ k. AreOwn k (then on)) work (subst (AreOwn (s.work + n)) (sym (h on)) (owns (ways on) (led.own on)));
+        low = λ on. subst (λ k. AreLow (suc i) k (then on)) work (subst (AreLow (suc i) (s.work + n)) (sym (h on)) (are_more i (suc i) (s.work + n) (s.work + n) (omega arith) (omega arith) _ (strand_low i s.work n (ways on) (led.low on))));
         has = goes (Strand n) r then (λ on. h on ∙ by (ways on) s.frames (led.many on) some on);
       }
     where
@@ -129,10 +116,6 @@ module _ (trace : Recording) (burdens : Burdens) (light : burdens.continuation +
       longer : (ws : List Ways) → length (strand_list n ws) ≡ length ws
       longer [] = refl
       longer (w ∷ ws) = refl
-
-      owns : (ws : List Ways) → AreOwn s.work ws → AreOwn (s.work + n) (strand_list n ws)
-      owns [] h = tt
-      owns (w ∷ ws) h = (let a = h.0 in omega arith, let b = h.1 in omega arith, own_more s.work (s.work + n) (omega arith) ws h.2)
 
       by : (ws : List Ways) (fs : List CountedFrame) → length ws ≡ length fs → 0 < length fs → (on : Bool) → strand_list n ws ≡ ways_after on burdens (Strand n) s.work (entries (map counted fs)) ws
       by [] [] e l on = absurd (omega arith)
@@ -150,7 +133,7 @@ module _ (trace : Recording) (burdens : Burdens) (light : burdens.continuation +
       record {
         passed = sync_passed trace burdens light short 0 i (omega arith) lt r s new e led.passed;
         many = λ on. ap (λ (l : List Ways). length l) (h on) ∙ longer (on_path on answer) (ways on) ∙ led.many on ∙ sym frames;
-        own = λ on. subst (λ k. AreOwn k (then on)) work (subst (AreOwn s.work) (sym (h on)) (owns (on_path on answer) (ways on) (led.own on)));
+        low = λ on. subst (λ k. AreLow (suc i) k (then on)) work (subst (AreLow (suc i) s.work) (sym (h on)) (are_more i (suc i) s.work s.work (omega arith) (omega arith) _ (waited_low i s.work (on_path on answer) (ways on) (led.low on))));
         has = goes Sync r then (λ on. h on ∙ by (ways on) s.frames refl (led.many on) some on);
       }
     where
@@ -161,10 +144,6 @@ module _ (trace : Recording) (burdens : Burdens) (light : burdens.continuation +
       longer : (t : Bool) (ws : List Ways) → length (waited_list t ws) ≡ length ws
       longer t [] = refl
       longer t (w ∷ ws) = refl
-
-      owns : (t : Bool) (ws : List Ways) → AreOwn s.work ws → AreOwn s.work (waited_list t ws)
-      owns t [] h = tt
-      owns t (w ∷ ws) h = (on_own t s.work w h.0 h.1, omega arith, h.2)
 
       by : (ws : List Ways) (fs : List CountedFrame) → s.frames ≡ fs → length ws ≡ length fs → 0 < length fs → (on : Bool)
           → waited_list (on_path on answer) ws ≡ ways_after on burdens Sync s.work (entries (map counted fs)) ws
@@ -188,7 +167,7 @@ module _ (trace : Recording) (burdens : Burdens) (light : burdens.continuation +
       record {
         passed = passed;
         many = λ on. ap (λ (l : List Ways). length l) (h on) ∙ ap suc (led.many on) ∙ sym frames;
-        own = λ on. subst (λ k. AreOwn k (then on)) work (subst (AreOwn s.work) (sym (h on)) (omega arith, omega arith, led.own on));
+        low = λ on. subst (λ k. AreLow (suc i) k (then on)) work (subst (AreLow (suc i) s.work) (sym (h on)) (are_more i (suc i) s.work s.work (omega arith) (omega arith) (no_ways ∷ ways on) (none_low i s.work (ways on) (led.low on))));
         has = goes e r then (λ on. h on ∙ by (ways on) s.frames (led.many on) some on);
       }
     where
@@ -234,13 +213,41 @@ module _ (trace : Recording) (burdens : Burdens) (light : burdens.continuation +
           let low = p.sites.0 in
           omega arith
 
+  -- the sums of the ways after a return
+  pub returned_low : (on : Bool) (closing : Closing) → IsClosing burdens s.work s.frames (Some closing)
+      → AreLow (suc i) s.work (returned_list closing.kind (on_path on closing.takes) (on_path on closing.wins) closing.site (bare_row closing.closed) (ways on))
+  returned_low on closing h = by s.frames h led.passed (ways on) (led.many on) (led.low on)
+    where
+      by : (fs : List CountedFrame) → IsClosing burdens s.work fs (Some closing) → Passed trace burdens 0 i (record s { frames = fs }) → (ws : List Ways) → length ws ≡ length fs → AreLow i s.work ws
+          → AreLow (suc i) s.work (returned_list closing.kind (on_path on closing.takes) (on_path on closing.wins) closing.site (bare_row closing.closed) ws)
+      by [] h p ws e low = absurd h
+      by (f ∷ []) h p ws e low = let z : Some closing ≡ None = h in cc
+      by (f ∷ g ∷ fs) h p [] e low = absurd (omega arith)
+      by (f ∷ g ∷ fs) h p (w ∷ []) e low = absurd (omega arith)
+      by (f ∷ g ∷ fs) h p (w ∷ v ∷ ws) e low =
+          let same : closing ≡ closing_of burdens s.work f g = (let z : Some closing ≡ Some (closing_of burdens s.work f g) = h in cc) in
+          let a : s.work ≤ 18446744073709551615 * i = p.reached.small in
+          let b = p.reached.plain in
+          let c : close f.plain ≡ state.close (state_of f) = close_is f p.neat.0 in
+          let l : s.work ≤ 4951760157141521099596496896 = omega arith in
+          let m : state.close (state_of f) ≤ 4951760157141521099596496896 = omega arith in
+          let low_now = return_low (counted f).entry s.work l m (Some f.site) i s.work f.kind (on_path on (takes_of f)) (on_path on (wins_of burdens f g)) w v ws low in
+          subst (λ (c : Closing). AreLow (suc i) s.work (returned_list c.kind (on_path on c.takes) (on_path on c.wins) c.site (bare_row c.closed) (w ∷ v ∷ ws))) (sym same)
+          (subst (λ (r : Row). AreLow (suc i) s.work (returned_ways f.kind (on_path on (wins_of burdens f g)) (closed_rows (Some f.site) r (way_on (on_path on (takes_of f)) w)) v ∷ ws)) (sym (row_on f s.work p.neat.0)) low_now)
+
+  pub returned_fits : (on : Bool) (closing : Closing) → IsClosing burdens s.work s.frames (Some closing)
+      → FitTop (returned_list closing.kind (on_path on closing.takes) (on_path on closing.wins) closing.site (bare_row closing.closed) (ways on))
+  returned_fits on closing h =
+      let a : s.work ≤ 18446744073709551615 * i = led.passed.reached.small in
+      top_fits (suc i) s.work (let z : suc i ≤ 268435457 = omega arith in z) (let z : s.work ≤ 4951760157141521099596496896 = omega arith in z) _ (returned_low on closing h)
+
   pub return_led : IsRead trace i Ret → (new : Seen) (then : Bool → List Ways) (closing : Closing) → Returns burdens i s s.frames true new → IsClosing burdens s.work s.frames (Some closing)
       → ((on : Bool) → then on ≡ returned_list closing.kind (on_path on closing.takes) (on_path on closing.wins) closing.site (bare_row closing.closed) (ways on)) → Led trace burdens (suc i) new then
   return_led r new then closing ret is h =
       record {
         passed = return_passed trace burdens light short 0 i (omega arith) lt r s new ret led.passed;
         many = λ on. ap (λ (l : List Ways). length l) (h on) ∙ lengths s.frames ret (ways on) (led.many on) on;
-        own = λ on. subst (AreOwn new.work) (sym (h on)) (owns closing.kind (on_path on closing.takes) (on_path on closing.wins) (ways on) (own_more s.work new.work (works s.frames ret) (ways on) (led.own on)));
+        low = λ on. subst (AreLow (suc i) new.work) (sym (h on)) (are_more (suc i) (suc i) s.work new.work (omega arith) (works s.frames ret) _ (returned_low on closing is));
         has = goes Ret r then (λ on. h on ∙ by (ways on) s.frames led.passed.neat led.passed.bounded.open_frames is (led.many on) on);
       }
     where
@@ -256,20 +263,6 @@ module _ (trace : Recording) (burdens : Burdens) (light : burdens.continuation +
       works [] h = absurd h
       works (f ∷ []) h = absurd (let z : true ≡ false = h in cc)
       works (f ∷ g ∷ fs) h = let w = h.1.work in omega arith
-
-      one : (n : ℕ) (kind : FrameKind) (win : Bool) (rows : List Leaf) (v : Ways) → v.along.own ≤ n → v.through.own ≤ n
-          → ((returned_ways kind win rows v).along.own ≤ n) × ((returned_ways kind win rows v).through.own ≤ n)
-      one n Root win rows v a b = (a, b)
-      one n Called win rows v a b = (a, b)
-      one n Spawned false rows v a b = (a, b)
-      one n Spawned true rows v a b = (a, a)
-
-      owns : (kind : FrameKind) (take win : Bool) (ws : List Ways) → AreOwn new.work ws → AreOwn new.work (returned_list kind take win closing.site (bare_row closing.closed) ws)
-      owns kind take win [] h = tt
-      owns kind take win (w ∷ []) h = tt
-      owns kind take win (w ∷ v ∷ ws) h =
-          let o = one new.work kind win (closed_rows (Some closing.site) (bare_row closing.closed) (way_on take w)) v h.2.0 h.2.1 in
-          (o.0, o.1, h.2.2)
 
       by : (ws : List Ways) (fs : List CountedFrame) → AllNeat fs → AreOpen s.work (entries (map counted fs)) → IsClosing burdens s.work fs (Some closing) → length ws ≡ length fs → (on : Bool)
           → returned_list closing.kind (on_path on closing.takes) (on_path on closing.wins) closing.site (bare_row closing.closed) ws ≡ ways_after on burdens Ret s.work (entries (map counted fs)) ws

@@ -43,7 +43,7 @@ fn profile_by<R: Reader>(
     burdens.are_small();
     let count = trace.count();
     let mut counting = Counting::new(alloc, trace.root())?;
-    let mut ways = OpenWays::new(alloc)?;
+    let mut ways = OpenWays::new(alloc, trace.sites())?;
     for at in 0..count {
         let event = match events.read(trace, at) {
             Ok(event) => event,
@@ -65,6 +65,7 @@ fn profile_by<R: Reader>(
             Event::Ret => match counting.ret(burdens)? {
                 None => return Err(bad(at, Why::RootReturn)),
                 Some(closing) => ways.ret(
+                    alloc,
                     closing.kind,
                     closing.takes,
                     closing.wins,
@@ -97,8 +98,8 @@ fn profile_by<R: Reader>(
 /// (the critical path), and on the first path that is greatest under the burdens. No row bears burdens.
 ///
 /// The events are read once, each in constant time, amortized, behind a step for each site and function. The memory is
-/// linear in the numbers of frames that are open at a time, of sites and of functions, and of the closed frames that the
-/// greatest ways into open frames enter: 96 bytes for each of these. The work is below 2^92.
+/// linear in the numbers of sites and of functions, and for each frame that is open at a time in that of the closed frames
+/// that the greatest ways into it enter, or of their call sites where these are fewer. The work is below 2^92.
 ///
 /// # Errors
 ///

@@ -9,8 +9,8 @@ use Rattle.spp_frame.specs.Answers.{IsFaultOf}
 use Rattle.spp_site.proofs.WholeProfile.{whole}
 use Rattle.spp_ways.specs.declared.open_ways.OnPaths.{OnPaths}
 use Rattle.spp_ways.specs.declared.open_ways.OpenWays.{OpenWays}
-use Rattle.spp_ways.specs.Ways.{Ways}
-use Rattle.spp_ways.specs.OpenWays.{IsLaid, HasOne, ways_of}
+use Rattle.spp_ways.specs.Ways.{Ways, no_ways}
+use Rattle.spp_ways.specs.OpenWays.{IsLaid, HasOne, AreWays, on_path, bare_row, strand_list, waited_list, returned_list}
 use Rattle.spp_pass.specs.declared.counted_frame.CountedFrame.{CountedFrame}
 use Rattle.spp_pass.specs.declared.counting.Counting.{Counting}
 use Rattle.spp_pass.specs.declared.counting.Closing.{Closing}
@@ -18,7 +18,7 @@ use Rattle.spp_pass.specs.declared.counting.Ended.{Ended}
 use Rattle.spp_pass.specs.Passes.{Seen, Notes, no_notes, noted_sync, noted_return, seen_with, start_seen, sync_seen, takes_of, AreTakes, CanReturn, Returns, IsClosing}
 use Rattle.spp_pass.proofs.Keeping.{kept_bad, kept_return, kept_open}
 use Rattle.spp_pass.proofs.Passed.{light_of, leans, is_read, ready_add, ready_return, root_stays, ready_finish}
-use Rattle.spp_serial.proofs.Reading.{Led, start_led, fits, has_one, strand_led, sync_led, call_led, spawn_led, has_two, site_in, return_led}
+use Rattle.spp_serial.proofs.Reading.{Led, start_led, fits, has_one, strand_led, sync_led, call_led, spawn_led, has_two, site_in, returned_fits, return_led}
 use Rattle.spp_serial.proofs.Told.{told, path_fits, path_is}
 use Rattle.spp_serial.proofs.profile_by.Goals as goal
 use Rattle.spp_serial.proofs.profile_by.Goals.{in-Strand, in-Call+in_ok-open-in-Call+in_ok-open-in-Call-2, in-Spawn+in_ok-open-in-Spawn+in_ok-open-in-Spawn-2, in-Ret+in_ok-ret-in-Ret+in-Some+in_ok-ret-in-Some, in-Sync}
@@ -29,7 +29,7 @@ loop-at-init g c =
     let s : Seen = seen_with c.in_ok-counting.counting no_notes in
     let is : s ≡ start_seen trace.root = c.in_ok-counting.ensures ∙ ap start_seen c.root.ensures in
     record {
-      led = (no_notes, start_led trace c.args.burdens s (λ on. ways_of on c.in_ok-ways.ways) is c.in_ok-ways.ensures.ways);
+      led = (no_notes, λ on. no_ways ∷ [], start_led trace c.args.burdens s (λ on. no_ways ∷ []) is (λ on. refl), c.in_ok-ways.ensures.ways);
       laid = c.in_ok-ways.ensures.laid;
       few = (let z : length c.in_ok-ways.ways.log.rows.items ≡ 0 = c.in_ok-ways.ensures.rows in omega arith);
       next = c.requires.here;
@@ -40,8 +40,9 @@ returns-in-Err-clause-fault g c =
     let trace : Recording = c.args.trace.now in
     let at : ℕ = c.loop-at.at in
     let s : Seen = seen_with c.loop-at.counting c.loop-at.invariant.led.0 in
-    let ways = λ (on : Bool). ways_of on c.loop-at.ways in
-    let led = c.loop-at.invariant.led.1 in
+    let ways : Bool → List Ways = c.loop-at.invariant.led.1 in
+    let led = c.loop-at.invariant.led.2 in
+    let are = c.loop-at.invariant.led.3 in
     let lt : at < length trace.records = omega (arith, c.count-count.ensures.count) in
     let b : Burdens = c.args.burdens in
     let light = light_of b c.are_small.ensures.continuation c.are_small.ensures.join in
@@ -55,8 +56,9 @@ strand-requires g c =
     let trace : Recording = c.args.trace.now in
     let at : ℕ = c.loop-at.at in
     let s : Seen = seen_with c.loop-at.counting c.loop-at.invariant.led.0 in
-    let ways = λ (on : Bool). ways_of on c.loop-at.ways in
-    let led = c.loop-at.invariant.led.1 in
+    let ways : Bool → List Ways = c.loop-at.invariant.led.1 in
+    let led = c.loop-at.invariant.led.2 in
+    let are = c.loop-at.invariant.led.3 in
     let lt : at < length trace.records = omega (arith, c.count-count.ensures.count) in
     let b : Burdens = c.args.burdens in
     let light = light_of b c.are_small.ensures.continuation c.are_small.ensures.join in
@@ -70,8 +72,9 @@ strand-requires-in-Strand-clause-fits g c =
     let trace : Recording = c.args.trace.now in
     let at : ℕ = c.loop-at.at in
     let s : Seen = seen_with c.loop-at.counting c.loop-at.invariant.led.0 in
-    let ways = λ (on : Bool). ways_of on c.loop-at.ways in
-    let led = c.loop-at.invariant.led.1 in
+    let ways : Bool → List Ways = c.loop-at.invariant.led.1 in
+    let led = c.loop-at.invariant.led.2 in
+    let are = c.loop-at.invariant.led.3 in
     let lt : at < length trace.records = omega (arith, c.count-count.ensures.count) in
     let b : Burdens = c.args.burdens in
     let light = light_of b c.are_small.ensures.continuation c.are_small.ensures.join in
@@ -79,7 +82,7 @@ strand-requires-in-Strand-clause-fits g c =
     let read = λ (e : Event) (is : c.in-Ok.event ≡ e).
     is_read trace at c.read.result e c.read.ensures.said c.read.ensures.within (c.in-Ok.is ∙ ap (λ (e : Event). Ok e) is) in
     let small : c.in-Strand.count < 2 ^ 64 = (read (Strand c.in-Strand.count) c.in-Strand.is).1 in
-    fits trace b light short at lt s ways led c.in-Strand.count small
+    λ on. (ways on, are on, fits trace b light short at lt s ways led c.in-Strand.count small on)
 
 -- which choices a pass would have noted doesn't matter
 without_notes : (b : Burdens) (c : Counting) (n : Notes) (fs : List CountedFrame) → CanReturn b (seen_with c n) fs → CanReturn b (seen_with c no_notes) fs
@@ -92,8 +95,9 @@ ret-requires g c =
     let trace : Recording = c.args.trace.now in
     let at : ℕ = c.loop-at.at in
     let s : Seen = seen_with c.loop-at.counting c.loop-at.invariant.led.0 in
-    let ways = λ (on : Bool). ways_of on c.loop-at.ways in
-    let led = c.loop-at.invariant.led.1 in
+    let ways : Bool → List Ways = c.loop-at.invariant.led.1 in
+    let led = c.loop-at.invariant.led.2 in
+    let are = c.loop-at.invariant.led.3 in
     let lt : at < length trace.records = omega (arith, c.count-count.ensures.count) in
     let b : Burdens = c.args.burdens in
     let light = light_of b c.are_small.ensures.continuation c.are_small.ensures.join in
@@ -105,8 +109,9 @@ returns-in-None-clause-fault g c =
     let trace : Recording = c.args.trace.now in
     let at : ℕ = c.loop-at.at in
     let s : Seen = seen_with c.loop-at.counting c.loop-at.invariant.led.0 in
-    let ways = λ (on : Bool). ways_of on c.loop-at.ways in
-    let led = c.loop-at.invariant.led.1 in
+    let ways : Bool → List Ways = c.loop-at.invariant.led.1 in
+    let led = c.loop-at.invariant.led.2 in
+    let are = c.loop-at.invariant.led.3 in
     let lt : at < length trace.records = omega (arith, c.count-count.ensures.count) in
     let b : Burdens = c.args.burdens in
     let light = light_of b c.are_small.ensures.continuation c.are_small.ensures.join in
@@ -126,23 +131,41 @@ ret-requires-in-Some-clause-some g c =
     let trace : Recording = c.args.trace.now in
     let at : ℕ = c.loop-at.at in
     let s : Seen = seen_with c.loop-at.counting c.loop-at.invariant.led.0 in
-    let ways = λ (on : Bool). ways_of on c.loop-at.ways in
-    let led = c.loop-at.invariant.led.1 in
+    let ways : Bool → List Ways = c.loop-at.invariant.led.1 in
+    let led = c.loop-at.invariant.led.2 in
+    let are = c.loop-at.invariant.led.3 in
     let lt : at < length trace.records = omega (arith, c.count-count.ensures.count) in
     let b : Burdens = c.args.burdens in
     let light = light_of b c.are_small.ensures.continuation c.are_small.ensures.join in
     let short = c.count-count.ensures.limits.events in
     let is : IsClosing b s.work s.frames (Some c.in-Some.closing) =
     subst (λ (o : Option Closing). IsClosing b s.work s.frames o) c.in-Some.is c.in_ok-ret-in-Ret.ensures.closing in
-    has_two trace b light short at lt s ways led c.in-Some.closing is
+    (ways false, are false, has_two trace b light short at lt s ways led c.in-Some.closing is)
+
+pub ret-requires-in-Some-clause-fits : goal.ret-requires-in-Some-clause-fits
+ret-requires-in-Some-clause-fits g c on =
+    let trace : Recording = c.args.trace.now in
+    let at : ℕ = c.loop-at.at in
+    let s : Seen = seen_with c.loop-at.counting c.loop-at.invariant.led.0 in
+    let ways : Bool → List Ways = c.loop-at.invariant.led.1 in
+    let led = c.loop-at.invariant.led.2 in
+    let are = c.loop-at.invariant.led.3 in
+    let lt : at < length trace.records = omega (arith, c.count-count.ensures.count) in
+    let b : Burdens = c.args.burdens in
+    let light = light_of b c.are_small.ensures.continuation c.are_small.ensures.join in
+    let short = c.count-count.ensures.limits.events in
+    let is : IsClosing b s.work s.frames (Some c.in-Some.closing) =
+    subst (λ (o : Option Closing). IsClosing b s.work s.frames o) c.in-Some.is c.in_ok-ret-in-Ret.ensures.closing in
+    (ways on, are on, returned_fits trace b light short at lt s ways led on c.in-Some.closing is)
 
 pub ret-requires-in-Some-clause-few : goal.ret-requires-in-Some-clause-few
 ret-requires-in-Some-clause-few g c =
     let trace : Recording = c.args.trace.now in
     let at : ℕ = c.loop-at.at in
     let s : Seen = seen_with c.loop-at.counting c.loop-at.invariant.led.0 in
-    let ways = λ (on : Bool). ways_of on c.loop-at.ways in
-    let led = c.loop-at.invariant.led.1 in
+    let ways : Bool → List Ways = c.loop-at.invariant.led.1 in
+    let led = c.loop-at.invariant.led.2 in
+    let are = c.loop-at.invariant.led.3 in
     let lt : at < length trace.records = omega (arith, c.count-count.ensures.count) in
     let b : Burdens = c.args.burdens in
     let light = light_of b c.are_small.ensures.continuation c.are_small.ensures.join in
@@ -154,8 +177,9 @@ ret-requires-in-Some-clause-site g c =
     let trace : Recording = c.args.trace.now in
     let at : ℕ = c.loop-at.at in
     let s : Seen = seen_with c.loop-at.counting c.loop-at.invariant.led.0 in
-    let ways = λ (on : Bool). ways_of on c.loop-at.ways in
-    let led = c.loop-at.invariant.led.1 in
+    let ways : Bool → List Ways = c.loop-at.invariant.led.1 in
+    let led = c.loop-at.invariant.led.2 in
+    let are = c.loop-at.invariant.led.3 in
     let lt : at < length trace.records = omega (arith, c.count-count.ensures.count) in
     let b : Burdens = c.args.burdens in
     let light = light_of b c.are_small.ensures.continuation c.are_small.ensures.join in
@@ -169,21 +193,23 @@ wait-requires-clause-some g c =
     let trace : Recording = c.args.trace.now in
     let at : ℕ = c.loop-at.at in
     let s : Seen = seen_with c.loop-at.counting c.loop-at.invariant.led.0 in
-    let ways = λ (on : Bool). ways_of on c.loop-at.ways in
-    let led = c.loop-at.invariant.led.1 in
+    let ways : Bool → List Ways = c.loop-at.invariant.led.1 in
+    let led = c.loop-at.invariant.led.2 in
+    let are = c.loop-at.invariant.led.3 in
     let lt : at < length trace.records = omega (arith, c.count-count.ensures.count) in
     let b : Burdens = c.args.burdens in
     let light = light_of b c.are_small.ensures.continuation c.are_small.ensures.join in
     let short = c.count-count.ensures.limits.events in
-    has_one trace b light short at lt s ways led false
+    (ways false, are false, has_one trace b light short at lt s ways led false)
 
 pub loop-at-preserved : goal.loop-at-preserved
 loop-at-preserved g c =
     let trace : Recording = c.args.trace.now in
     let at : ℕ = c.loop-at.at in
     let s : Seen = seen_with c.loop-at.counting c.loop-at.invariant.led.0 in
-    let ways = λ (on : Bool). ways_of on c.loop-at.ways in
-    let led = c.loop-at.invariant.led.1 in
+    let ways : Bool → List Ways = c.loop-at.invariant.led.1 in
+    let led = c.loop-at.invariant.led.2 in
+    let are = c.loop-at.invariant.led.3 in
     let lt : at < length trace.records = omega (arith, c.count-count.ensures.count) in
     let b : Burdens = c.args.burdens in
     let light = light_of b c.are_small.ensures.continuation c.are_small.ensures.join in
@@ -193,43 +219,53 @@ loop-at-preserved g c =
     let n = c.loop-at.invariant.led.0 in
     let further : suc at ≡ at + 1 = omega arith in
     let few : length c.loop-at.ways.log.rows.items ≤ at = c.loop-at.invariant.few in
-    let moved = λ (m : Notes) (counting : Counting) (w : OpenWays) (is : c.match-event.counting ≡ counting) (are : c.match-event.ways ≡ w)
-    (l : Led trace b (suc at) (seen_with counting m) (λ on. ways_of on w)) (laid : IsLaid w) (f : length w.log.rows.items ≤ length c.loop-at.ways.log.rows.items + 1).
-    let r : ((x : Notes) × Led trace b (at + 1) (seen_with c.match-event.counting x) (λ on. ways_of on c.match-event.ways)) × (IsLaid c.match-event.ways × (length c.match-event.ways.log.rows.items ≤ at + 1)) = (
-      (m, subst (λ (k : ℕ). Led trace b k (seen_with c.match-event.counting m) (λ on. ways_of on c.match-event.ways)) further
-      (subst (λ (x : Counting). Led trace b (suc at) (seen_with x m) (λ on. ways_of on c.match-event.ways)) (sym is)
-      (subst (λ (x : OpenWays). Led trace b (suc at) (seen_with counting m) (λ on. ways_of on x)) (sym are) l))),
-      (subst IsLaid (sym are) laid, (let z : length c.match-event.ways.log.rows.items ≡ length w.log.rows.items = ap (λ (x : OpenWays). length x.log.rows.items) are in omega arith)),
+    let moved = λ (m : Notes) (then : Bool → List Ways) (counting : Counting) (w : OpenWays) (is : c.match-event.counting ≡ counting) (same : c.match-event.ways ≡ w)
+    (l : Led trace b (suc at) (seen_with counting m) then) (now : (on : Bool) → AreWays on w (then on)) (laid : IsLaid w) (f : length w.log.rows.items ≤ length c.loop-at.ways.log.rows.items + 1).
+    let r : ((x : Notes) × (y : Bool → List Ways) × Led trace b (at + 1) (seen_with c.match-event.counting x) y × ((on : Bool) → AreWays on c.match-event.ways (y on)))
+    × (IsLaid c.match-event.ways × (length c.match-event.ways.log.rows.items ≤ at + 1)) = (
+      (
+        m,
+        then,
+        subst (λ (k : ℕ). Led trace b k (seen_with c.match-event.counting m) then) further (subst (λ (x : Counting). Led trace b (suc at) (seen_with x m) then) (sym is) l),
+        λ on. subst (λ (x : OpenWays). AreWays on x (then on)) (sym same) (now on),
+      ),
+      (subst IsLaid (sym same) laid, (let z : length c.match-event.ways.log.rows.items ≡ length w.log.rows.items = ap (λ (x : OpenWays). length x.log.rows.items) same in omega arith)),
     ) in r in
-    let all : ((x : Notes) × Led trace b (at + 1) (seen_with c.match-event.counting x) (λ on. ways_of on c.match-event.ways)) × (IsLaid c.match-event.ways × (length c.match-event.ways.log.rows.items ≤ at + 1)) =
+    let all : ((x : Notes) × (y : Bool → List Ways) × Led trace b (at + 1) (seen_with c.match-event.counting x) y × ((on : Bool) → AreWays on c.match-event.ways (y on)))
+    × (IsLaid c.match-event.ways × (length c.match-event.ways.log.rows.items ≤ at + 1)) =
     elim c.match-event.branch [
       | in-Strand w ↦
-          moved n w.strand.new.self w.strand-in-Strand.new.self w.counting-is w.ways-is
-          (strand_led trace b light short at lt s ways led w.in-Strand.count (read (Strand w.in-Strand.count) w.in-Strand.is) (seen_with w.strand.new.self n) (λ on. ways_of on w.strand-in-Strand.new.self) (w.strand.ensures n) w.strand-in-Strand.ensures.ways)
-          w.strand-in-Strand.ensures.laid (let z = w.strand-in-Strand.ensures.rows in omega arith)
+          let then = λ (on : Bool). strand_list w.in-Strand.count (ways on) in
+          moved n then w.strand.new.self w.strand-in-Strand.new.self w.counting-is w.ways-is
+          (strand_led trace b light short at lt s ways led w.in-Strand.count (read (Strand w.in-Strand.count) w.in-Strand.is) (seen_with w.strand.new.self n) then (w.strand.ensures n) (λ on. refl))
+          (λ on. w.strand-in-Strand.ensures.ways on (ways on) (are on)) w.strand-in-Strand.ensures.laid (let z = w.strand-in-Strand.ensures.rows in omega arith)
       | in-Call+in_ok-open-in-Call+in_ok-open-in-Call-2 w ↦
-          moved n w.open.new.self w.open-in-Call.new.self w.counting-is w.ways-is
-          (call_led trace b light short at lt s ways led w.in-Call.site w.in-Call.func (read (Call w.in-Call.site w.in-Call.func) w.in-Call.is) (seen_with w.open.new.self n) (λ on. ways_of on w.open-in-Call.new.self) (w.in_ok-open-in-Call.ensures n) w.in_ok-open-in-Call-2.ensures.ways)
-          w.in_ok-open-in-Call-2.ensures.laid (let z = w.in_ok-open-in-Call-2.ensures.rows in omega arith)
+          let then = λ (on : Bool). no_ways ∷ ways on in
+          moved n then w.open.new.self w.open-in-Call.new.self w.counting-is w.ways-is
+          (call_led trace b light short at lt s ways led w.in-Call.site w.in-Call.func (read (Call w.in-Call.site w.in-Call.func) w.in-Call.is) (seen_with w.open.new.self n) then (w.in_ok-open-in-Call.ensures n) (λ on. refl))
+          (λ on. w.in_ok-open-in-Call-2.ensures.ways on (ways on) (are on)) w.in_ok-open-in-Call-2.ensures.laid (let z = w.in_ok-open-in-Call-2.ensures.rows in omega arith)
       | in-Spawn+in_ok-open-in-Spawn+in_ok-open-in-Spawn-2 w ↦
-          moved n w.open-in-Spawn.new.self w.open-in-Spawn-2.new.self w.counting-is w.ways-is
-          (spawn_led trace b light short at lt s ways led w.in-Spawn.site w.in-Spawn.func (read (Spawn w.in-Spawn.site w.in-Spawn.func) w.in-Spawn.is) (seen_with w.open-in-Spawn.new.self n) (λ on. ways_of on w.open-in-Spawn-2.new.self) (w.in_ok-open-in-Spawn.ensures n) w.in_ok-open-in-Spawn-2.ensures.ways)
-          w.in_ok-open-in-Spawn-2.ensures.laid (let z = w.in_ok-open-in-Spawn-2.ensures.rows in omega arith)
+          let then = λ (on : Bool). no_ways ∷ ways on in
+          moved n then w.open-in-Spawn.new.self w.open-in-Spawn-2.new.self w.counting-is w.ways-is
+          (spawn_led trace b light short at lt s ways led w.in-Spawn.site w.in-Spawn.func (read (Spawn w.in-Spawn.site w.in-Spawn.func) w.in-Spawn.is) (seen_with w.open-in-Spawn.new.self n) then (w.in_ok-open-in-Spawn.ensures n) (λ on. refl))
+          (λ on. w.in_ok-open-in-Spawn-2.ensures.ways on (ways on) (are on)) w.in_ok-open-in-Spawn-2.ensures.laid (let z = w.in_ok-open-in-Spawn-2.ensures.rows in omega arith)
       | in-Ret+in_ok-ret-in-Ret+in-Some+in_ok-ret-in-Some w ↦
           let m : Notes = noted_return at s.frames n in
+          let x : Closing = w.in-Some.closing in
+          let then = λ (on : Bool). returned_list x.kind (on_path on x.takes) (on_path on x.wins) x.site (bare_row x.closed) (ways on) in
           let went : Returns b at s s.frames true (seen_with w.ret.new.self m) =
           subst (λ (o : Option Closing). Returns b at s s.frames (is_some o) (seen_with w.ret.new.self m)) w.in-Some.is (w.in_ok-ret-in-Ret.ensures.returns at n) in
-          let is : IsClosing b s.work s.frames (Some w.in-Some.closing) =
-          subst (λ (o : Option Closing). IsClosing b s.work s.frames o) w.in-Some.is w.in_ok-ret-in-Ret.ensures.closing in
-          moved m w.ret.new.self w.ret-in-Some.new.self w.counting-is w.ways-is
-          (return_led trace b light short at lt s ways led (read Ret w.in-Ret.is) (seen_with w.ret.new.self m) (λ on. ways_of on w.ret-in-Some.new.self) w.in-Some.closing went is w.in_ok-ret-in-Some.ensures.ways)
-          w.in_ok-ret-in-Some.ensures.laid (let z = w.in_ok-ret-in-Some.ensures.rows in omega arith)
+          let is : IsClosing b s.work s.frames (Some x) = subst (λ (o : Option Closing). IsClosing b s.work s.frames o) w.in-Some.is w.in_ok-ret-in-Ret.ensures.closing in
+          moved m then w.ret.new.self w.ret-in-Some.new.self w.counting-is w.ways-is
+          (return_led trace b light short at lt s ways led (read Ret w.in-Ret.is) (seen_with w.ret.new.self m) then x went is (λ on. refl))
+          (λ on. w.in_ok-ret-in-Some.ensures.ways on (ways on) (are on)) w.in_ok-ret-in-Some.ensures.laid (let z = w.in_ok-ret-in-Some.ensures.rows in omega arith)
       | in-Sync w ↦
           let m : Notes = noted_sync at s.frames n in
-          moved m w.sync.new.self w.wait.new.self w.counting-is w.ways-is
-          (sync_led trace b light short at lt s ways led (read Sync w.in-Sync.is) (seen_with w.sync.new.self m) (λ on. ways_of on w.wait.new.self) w.takes.result (w.sync.ensures at n)
-          (λ f fs e. subst (AreTakes w.takes.result) e w.takes.ensures) w.wait.ensures.ways)
-          w.wait.ensures.laid (let z = w.wait.ensures.rows in omega arith)
+          let then = λ (on : Bool). waited_list (on_path on w.takes.result) (ways on) in
+          moved m then w.sync.new.self w.wait.new.self w.counting-is w.ways-is
+          (sync_led trace b light short at lt s ways led (read Sync w.in-Sync.is) (seen_with w.sync.new.self m) then w.takes.result (w.sync.ensures at n)
+          (λ f fs e. subst (AreTakes w.takes.result) e w.takes.ensures) (λ on. refl))
+          (λ on. w.wait.ensures.ways on (ways on) (are on)) w.wait.ensures.laid (let z = w.wait.ensures.rows in omega arith)
     ] in
     record { led = all.0; laid = all.1.0; few = all.1.1; next = c.read.ensures.next }
 
@@ -237,7 +273,7 @@ pub returns-then-depth-gt0-clause-fault : goal.returns-then-depth-gt0-clause-fau
 returns-then-depth-gt0-clause-fault g c =
     let trace : Recording = c.args.trace.now in
     let s : Seen = seen_with c.loop-at.counting c.loop-at.invariant.led.0 in
-    let led = c.loop-at.invariant.led.1 in
+    let led = c.loop-at.invariant.led.2 in
     let end : c.loop-at.at ≡ length trace.records = omega (arith, c.count-count.ensures.count) in
     let deep : c.depth-depth.result + 1 ≡ length (leans s.frames) = c.depth-depth.ensures ∙ sym (length-map s.frames _) in
     subst (λ (f : ProfileFault). IsFaultOf trace.records f) (sym c.bad-then-depth-gt0.ensures)
@@ -248,8 +284,9 @@ finish-ended-requires g c =
     let trace : Recording = c.args.trace.now in
     let n = c.loop-at.invariant.led.0 in
     let s : Seen = seen_with c.loop-at.counting n in
-    let ways = λ (on : Bool). ways_of on c.loop-at.ways in
-    let led = c.loop-at.invariant.led.1 in
+    let ways : Bool → List Ways = c.loop-at.invariant.led.1 in
+    let led = c.loop-at.invariant.led.2 in
+    let are = c.loop-at.invariant.led.3 in
     let at : ℕ = c.loop-at.at in
     let b : Burdens = c.args.burdens in
     let short = c.count-count.ensures.limits.events in
@@ -262,28 +299,14 @@ one_way : (ways : List Ways) → length ways ≡ 1 → HasOne ways
 one_way [] e = absurd (omega arith)
 one_way (w ∷ ws) e = tt
 
-pub path_table-requires-clause-some : goal.path_table-requires-clause-some
-path_table-requires-clause-some g c =
-    let trace : Recording = c.args.trace.now in
-    let n = c.loop-at.invariant.led.0 in
-    let s : Seen = seen_with c.loop-at.counting n in
-    let ways = λ (on : Bool). ways_of on c.loop-at.ways in
-    let led = c.loop-at.invariant.led.1 in
-    let at : ℕ = c.loop-at.at in
-    let b : Burdens = c.args.burdens in
-    let short = c.count-count.ensures.limits.events in
-    let good = c.count-count.ensures.events in
-    let last : at ≡ length trace.records = omega (arith, c.count-count.ensures.count) in
-    let one : length s.frames ≡ 1 = omega (arith, c.depth-depth.ensures) in
-    one_way (ways false) (led.many false ∙ one)
-
 pub path_table-requires-clause-fits : goal.path_table-requires-clause-fits
 path_table-requires-clause-fits g c =
     let trace : Recording = c.args.trace.now in
     let n = c.loop-at.invariant.led.0 in
     let s : Seen = seen_with c.loop-at.counting n in
-    let ways = λ (on : Bool). ways_of on c.loop-at.ways in
-    let led = c.loop-at.invariant.led.1 in
+    let ways : Bool → List Ways = c.loop-at.invariant.led.1 in
+    let led = c.loop-at.invariant.led.2 in
+    let are = c.loop-at.invariant.led.3 in
     let at : ℕ = c.loop-at.at in
     let b : Burdens = c.args.burdens in
     let short = c.count-count.ensures.limits.events in
@@ -292,30 +315,16 @@ path_table-requires-clause-fits g c =
     let one : length s.frames ≡ 1 = omega (arith, c.depth-depth.ensures) in
     let e : Ended = c.finish-ended.result in
     let args = c.finish-ended.ensures in
-    path_fits trace b short good at last s ways led one e args false
-
-pub path_table-requires-2-clause-some : goal.path_table-requires-2-clause-some
-path_table-requires-2-clause-some g c =
-    let trace : Recording = c.args.trace.now in
-    let n = c.loop-at.invariant.led.0 in
-    let s : Seen = seen_with c.loop-at.counting n in
-    let ways = λ (on : Bool). ways_of on c.loop-at.ways in
-    let led = c.loop-at.invariant.led.1 in
-    let at : ℕ = c.loop-at.at in
-    let b : Burdens = c.args.burdens in
-    let short = c.count-count.ensures.limits.events in
-    let good = c.count-count.ensures.events in
-    let last : at ≡ length trace.records = omega (arith, c.count-count.ensures.count) in
-    let one : length s.frames ≡ 1 = omega (arith, c.depth-depth.ensures) in
-    one_way (ways false) (led.many false ∙ one)
+    (ways false, are false, one_way (ways false) (led.many false ∙ one), path_fits trace b short good at last s ways led one e args false)
 
 pub path_table-requires-2-clause-fits : goal.path_table-requires-2-clause-fits
 path_table-requires-2-clause-fits g c =
     let trace : Recording = c.args.trace.now in
     let n = c.loop-at.invariant.led.0 in
     let s : Seen = seen_with c.loop-at.counting n in
-    let ways = λ (on : Bool). ways_of on c.loop-at.ways in
-    let led = c.loop-at.invariant.led.1 in
+    let ways : Bool → List Ways = c.loop-at.invariant.led.1 in
+    let led = c.loop-at.invariant.led.2 in
+    let are = c.loop-at.invariant.led.3 in
     let at : ℕ = c.loop-at.at in
     let b : Burdens = c.args.burdens in
     let short = c.count-count.ensures.limits.events in
@@ -324,15 +333,16 @@ path_table-requires-2-clause-fits g c =
     let one : length s.frames ≡ 1 = omega (arith, c.depth-depth.ensures) in
     let e : Ended = c.finish-ended.result in
     let args = c.finish-ended.ensures in
-    path_fits trace b short good at last s ways led one e args true
+    (ways true, are true, one_way (ways true) (led.many true ∙ one), path_fits trace b short good at last s ways led one e args true)
 
 pub returns-clause-figures : goal.returns-clause-figures
 returns-clause-figures g c =
     let trace : Recording = c.args.trace.now in
     let n = c.loop-at.invariant.led.0 in
     let s : Seen = seen_with c.loop-at.counting n in
-    let ways = λ (on : Bool). ways_of on c.loop-at.ways in
-    let led = c.loop-at.invariant.led.1 in
+    let ways : Bool → List Ways = c.loop-at.invariant.led.1 in
+    let led = c.loop-at.invariant.led.2 in
+    let are = c.loop-at.invariant.led.3 in
     let at : ℕ = c.loop-at.at in
     let b : Burdens = c.args.burdens in
     let short = c.count-count.ensures.limits.events in
@@ -348,8 +358,9 @@ returns-clause-small g c =
     let trace : Recording = c.args.trace.now in
     let n = c.loop-at.invariant.led.0 in
     let s : Seen = seen_with c.loop-at.counting n in
-    let ways = λ (on : Bool). ways_of on c.loop-at.ways in
-    let led = c.loop-at.invariant.led.1 in
+    let ways : Bool → List Ways = c.loop-at.invariant.led.1 in
+    let led = c.loop-at.invariant.led.2 in
+    let are = c.loop-at.invariant.led.3 in
     let at : ℕ = c.loop-at.at in
     let b : Burdens = c.args.burdens in
     let short = c.count-count.ensures.limits.events in
@@ -365,8 +376,9 @@ returns-clause-dag g c =
     let trace : Recording = c.args.trace.now in
     let n = c.loop-at.invariant.led.0 in
     let s : Seen = seen_with c.loop-at.counting n in
-    let ways = λ (on : Bool). ways_of on c.loop-at.ways in
-    let led = c.loop-at.invariant.led.1 in
+    let ways : Bool → List Ways = c.loop-at.invariant.led.1 in
+    let led = c.loop-at.invariant.led.2 in
+    let are = c.loop-at.invariant.led.3 in
     let at : ℕ = c.loop-at.at in
     let b : Burdens = c.args.burdens in
     let short = c.count-count.ensures.limits.events in
@@ -382,8 +394,9 @@ returns-clause-path g c =
     let trace : Recording = c.args.trace.now in
     let n = c.loop-at.invariant.led.0 in
     let s : Seen = seen_with c.loop-at.counting n in
-    let ways = λ (on : Bool). ways_of on c.loop-at.ways in
-    let led = c.loop-at.invariant.led.1 in
+    let ways : Bool → List Ways = c.loop-at.invariant.led.1 in
+    let led = c.loop-at.invariant.led.2 in
+    let are = c.loop-at.invariant.led.3 in
     let at : ℕ = c.loop-at.at in
     let b : Burdens = c.args.burdens in
     let short = c.count-count.ensures.limits.events in
@@ -392,15 +405,16 @@ returns-clause-path g c =
     let one : length s.frames ≡ 1 = omega (arith, c.depth-depth.ensures) in
     let e : Ended = c.finish-ended.result in
     let args = c.finish-ended.ensures in
-    path_is trace b short good at last s ways led one e args false c.in_ok-path.path c.in_ok-path.ensures
+    path_is trace b short good at last s ways led one e args false c.in_ok-path.path (c.in_ok-path.ensures (ways false) (are false))
 
 pub returns-clause-burdened_path : goal.returns-clause-burdened_path
 returns-clause-burdened_path g c =
     let trace : Recording = c.args.trace.now in
     let n = c.loop-at.invariant.led.0 in
     let s : Seen = seen_with c.loop-at.counting n in
-    let ways = λ (on : Bool). ways_of on c.loop-at.ways in
-    let led = c.loop-at.invariant.led.1 in
+    let ways : Bool → List Ways = c.loop-at.invariant.led.1 in
+    let led = c.loop-at.invariant.led.2 in
+    let are = c.loop-at.invariant.led.3 in
     let at : ℕ = c.loop-at.at in
     let b : Burdens = c.args.burdens in
     let short = c.count-count.ensures.limits.events in
@@ -409,15 +423,16 @@ returns-clause-burdened_path g c =
     let one : length s.frames ≡ 1 = omega (arith, c.depth-depth.ensures) in
     let e : Ended = c.finish-ended.result in
     let args = c.finish-ended.ensures in
-    path_is trace b short good at last s ways led one e args true c.in_ok-burdened_path.burdened_path c.in_ok-burdened_path.ensures
+    path_is trace b short good at last s ways led one e args true c.in_ok-burdened_path.burdened_path (c.in_ok-burdened_path.ensures (ways true) (are true))
 
 pub returns-clause-profile : goal.returns-clause-profile
 returns-clause-profile g c =
     let trace : Recording = c.args.trace.now in
     let n = c.loop-at.invariant.led.0 in
     let s : Seen = seen_with c.loop-at.counting n in
-    let ways = λ (on : Bool). ways_of on c.loop-at.ways in
-    let led = c.loop-at.invariant.led.1 in
+    let ways : Bool → List Ways = c.loop-at.invariant.led.1 in
+    let led = c.loop-at.invariant.led.2 in
+    let are = c.loop-at.invariant.led.3 in
     let at : ℕ = c.loop-at.at in
     let b : Burdens = c.args.burdens in
     let short = c.count-count.ensures.limits.events in
@@ -428,4 +443,4 @@ returns-clause-profile g c =
     let args = c.finish-ended.ensures in
     let t = told trace b short good at last s ways led one e args in
     whole trace b (record { figures = e.figures; dag = e.dag; path = c.in_ok-path.path; burdened_path = c.in_ok-burdened_path.burdened_path }) t.figures t.dag
-    (path_is trace b short good at last s ways led one e args false c.in_ok-path.path c.in_ok-path.ensures) (path_is trace b short good at last s ways led one e args true c.in_ok-burdened_path.burdened_path c.in_ok-burdened_path.ensures)
+    (path_is trace b short good at last s ways led one e args false c.in_ok-path.path (c.in_ok-path.ensures (ways false) (are false))) (path_is trace b short good at last s ways led one e args true c.in_ok-burdened_path.burdened_path (c.in_ok-burdened_path.ensures (ways true) (are true)))
