@@ -14,6 +14,7 @@ use spp_event::Trace;
 use spp_frame::ProfileFault;
 use spp_report::{Named, csv_text, plain_text};
 use spp_request::Request;
+use spp_serial::profile_serial;
 use spp_site::Profile;
 use std::alloc::{AllocError, Global};
 use std::sync::Wait;
@@ -43,9 +44,15 @@ pub(crate) fn profile_or_refuse<R: Threads + Wait + Sync>(
     ensures small { IfOk result (λ p. p.figures.work < 2 ^ 92) }
     ensures line { IfErr result (λ refusal. IfLine refusal (IsFirstBadLine trace.now.records)) }
 {
-    let cut = cut_even(alloc, trace, request.parts)?;
     let workers = request.workers.number();
-    match profile(rt, alloc, &cut, workers, request.burdens, &OpenGate) {
+    // One worker reads the events once; several share the parts of the trace in three rounds.
+    let profiled = if workers == 1 {
+        profile_serial(alloc, trace, request.burdens)
+    } else {
+        let cut = cut_even(alloc, trace, request.parts)?;
+        profile(rt, alloc, &cut, workers, request.burdens, &OpenGate)
+    };
+    match profiled {
         Ok(profile) => Ok(profile),
         Err(ProfileFault::Bad(fault)) => Err(refusal_of_event(alloc, fault)),
         Err(ProfileFault::Memory) => Err(Refusal::Memory),

@@ -157,7 +157,10 @@ impl Log {
     pub(crate) fn cut(&mut self, to: u32)
         ensures { self.new.rows.items ≡ take to self.old.rows.items }
     {
-        self.rows.truncate(to as usize);
+        let to = to as usize;
+        if self.rows.len() > to {
+            self.rows.truncate(to);
+        }
     }
 
     /// Puts a row behind the others, and gives the number of rows then.
