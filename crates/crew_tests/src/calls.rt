@@ -130,6 +130,23 @@ pub(crate) fn stacks_of<R: Threads + Wait + Sync>(
 ) -> Result<Entries, ProfileFault>
     ensures { IfOk result (λ stacks. AreEntriesOf cut.now THREE stacks) }
 {
-    let found = survey(rt, alloc, cut, crew.workers(), THREE, &OpenGate)?;
+    stacks_under(rt, alloc, cut, crew, THREE)
+}
+
+/// The same under these burdens.
+///
+/// # Errors
+///
+/// The first bad event, or want of memory.
+pub(crate) fn stacks_under<R: Threads + Wait + Sync>(
+    rt: &R,
+    alloc: Global,
+    cut: &Cut<'_, '_>,
+    crew: Crew,
+    burdens: Burdens,
+) -> Result<Entries, ProfileFault>
+    ensures { IfOk result (λ stacks. AreEntriesOf cut.now burdens stacks) }
+{
+    let found = survey(rt, alloc, cut, crew.workers(), burdens, &OpenGate)?;
     Ok(entries_of(alloc, cut, &found.summaries)?)
 }

@@ -20,6 +20,8 @@ mod gates;
 #[cfg(test)]
 mod orders;
 #[cfg(test)]
+mod parts;
+#[cfg(test)]
 mod rounds;
 #[cfg(test)]
 mod settled;

@@ -6,10 +6,6 @@ mod frame;
 #[cfg(test)]
 mod maxplus;
 #[cfg(test)]
-mod pass;
-#[cfg(test)]
-mod path;
-#[cfg(test)]
 mod reference;
 #[cfg(test)]
 mod serial;
@@ -17,5 +13,7 @@ mod serial;
 mod site;
 #[cfg(test)]
 mod summary;
+#[cfg(test)]
+mod ways;
 #[cfg(test)]
 mod worked;

@@ -1,5 +1,5 @@
--- What a pass over a part of a run has, besides the pass over the whole: frames that were open before it, of which
--- those that it hasn't come to lie outside, and the strands of those that it leaves open.
+-- What a pass over a part of a run has of the frames that were open before it, of which those that it hasn't come to lie
+-- outside, and the strands of those that it leaves open.
 use Rattle.std.specs.Prelude.{◌≡◌, ℕ, suc, ◌<◌, ◌≤◌, Bool, not, cond, List, [], ◌∷◌, ◌++◌, length, Option, Some, None}
 use Rattle.std.specs.List.{AllByRecursion}
 use Rattle.spp_event.specs.declared.records.Event.{Event}

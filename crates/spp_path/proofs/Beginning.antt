@@ -1,6 +1,8 @@
 -- How the pass that sums up the rows of a path begins where a part of the run begins: the path enters some of the frames
 -- that are open there, and of these the pass has the innermost.
-use Rattle.std.proofs.Common.{◌≡◌, ℕ, suc, ◌+◌, ◌≤◌, Bool, true, false, not, List, [], ◌∷◌, ◌++◌, length, map, Option, refl, sym, ap, ap₂, subst, ◌∙◌, arith}
+use Rattle.std.proofs.Common.{◌≡◌, ℕ, suc, ◌+◌, ◌≤◌, Bool, true, false, not, List, [], ◌∷◌, ◌++◌, length, map, Option, Some, None, unwrap_or, refl, sym, ap, ap₂, subst, ◌∙◌, arith}
+use Rattle.std.specs.FinMap as map
+use Rattle.std.specs.Ordering.{nat_cmp}
 use Rattle.std.proofs.lemmas.List.{length-append}
 use Rattle.spp_event.specs.declared.records.Event.{Event}
 use Rattle.spp_maxplus.specs.declared.state.Burdens.{Burdens}
@@ -16,6 +18,7 @@ use Rattle.spp_dag.specs.Shares.{plus, zero_row}
 use Rattle.spp_dag.specs.Steps.{has_site, has_func, key_of, same_key}
 use Rattle.spp_dag.proofs.OpenEntries.{AreOpen}
 use Rattle.spp_dag.proofs.Shares.{shares_law}
+use Rattle.spp_site.specs.Profiles.{key_row}
 use Rattle.spp_site.specs.Table.{empty}
 use Rattle.spp_site.proofs.Rows.{zero-plus}
 use Rattle.spp_site.proofs.RowSums.{doubled, none_owed, Low, low_zero}
@@ -23,10 +26,13 @@ use Rattle.spp_path.specs.declared.rows.EnteredFrame.{EnteredFrame}
 use Rattle.spp_path.specs.Flags.{AreFlags, is_called, flags_of, flags_within, flags_under}
 use Rattle.spp_path.specs.Outside.{path_frame, path_frames, IsBegun}
 use Rattle.spp_path.specs.Rows.{Told}
-use Rattle.spp_path.proofs.Finishing.{empty_rows}
 use Rattle.spp_path.proofs.Ordered.{AreTops, Ordered, ordered}
 use Rattle.spp_path.proofs.Places.{PathFrame, Place, AreMarked, AllBeside, AllEntered, Falls, entries}
 use Rattle.spp_path.proofs.Summed.{Summed, summed, owed, on, shown, shares_to}
+
+empty_rows : (key : Option ℕ) → key_row empty key ≡ zero_row
+empty_rows None = refl
+empty_rows (Some s) = ap (λ o. unwrap_or o zero_row) (map.get-empty nat_cmp s)
 
 -- frames outside stand below those that the pass has
 abbrev pub with_outside : List EnteredFrame → Told → Told

@@ -9,9 +9,7 @@ use Rattle.spp_event.specs.declared.records.Event.{Event}
 use Rattle.spp_maxplus.specs.declared.state.Burdens.{Burdens}
 use Rattle.spp_dag.specs.Trace.{event_at, spawns, IsWellFormed, partner, owner, join}
 use Rattle.spp_dag.specs.Dag.{On, IsPath}
-use Rattle.spp_dag.specs.ChoiceLists.{AreRising, AreEnds, AreJoins}
-use Rattle.spp_dag.specs.declared.choices.End.{End}
-use Rattle.spp_dag.specs.declared.choices.Choice.{Choice}
+use Rattle.spp_dag.specs.ChoiceLists.{AreRising}
 use Rattle.spp_dag.proofs.Depth.{closed, inside_opens}
 use Rattle.spp_dag.proofs.Upper.{spawns_opens}
 use Rattle.spp_dag.proofs.Crossing.{nested, within_owner, owned, join_spec, join_within}
@@ -20,7 +18,7 @@ use Rattle.spp_path.specs.declared.settling.WayBack.{WayBack}
 use Rattle.spp_path.specs.declared.settling.Onward.TheVariants.{Live}
 use Rattle.spp_path.specs.Entered.{AreEnteredIn}
 use Rattle.spp_path.specs.Settling.{last, IsEntering, IsLeft, IsLeaving}
-use Rattle.spp_path.specs.Ways.{Says, IsFound, AreFound, AreNotesIn, HasCome}
+use Rattle.spp_path.specs.Ways.{Says, IsFound, AreFound, HasCome}
 use Rattle.spp_path.proofs.Passing.{clear, clear_opening, passes_clear, passes_after}
 use Rattle.spp_path.proofs.Modes.{says_first}
 use Rattle.spp_path.proofs.Rising.{contains_cases, contains_none, contains_reverse, contains_reversed, rising_both, rising_left, rising_right, rising_parts, below_last}
@@ -254,26 +252,3 @@ module _ (es : List Event) (wf : IsWellFormed es) (bd : Burdens) (ps : List ℕ)
     no_ends = λ u t x. omega arith;
     no_joins = λ u t on x. omega arith;
   }
-
--- the choices of a whole run are those of the range of all its positions, and of the end
-pub whole_notes : (es : List Event) (bd : Burdens) → IsWellFormed es → (ends : List End) (joins : List Choice) → AreEnds es ends → AreJoins es bd joins → AreNotesIn es bd 0 (suc (length es)) ends joins
-whole_notes es bd wf ends joins a b = record {
-  rising = (let z : 0 ≤ suc (length es) = omega arith in z);
-  are_ends = record {
-    rise = a.rise;
-    are = λ e. (
-      (λ c.
-          let is = (a.are e).0 c in
-          let k = (closed es wf e.spawn (spawns_opens (event_at es e.spawn) is.0)).within in
-          (is, ((let z : 0 ≤ e.at = omega arith in z), (let z : e.at < suc (length es) = omega (arith, is.1) in z)))),
-      (λ x. (a.are e).1 x.0),
-    );
-  };
-  are_joins = record {
-    rise = b.rise;
-    are = λ j. (
-      (λ c. let is = (b.are j).0 c in (is, ((let z : 0 ≤ j.at = omega arith in z), (let z : j.at < suc (length es) = (let y = is.0 in omega arith) in z)))),
-      (λ x. (b.are j).1 x.0),
-    );
-  };
-}

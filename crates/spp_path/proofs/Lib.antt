@@ -21,7 +21,6 @@ pub mod Events
 pub mod Summed
 pub mod Sites
 pub mod Summing
-pub mod Finishing
 pub mod EnteredLists
 pub mod PathPass
 pub mod Tops

@@ -10,7 +10,7 @@ use Rattle.spp_path.specs.declared.spans.OpenSpan.{OpenSpan}
 use Rattle.spp_path.specs.Trails.{runs}
 use Rattle.spp_path.specs.Rows.{Told, strand_told, enter_told, onward_told, leave_told, OnTop, IsOpen, CanAdd, CanReturn, IsReturned}
 use Rattle.spp_path.specs.Spans as lean
-use Rattle.spp_path.specs.Spans.{HasOpen, CanRun, OnBelow, strand_spans, sync_spans, open_spans, return_spans}
+use Rattle.spp_path.specs.Spans.{HasOpen, CanRun, OnBelow}
 use Rattle.spp_path.proofs.Beginning.{with_outside}
 use Rattle.spp_path.proofs.Events.{StrandDone, SyncDone, CallDone, SpawnDone}
 use Rattle.spp_path.proofs.OpenWeights.{after_event, top_close}

@@ -29,7 +29,7 @@ use Rattle.spp_dag.proofs.Steps.{entry_follows}
 use Rattle.spp_dag.proofs.StepsFrames.{run_next}
 use Rattle.spp_path.specs.declared.spans.OpenSpan.{OpenSpan}
 use Rattle.spp_path.specs.Outside.{entered_span}
-use Rattle.spp_path.specs.Spans.{OnTop, OnBelow, HasOpen, CanRun, CanReturn, open_span, strand_spans, sync_spans, open_spans, returned_weights, return_spans}
+use Rattle.spp_path.specs.Spans.{OnTop, OnBelow, CanRun, CanReturn, strand_spans, sync_spans, open_spans, returned_weights, return_spans}
 
 -- the weight with which the innermost frame closes
 abbrev pub top_close : List OpenSpan → ℕ
@@ -163,11 +163,6 @@ module _ (es : List Event) (wf : IsWellFormed es) (root : ℕ) (eb : Burdens) (i
       by n None = omega arith
       by n (Some c) = omega arith
 
-  pub can_open : (s : List OpenSpan) → i ≤ length es → Standing es root eb i s → HasOpen s
-  can_open s l h =
-      let o = first_open h.frames h.work l h.entry in
-      subst HasOpen (sym (h.are ∙ ap (λ (fs : List EntryFrame). map entered_span fs) o.2)) tt
-
   pub can_run : (n : ℕ) (s : List OpenSpan) → i ≤ length es → IsSmall es → n < 2 ^ 64 → Standing es root eb i s → OnTop (CanRun n) s
   can_run n s l small short h =
       let o = first_open h.frames h.work l h.entry in
@@ -187,12 +182,3 @@ module _ (es : List Event) (wf : IsWellFormed es) (root : ℕ) (eb : Burdens) (i
       let kept = close_kept o.0.state in
       let fits : o.1.state.spine + close (weights_of o.0.state) < 2 ^ 128 = omega arith in
       subst (λ (x : List OpenSpan). OnBelow (CanReturn (top_close x)) x) (sym (h.are ∙ ap (λ (fs : List EntryFrame). map entered_span fs) o.3)) fits
-
--- before the first event the root is open
-pub standing_first : (es : List Event) (root : ℕ) (eb : Burdens) (s : List OpenSpan) → s ≡ open_span Root ∷ [] → Standing es root eb 0 s
-standing_first es root eb s e = record {
-  frames = entry_frame es root (root_frame root) ∷ [];
-  work = 0;
-  entry = (root_frame root ∷ [], refl, refl, refl);
-  are = e;
-}

@@ -24,7 +24,7 @@ use Rattle.spp_path.specs.Parts.{GoesIn}
 use Rattle.spp_path.specs.Rows.{Told, OnTop, IsOpen, CanAdd, CanReturn, IsRead}
 use Rattle.spp_path.specs.Trails.{CanSkip}
 use Rattle.spp_path.specs.Spans as lean
-use Rattle.spp_path.specs.Spans.{HasOpen, CanRun, OnBelow, return_spans}
+use Rattle.spp_path.specs.Spans.{HasOpen, CanRun, OnBelow}
 use Rattle.spp_path.proofs.Beginning.{with_outside, begun_summed}
 use Rattle.spp_path.proofs.Events.{StrandDone, SyncDone, CallDone, SpawnDone}
 use Rattle.spp_path.proofs.Lifted.{strand_lifted, call_lifted, spawn_lifted, sync_lifted, Returned, return_lifted, can_add_below, can_return_below, top_same, event_lifted, can_run_below, can_close_below}

@@ -1,41 +1,36 @@
 -- The pass over a trace that is known to be well-formed: before each event it has the rows so far, and the weights of the
 -- open frames.
-use Rattle.std.proofs.Common.{◌≡◌, ℕ, suc, ◌<◌, ◌≤◌, ◌^◌, false, List, ◌∷◌, [], length, Some, Ok, refl, sym, ap, subst, ◌∙◌, arith}
+use Rattle.std.proofs.Common.{◌≡◌, ℕ, suc, ◌<◌, ◌≤◌, ◌^◌, false, List, length, Some, Ok, refl, sym, ap, subst, ◌∙◌, arith}
 use Rattle.std.proofs.lemmas.List.{length-map}
 use Rattle.spp_event.specs.declared.records.Event.{Event}
 use Rattle.spp_event.specs.declared.records.Event.TheVariants.{Strand, Call, Spawn, Ret, Sync}
-use Rattle.spp_event.specs.Recordings.{Record, Recording, InLimits, AreEventsOf}
+use Rattle.spp_event.specs.Recordings.{Record, Recording, AreEventsOf}
 use Rattle.spp_frame.specs.Nesting as nesting
 use Rattle.spp_frame.specs.Nesting.{AreEvents}
 use Rattle.spp_frame.proofs.Laws.{well_formed_are_events}
 use Rattle.spp_maxplus.specs.declared.state.Burdens.{Burdens}
 use Rattle.spp_maxplus.specs.State.{unburdened}
-use Rattle.spp_dag.specs.declared.stack.FrameKind.TheVariants.{Root}
 use Rattle.spp_dag.specs.Trace.{spawns, IsWellFormed}
 use Rattle.spp_dag.specs.Dag.{IsPath}
 use Rattle.spp_dag.specs.Limits.{IsSmall}
 use Rattle.spp_dag.specs.Rows.{AreSpans}
-use Rattle.spp_dag.specs.Shares.{plus}
 use Rattle.spp_dag.proofs.EventsOfRecords.{event_is, known_small}
 use Rattle.spp_dag.proofs.Profiles.{spans_law}
 use Rattle.spp_dag.proofs.Ties.{path_exists}
-use Rattle.spp_site.specs.Table.{Sums}
-use Rattle.spp_site.specs.Profiles.{IsPathTable}
 use Rattle.spp_path.specs.declared.rows.EnteredFrame.{EnteredFrame}
 use Rattle.spp_path.specs.declared.spans.OpenSpan.{OpenSpan}
 use Rattle.spp_path.specs.Entered.{AreEnteredIn, is_next, left_after}
 use Rattle.spp_path.specs.Spans as lean
-use Rattle.spp_path.specs.Spans.{open_span, HasOpen, CanRun, OnBelow}
+use Rattle.spp_path.specs.Spans.{CanRun, OnBelow}
 use Rattle.spp_path.specs.Trails.{CanSkip}
-use Rattle.spp_path.specs.Rows.{Told, entered_row, start_told, leave_told, OnTop, IsOpen, CanAdd, CanReturn, CanFinish, IsReturned, IsRead}
-use Rattle.spp_path.proofs.OpenWeights.{Standing, standing_first, standing_next, after_event, top_close, ClosesIn, closing_is, can_open, can_run, can_return as can_return_span, close_fits}
+use Rattle.spp_path.specs.Rows.{Told, leave_told, OnTop, CanAdd, CanReturn, IsReturned, IsRead}
+use Rattle.spp_path.proofs.OpenWeights.{Standing, standing_next, after_event, top_close, ClosesIn, closing_is, can_run, can_return as can_return_span, close_fits}
 use Rattle.spp_path.proofs.Running.{entered_on}
 use Rattle.spp_path.proofs.EnteredLists.{past_other, next_is, left_is}
 use Rattle.spp_path.proofs.Sites.{trace_enters}
 use Rattle.spp_path.proofs.Events.{StrandDone, SyncDone, CallDone, SpawnDone, HasFirst}
 use Rattle.spp_path.proofs.Summed.{Summed, strand_next, sync_next, call_next, spawn_next, return_next}
 use Rattle.spp_path.proofs.Summing.{can_add, can_skip, has_first, can_return}
-use Rattle.spp_path.proofs.Finishing.{start_summed, can_finish, finished}
 
 -- before the event at i the pass, which began at `from`, has t, for each path of which P is so; the machine bears the
 -- burdens `eb`
@@ -52,20 +47,9 @@ Weighed trace eb i s = (es : List Event) → AreEvents trace.records es → Stan
 abbrev pub Left : Recording → (List Event → Burdens → Type 0) → ℕ → ℕ → List ℕ → Type 0
 Left trace P end i xs = (es : List Event) → AreEvents trace.records es → (bd : Burdens) → P es bd → AreEnteredIn es bd i end xs
 
--- the path enters these children, of all
-abbrev pub Enters : List ℕ → List Event → Burdens → Type 0
-Enters spawns es bd = AreEnteredIn es bd 0 (length es) spawns
-
 -- it is so of the path under these burdens
 abbrev pub IsRight : Recording → (List Event → Burdens → Type 0) → Burdens → Type 0
 IsRight trace P bd = (es : List Event) → AreEvents trace.records es → P es bd
-
-pub start_in : (trace : Recording) (eb : Burdens) (P : List Event → Burdens → Type 0) (t : Told) → t ≡ start_told trace.root → Kept trace eb 0 P 0 t
-start_in trace eb P t e es are wf span fs bd entered rest path =
-    subst (λ u. Summed es wf trace.root eb span fs bd rest path 0 0 u) (sym e) (start_summed es wf trace.root eb span fs bd rest path)
-
-pub start_weighed : (trace : Recording) (eb : Burdens) (s : List OpenSpan) → s ≡ open_span Root ∷ [] → Weighed trace eb 0 s
-start_weighed trace eb s e es are = standing_first es trace.root eb s e
 
 -- ---- the trace
 
@@ -75,9 +59,6 @@ pub record Known (trace : Recording) : Type 0 where
   pub short : length trace.records ≤ 268435456
   pub few : length trace.sites ≤ 65536
   pub events : AreEventsOf (length trace.sites) (length trace.funcs) trace.records
-
-pub known_of : (trace : Recording) → nesting.IsWellFormed trace.records → InLimits trace → AreEventsOf (length trace.sites) (length trace.funcs) trace.records → Known trace
-known_of trace formed limits events = record { formed = formed; short = limits.events; few = limits.sites; events = events }
 
 -- the events of a well-formed trace, the spans of its frames, and its path under some burdens
 pub record Given (trace : Recording) (bd : Burdens) : Type 0 where
@@ -116,11 +97,6 @@ module _ (trace : Recording) (known : Known trace) (eb : Burdens) (i : ℕ) wher
   module _ (s : List OpenSpan) (at : Weighed trace eb i s) where
     u : Given trace unburdened
     u = given trace unburdened known
-
-    pub ready_spans : i ≤ length trace.records → HasOpen s
-    ready_spans l =
-        let n = events_len trace u.es u.are in
-        can_open u.es u.wf trace.root eb i s (omega arith) (at u.es u.are)
 
     pub ready_run : (n : ℕ) → i < length trace.records → IsRead trace i (Strand n) → lean.OnTop (CanRun n) s
     ready_run n l r =
@@ -162,9 +138,6 @@ module _ (trace : Recording) (known : Known trace) (eb : Burdens) (i : ℕ) wher
 
     from_top : (Q : EnteredFrame → Type 0) → OnTop Q t.frames → Q first_in.0
     from_top Q h = subst (OnTop Q) first_in.1.1 h
-
-    pub ready_open : IsOpen t
-    ready_open = on_top (λ f. Unit {0}) tt
 
     pub next_strand : (n : ℕ) (new : Told) → i < length trace.records → IsRead trace i (Strand n) → StrandDone n t new → Kept trace eb from P (suc i) new
     next_strand n new l r d es are wf span fs bd entered rest path =
@@ -215,50 +188,6 @@ module _ (trace : Recording) (known : Known trace) (eb : Burdens) (i : ℕ) wher
           first_in.0 t new first_in.1 (at es are wf span fs bd entered rest path)
           (λ z. (from_top (λ f. CanReturn f v t) (can z)).deep) (λ z. from_top (λ f. IsReturned f v t new) (d.0 z), d.1)
 
--- ---- the end of a whole run
-
-module _ (trace : Recording) (known : Known trace) (eb : Burdens) (i : ℕ) (P : List Event → Burdens → Type 0) (b : Burdens) (right : IsRight trace P b) (t : Told) (at : Kept trace eb 0 P i t)
-    (o : List OpenSpan) (weighed : Weighed trace eb i o) (v : ℕ) (is_top : v ≡ top_close o) (last : i ≡ length trace.records) where
-  abbrev all : Given trace b
-  all = given trace b known
-
-  end : i ≡ length all.es
-  end = last ∙ events_len trace all.es all.are
-
-  abbrev begun : 0 ≤ i
-  begun = omega arith
-
-  abbrev top : (f : EnteredFrame) × HasFirst f t
-  top = first_in trace known eb i 0 begun P b right t at
-
-  closes_so : ClosesIn all.es trace.root eb (length all.es) v
-  closes_so = subst (λ k. ClosesIn all.es trace.root eb k v) end (closes trace known eb i 0 begun P b right t at o weighed v is_top all.es all.are all.wf (let z = end in omega arith))
-
-  summed : Summed all.es all.wf trace.root eb all.span all.fs b all.rest all.path 0 (length all.es) t
-  summed = subst (λ k. Summed all.es all.wf trace.root eb all.span all.fs b all.rest all.path 0 k t) end (here trace known eb i 0 begun P b right t at)
-
-  pub ready_finish : OnTop (λ f. CanFinish f v t) t.frames
-  ready_finish =
-      let z = end in
-      on_top trace known eb i 0 begun P b right t at (λ f. CanFinish f v t)
-      (can_finish all.es all.wf trace.root eb all.span all.fs b all.rest all.path (let n = events_len trace all.es all.are in let y = known.short in omega arith) v
-      closes_so (light trace known eb i 0 begun P b right t at o weighed v is_top (omega arith)) top.0 t top.1 summed)
-
-  pub finished_in : (x : Sums) → OnTop (λ f. x ≡ record t.table { root = plus t.table.root (entered_row f t.work v) }) t.frames → IsPathTable trace b x
-  finished_in x e =
-      subst (λ y. IsPathTable trace b y) (sym (from_top trace known eb i 0 begun P b right t at (λ f. x ≡ record t.table { root = plus t.table.root (entered_row f t.work v) }) e)) (
-        known.formed,
-        (
-          all.es,
-          all.are,
-          (
-            all.span,
-            all.fs,
-            (all.rest, all.path, finished all.es all.wf trace.root eb all.span all.fs b all.rest all.path v closes_so top.0 t top.1 summed),
-          ),
-        ),
-      )
-
 -- ---- the spawns that are left
 
 module _ (trace : Recording) (P : List Event → Burdens → Type 0) (end i : ℕ) (xs : List ℕ) (left : Left trace P end i xs) where
@@ -267,6 +196,3 @@ module _ (trace : Recording) (P : List Event → Burdens → Type 0) (end i : �
 
   pub next_taken : i < end → Left trace P end (suc i) (left_after i xs)
   next_taken l es are bd p = left_is es bd end i xs l (left es are bd p)
-
-pub start_left : (trace : Recording) (spawns : List ℕ) → Left trace (Enters spawns) (length trace.records) 0 spawns
-start_left trace spawns es are bd p = subst (λ n. AreEnteredIn es bd 0 n spawns) (sym (events_len trace es are)) p

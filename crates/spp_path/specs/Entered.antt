@@ -1,8 +1,6 @@
 -- The spawned children that the path of a run under some burdens enters.
 use Rattle.std.specs.Prelude.{◌≡◌, ℕ, suc, ◌↔◌, Bool, true, false, cond, nat_eq, List, [], ◌∷◌, length, Contains}
 use Rattle.spp_event.specs.declared.records.Event.{Event}
-use Rattle.spp_event.specs.Recordings.{Recording}
-use Rattle.spp_frame.specs.Nesting.{AreEvents}
 use Rattle.spp_maxplus.specs.declared.state.Burdens.{Burdens}
 use Rattle.spp_dag.specs.Trace.{event_at, spawns}
 use Rattle.spp_dag.specs.Dag.{IsPath, On}
@@ -17,10 +15,6 @@ IsEntered es burdens s = (spawns (event_at es s) ≡ true)
 pub record AreEnteredIn (es : List Event) (burdens : Burdens) (from end : ℕ) (spawns : List ℕ) : Type 0 where
   pub rise : AreRising spawns
   pub are : (s : ℕ) → Contains spawns s ↔ (IsEntered es burdens s × IsWithin from end s)
-
--- those of the whole run whose trace this is
-abbrev pub AreEnteredOf : Recording → Burdens → List ℕ → Type 0
-AreEnteredOf trace burdens spawns = (es : List Event) → AreEvents trace.records es → AreEnteredIn es burdens 0 (length es) spawns
 
 -- the spawn is the next of a list
 abbrev pub is_next : ℕ → List ℕ → Bool

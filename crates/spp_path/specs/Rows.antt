@@ -1,14 +1,13 @@
 -- What the pass that sums up the rows of the path has between two events, and what each event does to it.
-use Rattle.std.specs.Prelude.{◌≡◌, ℕ, ◌+◌, ◌-◌, ◌<◌, ◌≤◌, ◌^◌, Bool, true, false, not, cond, List, [], ◌∷◌, length, reverse, Ok}
+use Rattle.std.specs.Prelude.{◌≡◌, ℕ, ◌+◌, ◌-◌, ◌<◌, ◌≤◌, ◌^◌, Bool, not, cond, List, [], ◌∷◌, length, reverse, Ok}
 use Rattle.spp_event.specs.declared.records.Event.{Event}
 use Rattle.spp_event.specs.Records.{IsEventOf}
 use Rattle.spp_event.specs.Recordings.{Recording, record_at}
 use Rattle.spp_dag.specs.declared.row.Row.{Row}
 use Rattle.spp_dag.specs.declared.stack.FrameKind.{FrameKind}
-use Rattle.spp_dag.specs.declared.stack.FrameKind.TheVariants.{Root}
 use Rattle.spp_dag.specs.Shares.{plus}
 use Rattle.spp_site.specs.Rows.{Fits}
-use Rattle.spp_site.specs.Table.{Sums, row_at, empty, IsAdded}
+use Rattle.spp_site.specs.Table.{Sums, row_at, IsAdded}
 use Rattle.spp_site.specs.Marks.{is_marked, with_mark, without}
 use Rattle.spp_path.specs.declared.trail.Trail.{Trail}
 use Rattle.spp_path.specs.Flags.{is_called}
@@ -56,26 +55,6 @@ entered_row f work span = record {
   caller_count = cond f.top_caller 1 0;
   caller_work = cond f.top_caller (work - f.work_before) 0;
   caller_span = cond f.top_caller span 0;
-}
-
--- before the first event the root frame is open, which runs `root`, and the path is in it
-abbrev pub start_told : ℕ → Told
-start_told root = record {
-  frames = record {
-    site = 0;
-    func = root;
-    top_site = true;
-    top_caller = true;
-    top_func = true;
-    kind = Root;
-    work_before = 0;
-    local = 0;
-  } ∷ [];
-  trail = record { skipped = 0; running = true };
-  open_sites = λ site. false;
-  open_funcs = with_mark root (λ func. false);
-  work = 0;
-  table = empty;
 }
 
 -- ---- a strand, and a sync
@@ -164,13 +143,6 @@ pub record IsReturned (f : EnteredFrame) (span : ℕ) (old new : Told) : Type 0 
   pub open_funcs : new.open_funcs ≡ without f.top_func f.func old.open_funcs
   pub work : new.work ≡ old.work
   pub table : IsAdded old.table new.table f.site (entered_row f old.work span)
-
--- ---- the end
-
--- the frame f can close last, with that span
-pub record CanFinish (f : EnteredFrame) (span : ℕ) (t : Told) : Type 0 where
-  pub work_before : f.work_before ≤ t.work
-  pub row : Fits (plus t.table.root (entered_row f t.work span))
 
 -- ---- what is read
 

@@ -26,7 +26,6 @@ ghost use Rattle.spp_path.specs.Trails.{runs, CanSkip};
 ghost use Rattle.spp_path.specs.Rows.{
   told,
   entered_row,
-  start_told,
   strand_told,
   beside_told,
   enter_told,
@@ -37,7 +36,6 @@ ghost use Rattle.spp_path.specs.Rows.{
   IsOpen,
   CanAdd,
   CanReturn,
-  CanFinish,
   IsReturned,
 };
 
@@ -142,33 +140,6 @@ pub(crate) struct PathRows {
 }
 
 impl PathRows {
-    /// The pass before the first event, where the root frame runs `root`.
-    pub(crate) fn new(alloc: Global, root: u32) -> Result<Self, AllocError>
-        ensures { IfOk result (λ s. told s ≡ start_told root) }
-    {
-        let mut open_funcs = Marks::new(alloc);
-        open_funcs.add(root)?;
-        let mut frames = Vec::new(alloc);
-        frames.push(EnteredFrame {
-            site: 0,
-            func: root,
-            top_site: true,
-            top_caller: true,
-            top_func: true,
-            kind: FrameKind::Root,
-            work_before: 0,
-            local: 0,
-        })?;
-        Ok(PathRows {
-            frames,
-            trail: Trail::new(0, true),
-            open_sites: Marks::new(alloc),
-            open_funcs,
-            work: 0,
-            table: Table::new(alloc),
-        })
-    }
-
     /// The pass before the first event of a part, where the path enters these open frames and goes on so. It has come to
     /// the innermost of them; the others are outside.
     pub(crate) fn within(alloc: Global, live: &Entry<'_>, trail: Trail) -> Result<Self, AllocError>
@@ -311,21 +282,6 @@ impl PathRows {
         self.trail.resume(child.kind);
         self.frames.truncate(last);
         Ok(())
-    }
-
-    /// The table, where the last open frame, the root, closes with that span.
-    pub(crate) fn finish(self, span: u128) -> Table
-        requires { OnTop (λ f. CanFinish f span (told self)) (told self).frames }
-        ensures { OnTop (λ f. result ≡ record self.table { root = plus self.table.root (entered_row f self.work span) }) (told self).frames }
-    {
-        let root = self.frames[self.frames.len() - 1];
-        let PathRows {
-            mut table,
-            work,
-            ..
-        } = self;
-        table.add_root(&root.closed(work, span).row());
-        table
     }
 
     /// The share of a part, at whose end these frames are open. The strands of those that are still open are in their

@@ -4,7 +4,6 @@ ghost use Rattle.std.specs.Prelude.{◌≡◌, ◌≤◌, ℕ, suc, List, length
 ghost use Rattle.spp_event.specs.declared.records.Event.{Event};
 ghost use Rattle.spp_dag.specs.Trace.{IsWellFormed};
 ghost use Rattle.spp_dag.specs.Dag.{IsPath};
-ghost use Rattle.spp_dag.specs.ChoiceLists.{AreEnds, AreJoins};
 ghost use Rattle.spp_maxplus.specs.declared.state.Burdens.{Burdens};
 ghost use Rattle.spp_path.specs.Entered.{AreEnteredIn};
 ghost use Rattle.spp_path.specs.Ways.{HasCome, AreNotesIn};
@@ -235,19 +234,4 @@ impl WayBack {
         behind.reverse();
         Ok(behind)
     }
-}
-
-/// Where the spawned children of a run that a path enters are spawned, rising, told by the returns of its spawned children
-/// and the choices of that path where they join, at the end of the run too. It goes over the choices once, from the last
-/// to the first; it takes time linear in their number, and memory for the children that are entered.
-///
-/// # Errors
-///
-/// Where an allocation failed.
-pub fn settle_whole(alloc: Global, ends: &[End], joins: &[Choice]) -> Result<Vec<u32>, AllocError>
-    ensures { IfOk result (λ spawns. (es : List Event) (burdens : Burdens) → IsWellFormed es → AreEnds es ends.now → AreJoins es burdens joins.now → AreEnteredIn es burdens 0 (length es) spawns.items) }
-{
-    let mut way = WayBack::new(alloc);
-    way.back_over(ends, joins, Pace::Each)?;
-    way.finish()
 }

@@ -86,15 +86,6 @@ pub(crate) struct OpenSpans {
 }
 
 impl OpenSpans {
-    /// The root frame alone, before the first event.
-    pub(crate) fn new(alloc: Global) -> Result<Self, AllocError>
-        ensures { IfOk result (λ s. spans s ≡ open_span Root ∷ []) }
-    {
-        let mut frames = Vec::new(alloc);
-        frames.push(OpenSpan::new(FrameKind::Root))?;
-        Ok(OpenSpans { frames })
-    }
-
     /// Of the frames that are open where a part begins the innermost alone; the others are outside.
     pub(crate) fn within(alloc: Global, entry: &Entry<'_>) -> Result<Self, AllocError>
         ensures { IfOk result (λ s. (f : FrameValue) (fs : List FrameValue) → HasFrames entry.now (f ∷ fs) → spans s ≡ entered_span f ∷ []) }
