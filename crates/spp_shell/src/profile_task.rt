@@ -1,7 +1,9 @@
 //! The task `profile`: the figures and tables of a run, by workers that share the parts of its trace, or its first fault.
 ghost use Rattle.std.specs.Prelude.{◌≡◌, ◌<◌, ◌^◌, [], ◌∷◌, IfOk, IfErr};
 ghost use Rattle.spp_shell.specs.Tasks.{IfLine};
+ghost use Rattle.spp_frame.specs.Answers.{IsFaultOf};
 ghost use Rattle.spp_frame.specs.Nesting.{IsWellFormed};
+ghost use Rattle.spp_dag.specs.Figures.{AreFigures};
 ghost use Rattle.spp_site.specs.Profiles.{IsProfileOf};
 ghost use Rattle.spp_shell.specs.Check.{IsCheckLine, IsFirstBadLine};
 ghost use Rattle.spp_shell.specs.Profiles.{IsProfileText, report_text};
@@ -32,6 +34,27 @@ fn report(alloc: Global, named: &Named<'_, '_>, csv: bool) -> Result<Vec<u8>, Al
     }
 }
 
+/// The profile of the run of a trace, or what is wrong first. One worker reads the events once; several share the parts of
+/// the trace, and read them in rounds.
+fn profiled<R: Threads + Wait + Sync>(
+    rt: &R,
+    alloc: Global,
+    request: &Request,
+    trace: &Trace<'_>,
+) -> Result<Profile, ProfileFault>
+    ensures figures { IfOk result (λ p. AreFigures trace.now.records request.now.burdens p.figures) }
+    ensures small { IfOk result (λ p. p.figures.work < 2 ^ 92) }
+    ensures profile { IfOk result (IsProfileOf trace.now request.now.burdens) }
+    ensures fault { IfErr result (λ f. IsFaultOf trace.now.records f) }
+{
+    let workers = request.workers.number();
+    if workers == 1 {
+        return profile_serial(alloc, trace, request.burdens);
+    }
+    let cut = cut_even(alloc, trace, request.parts)?;
+    profile(rt, alloc, &cut, workers, request.burdens, &OpenGate)
+}
+
 /// The profile of the run of a trace, or why there is none.
 pub(crate) fn profile_or_refuse<R: Threads + Wait + Sync>(
     rt: &R,
@@ -44,15 +67,7 @@ pub(crate) fn profile_or_refuse<R: Threads + Wait + Sync>(
     ensures small { IfOk result (λ p. p.figures.work < 2 ^ 92) }
     ensures line { IfErr result (λ refusal. IfLine refusal (IsFirstBadLine trace.now.records)) }
 {
-    let workers = request.workers.number();
-    // One worker reads the events once; several share the parts of the trace in three rounds.
-    let profiled = if workers == 1 {
-        profile_serial(alloc, trace, request.burdens)
-    } else {
-        let cut = cut_even(alloc, trace, request.parts)?;
-        profile(rt, alloc, &cut, workers, request.burdens, &OpenGate)
-    };
-    match profiled {
+    match profiled(rt, alloc, request, trace) {
         Ok(profile) => Ok(profile),
         Err(ProfileFault::Bad(fault)) => Err(refusal_of_event(alloc, fault)),
         Err(ProfileFault::Memory) => Err(Refusal::Memory),

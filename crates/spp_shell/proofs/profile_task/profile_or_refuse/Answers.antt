@@ -1,5 +1,4 @@
 use Rattle.std.proofs.Common.{subst}
-use Rattle.spp_event.specs.Recordings.{Recording}
 use Rattle.spp_frame.specs.Answers.{IsFaultOf}
 use Rattle.spp_frame.specs.declared.profile_fault.ProfileFault.{ProfileFault}
 use Rattle.spp_shell.specs.Check.{IsFirstBadLine}
@@ -8,6 +7,6 @@ use Rattle.spp_shell.proofs.profile_task.profile_or_refuse.Goals as goal
 
 pub returns-in-Err-Bad-clause-line : goal.returns-in-Err-Bad-clause-line
 returns-in-Err-Bad-clause-line g c =
-    let fault = subst (λ (t : Recording). IsFaultOf t.records c.in-Err-Bad.field-0) c.in_ok-cut.ensures.trace c.in-Err-Bad.ensures.fault in
+    let fault = c.in-Err-Bad.ensures.fault in
     let bad = subst (λ (f : ProfileFault). IsFaultOf c.args.trace.now.records f) c.in-Err-Bad.field-0-is fault in
     line_then _ _ (IsFirstBadLine c.args.trace.now.records) c.refusal_of_event.ensures (λ line is. (c.in-Err-Bad.fault, bad, is))
