@@ -19,16 +19,15 @@ use Rattle.spp_dag.specs.Stack.{run, root_frame}
 use Rattle.spp_dag.specs.Shares.{plus}
 use Rattle.spp_dag.specs.Laws.{Waits}
 use Rattle.spp_dag.specs.Choices.{IsEntry, entry_frame}
-use Rattle.spp_dag.proofs.Depth.{closed, inside}
+use Rattle.spp_dag.proofs.Depth.{inside}
 use Rattle.spp_dag.proofs.Profiles.{spans_law}
-use Rattle.spp_dag.proofs.Upper.{spawns_opens}
 use Rattle.spp_site.specs.Rows.{Fits}
 use Rattle.spp_site.specs.Table.{Sums, row_at}
 use Rattle.spp_dag.specs.declared.figures.Figures.{Figures}
 use Rattle.spp_dag.specs.Figures.{AreFigures}
 use Rattle.spp_dag.specs.declared.choices.End.{End}
 use Rattle.spp_dag.specs.declared.choices.Choice.{Choice}
-use Rattle.spp_dag.specs.ChoiceLists.{IsEnd, IsJoin, AreEnds, AreJoins, AreChoices}
+use Rattle.spp_dag.specs.ChoiceLists.{IsEnd, IsJoin}
 use Rattle.spp_dag.proofs.EventsOfRecords.{event_is}
 use Rattle.spp_pass.specs.declared.counted_frame.CountedFrame.{CountedFrame}
 use Rattle.spp_pass.specs.declared.counting.Ended.{Ended}

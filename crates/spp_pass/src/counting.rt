@@ -183,13 +183,7 @@ impl Counting {
     ///
     /// Where an allocation failed.
     #[inline(always)]
-    pub fn open(
-        &mut self,
-        kind: FrameKind,
-        at: u32,
-        site: u32,
-        func: u32,
-    ) -> Result<(), AllocError>
+    pub fn open(&mut self, kind: FrameKind, at: u32, site: u32, func: u32) -> Result<(), AllocError>
         requires { HasOpen (seen_with self.old no_notes) }
         ensures { OnOk result ((n : Notes) → seen_with self.new n ≡ open_seen kind at site func (seen_with self.old n)) }
     {
@@ -287,7 +281,9 @@ impl Counting {
     {
         let root = self.frames[self.frames.len() - 1];
         let Counting {
-            work, mut table, ..
+            work,
+            mut table,
+            ..
         } = self;
         let closed = root.closed(work);
         table.add_root(&closed.row());
@@ -310,7 +306,9 @@ impl Counting {
         ensures { IfOk result (λ share. IsShareSuspended (seen_with self no_notes) share) }
     {
         let Counting {
-            frames, mut table, ..
+            frames,
+            mut table,
+            ..
         } = self;
         for frame in &frames {
             frame.add_local(&mut table)?;

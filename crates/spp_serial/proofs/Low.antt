@@ -1,5 +1,5 @@
 -- The sums of ways are within bounds, whatever the events are.
-use Rattle.std.proofs.Common.{◌≡◌, ℕ, suc, ◌+◌, ◌-◌, ◌*◌, ◌≤◌, ◌<◌, ◌^◌, Bool, true, false, cond, List, [], ◌∷◌, Option, Some, refl, sym, ap, subst, ◌∙◌, arith}
+use Rattle.std.proofs.Common.{◌≡◌, ℕ, suc, ◌+◌, ◌-◌, ◌*◌, ◌≤◌, ◌<◌, ◌^◌, Bool, true, false, cond, List, [], ◌∷◌, Option, sym, ap, subst, ◌∙◌, arith}
 use Rattle.spp_maxplus.specs.State.{close}
 use Rattle.spp_dag.specs.declared.row.Row.{Row}
 use Rattle.spp_dag.specs.declared.stack.EntryFrame.{EntryFrame}
@@ -7,11 +7,10 @@ use Rattle.spp_dag.specs.declared.stack.FrameKind.{FrameKind}
 use Rattle.spp_dag.specs.declared.stack.FrameKind.TheVariants.{Root, Called, Spawned}
 use Rattle.spp_dag.specs.Shares.{plus, zero_row}
 use Rattle.spp_dag.specs.Steps.{same_key, strand_row, closed_row}
-use Rattle.spp_site.specs.Rows.{Fits}
 use Rattle.spp_site.proofs.Rows.{plus-zero}
 use Rattle.spp_site.proofs.RowSums.{Low, low_zero, low_plus, low_fits}
-use Rattle.spp_ways.specs.Ways.{Leaf, Way, Ways, no_ways, rows_at, way_on, way_through, closed_rows, returned_ways, strand_ways, waited_ways}
-use Rattle.spp_ways.specs.OpenWays.{FitStrand, FitTop, strand_list, waited_list, returned_list}
+use Rattle.spp_ways.specs.Ways.{Way, Ways, no_ways, rows_at, way_on, way_through, closed_rows, returned_ways}
+use Rattle.spp_ways.specs.OpenWays.{FitStrand, FitTop, strand_list, waited_list}
 use Rattle.spp_ways.proofs.Parts.{rows_at-append}
 
 -- the rows of the way have the sums of n frames and of r instructions of strands, at most, and no more than o of its own

@@ -1,6 +1,5 @@
 -- What the reading of a run keeps: what is counted of it, and the ways into its open frames.
 use Rattle.std.proofs.Common.{◌≡◌, ℕ, suc, ◌+◌, ◌*◌, ◌≤◌, ◌<◌, ◌^◌, Bool, true, false, cond, List, [], ◌∷◌, length, map, Some, None, Option, refl, sym, ap, ap₂, subst, ◌∙◌, arith}
-use Rattle.std.proofs.lemmas.List.{length-map}
 use Rattle.spp_event.specs.declared.records.Event.{Event}
 use Rattle.spp_event.specs.declared.records.Event.TheVariants.{Strand, Call, Spawn, Ret, Sync}
 use Rattle.spp_event.specs.Recordings.{Recording}
@@ -11,15 +10,15 @@ use Rattle.spp_maxplus.specs.Weights.{close}
 use Rattle.spp_dag.specs.declared.row.Row.{Row}
 use Rattle.spp_dag.specs.declared.stack.EntryFrame.{EntryFrame}
 use Rattle.spp_dag.specs.declared.stack.FrameKind.{FrameKind}
-use Rattle.spp_dag.specs.declared.stack.FrameKind.TheVariants.{Root, Called, Spawned}
-use Rattle.spp_dag.specs.Trace.{event_at, IsWellFormed}
+use Rattle.spp_dag.specs.declared.stack.FrameKind.TheVariants.{Called, Spawned}
+use Rattle.spp_dag.specs.Trace.{IsWellFormed}
 use Rattle.spp_dag.specs.Steps.{key_of, closed_row}
 use Rattle.spp_dag.specs.Choices.{IsEntry}
 use Rattle.spp_dag.proofs.EventsOfRecords.{event_is}
 use Rattle.spp_dag.proofs.Profiles.{spans_law}
 use Rattle.spp_dag.proofs.OpenEntries.{AreOpen}
 use Rattle.spp_ways.specs.declared.open_ways.OnPaths.{OnPaths}
-use Rattle.spp_ways.specs.Ways.{Leaf, Way, Ways, no_ways, way_on, closed_rows, returned_ways, state_on, burdens_on, takes, wins, outruns, ways_after, HasWays}
+use Rattle.spp_ways.specs.Ways.{Ways, no_ways, way_on, closed_rows, returned_ways, state_on, burdens_on, takes, wins, outruns, ways_after, HasWays}
 use Rattle.spp_ways.specs.OpenWays.{on_path, HasOne, HasTwo, FitStrand, FitTop, strand_list, waited_list, returned_list, bare_row}
 use Rattle.spp_serial.proofs.Low.{AreLow, are_more, none_low, strand_low, strand_fits, waited_low, return_low, top_fits}
 use Rattle.spp_pass.specs.declared.counted_frame.CountedFrame.{CountedFrame}

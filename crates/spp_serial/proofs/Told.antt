@@ -1,5 +1,5 @@
 -- What is told of a run that has been read to its end.
-use Rattle.std.proofs.Common.{◌≡◌, ℕ, ◌+◌, ◌≤◌, ◌<◌, ◌^◌, Bool, List, [], ◌∷◌, length, map, Option, None, refl, sym, ap, ap₂, subst, ◌∙◌, arith}
+use Rattle.std.proofs.Common.{◌≡◌, ℕ, ◌≤◌, Bool, List, [], ◌∷◌, length, map, Option, None, refl, sym, ap, ap₂, subst, ◌∙◌, arith}
 use Rattle.spp_event.specs.declared.records.Event.{Event}
 use Rattle.spp_event.specs.Recordings.{Record, Recording, AreEventsOf}
 use Rattle.spp_frame.specs.Nesting as nesting
@@ -18,13 +18,12 @@ use Rattle.spp_dag.proofs.Ties.{path_exists}
 use Rattle.spp_site.specs.Rows.{Fits}
 use Rattle.spp_site.specs.Table.{Sums}
 use Rattle.spp_site.specs.Profiles.{key_row, IsPathTable}
-use Rattle.spp_ways.specs.declared.open_ways.OnPaths.{OnPaths}
-use Rattle.spp_ways.specs.Ways.{Ways, rows_at, closed_rows, way_on, state_on, burdens_on, takes, HasWays}
+use Rattle.spp_ways.specs.Ways.{Ways, rows_at, closed_rows, way_on, burdens_on, HasWays}
 use Rattle.spp_ways.specs.OpenWays.{on_path, bare_row, root_rows}
 use Rattle.spp_ways.proofs.Rows.{ways_give_rows}
 use Rattle.spp_pass.specs.declared.counted_frame.CountedFrame.{CountedFrame}
 use Rattle.spp_pass.specs.declared.counting.Ended.{Ended}
-use Rattle.spp_pass.specs.Passes.{Seen, closed_of, takes_of, IsEnded}
+use Rattle.spp_pass.specs.Passes.{Seen, IsEnded}
 use Rattle.spp_pass.proofs.Bounded.{entries}
 use Rattle.spp_pass.proofs.Projected.{counted, AllNeat}
 use Rattle.spp_pass.proofs.Passed.{IsTold, is_told, events_len}

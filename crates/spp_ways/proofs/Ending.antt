@@ -1,18 +1,17 @@
 -- The way into the root frame, where it closes.
-use Rattle.std.proofs.Common.{◌≡◌, ℕ, ◌-◌, ◌≤◌, ◌<◌, Bool, true, false, cond, List, [], ◌∷◌, ◌++◌, length, map, reverse, get_or, Option, Some, None, refl, sym, ap, ap₂, subst, ◌∙◌, arith}
+use Rattle.std.proofs.Common.{◌≡◌, ℕ, ◌≤◌, ◌<◌, Bool, cond, List, [], ◌∷◌, length, reverse, Option, Some, None, refl, sym, ap, ap₂, subst, ◌∙◌}
 use Rattle.spp_dag.specs.declared.row.Row.{Row}
 use Rattle.spp_dag.specs.Shares.{plus, zero_row}
 use Rattle.spp_dag.specs.Steps.{same_key, strand_row}
-use Rattle.spp_site.specs.Rows.{Fits, frame_row}
+use Rattle.spp_site.specs.Rows.{frame_row}
 use Rattle.spp_site.specs.Table.{Sums, row_at, empty}
 use Rattle.spp_site.specs.Profiles.{key_row}
 use Rattle.spp_site.specs.declared.closed_frame.ClosedFrame.{ClosedFrame}
 use Rattle.spp_site.proofs.LastFirst.{topped}
-use Rattle.spp_site.proofs.Rows.{zero-plus, plus-zero}
+use Rattle.spp_site.proofs.Rows.{plus-zero}
 use Rattle.spp_site.proofs.Small.{empty_row}
 use Rattle.spp_ways.specs.declared.log.LogRow.{LogRow}
 use Rattle.spp_ways.specs.declared.open_ways.OnPaths.{OnPaths}
-use Rattle.spp_ways.specs.declared.open_ways.LoggedWay.{LoggedWay}
 use Rattle.spp_ways.specs.declared.open_ways.FrameWays.{FrameWays}
 use Rattle.spp_ways.specs.declared.open_ways.OpenWays.{OpenWays}
 use Rattle.spp_ways.specs.declared.open_ways.LoggedWays.{LoggedWays}

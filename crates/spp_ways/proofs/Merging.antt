@@ -1,22 +1,19 @@
 -- What merging does to the ways into open frames.
-use Rattle.std.proofs.Common.{◌≡◌, ℕ, suc, ◌+◌, ◌≤◌, ◌<◌, Bool, true, false, List, [], ◌∷◌, ◌++◌, length, reverse, take, Option, Some, None, refl, sym, ap, ap₂, subst, ◌∙◌, arith}
+use Rattle.std.proofs.Common.{◌≡◌, ℕ, suc, ◌+◌, ◌≤◌, ◌<◌, Bool, true, false, List, [], ◌∷◌, ◌++◌, length, reverse, take, Option, sym, ap, ap₂, subst, ◌∙◌, arith}
 use Rattle.std.proofs.lemmas.List.{length-take-le, length-append, reverse-append}
-use Rattle.spp_dag.specs.declared.row.Row.{Row}
 use Rattle.spp_dag.specs.Shares.{plus, zero_row}
 use Rattle.spp_site.specs.Rows.{Fits}
-use Rattle.spp_site.specs.Table.{Sums}
 use Rattle.spp_site.specs.Profiles.{key_row}
-use Rattle.spp_site.proofs.LastFirst.{topped}
 use Rattle.spp_site.proofs.Rows.{zero-plus}
 use Rattle.spp_ways.specs.declared.log.Merged.{Merged}
 use Rattle.spp_ways.specs.declared.log.LogRow.{LogRow}
 use Rattle.spp_ways.specs.declared.open_ways.LoggedWays.{LoggedWays}
 use Rattle.spp_ways.specs.declared.open_ways.FrameWays.{FrameWays}
 use Rattle.spp_ways.specs.declared.open_ways.OpenWays.{OpenWays}
-use Rattle.spp_ways.specs.Ways.{Way, Ways, rows_at}
+use Rattle.spp_ways.specs.Ways.{Ways}
 use Rattle.spp_ways.specs.Logs.{way_row, row_on, merged_row, merged_on, before_on, within_on, IsMergedRow, IsLinked, AreLinked}
-use Rattle.spp_ways.specs.OpenWays.{IsWay, AreBoth, AllWays, AreWays, path_of, Laid, IsLaid, HasRows, HasRowsOf, FitTop, merged_ways, merged_frame}
-use Rattle.spp_ways.proofs.Staying.{AreAlike, rows_older, rows_last, rows_none, all_move, Cut, cut, cut_alike, linked_less}
+use Rattle.spp_ways.specs.OpenWays.{AreBoth, AllWays, path_of, AreIn, Laid, HasRows, HasRowsOf, FitTop, merged_ways, AreMerged}
+use Rattle.spp_ways.proofs.Staying.{AreAlike, rows_older, rows_last, rows_none, all_move, cut, cut_alike, linked_less}
 
 -- a row for what was merged
 before_none : (on : Bool) (m : Merged) (r : LogRow) → IsMergedRow m r → before_on on r ≡ 0
@@ -46,7 +43,7 @@ merged_link n m r h = record {
 -- The rows of the ways of the innermost frame f were merged into m and n, for which a and b are put behind the rows that
 -- were there as it was opened.
 module _ (items : List LogRow) (f : FrameWays) (below : List FrameWays) (linked : AreLinked (reverse items)) (laid : Laid (length items) (f ∷ below))
-    (m n : Merged) (a b : LogRow) (is_a : IsMergedRow m a) (is_b : IsMergedRow n b) (limit : ℕ)
+    (m n : Merged) (a b : LogRow) (is_a : IsMergedRow m a) (is_b : IsMergedRow n b)
     (are : (on : Bool) → ((key : Option ℕ) → key_row (merged_on on m) key ≡ way_row on (reverse items) (path_of on f).along.rows key)
     × ((key : Option ℕ) → key_row (merged_on on n) key ≡ way_row on (reverse items) (path_of on f).through.rows key)) where
   abbrev pub kept : List LogRow
@@ -90,8 +87,12 @@ module _ (items : List LogRow) (f : FrameWays) (below : List FrameWays) (linked 
   abbrev pub through : ℕ
   through = f.start + 2
 
-  pub merge_laid : Laid (length rows) (merged_frame along through limit f ∷ below)
-  merge_laid = subst (λ k. Laid k (merged_frame along through limit f ∷ below)) (sym rows_are) (omega arith, (omega arith, omega arith), (omega arith, omega arith), laid.3)
+  pub merge_laid : (g : FrameWays) → AreMerged along through f g → Laid (length rows) (g ∷ below)
+  merge_laid g h =
+      let p : AreIn (f.start + 2) g.plain = subst (AreIn (f.start + 2)) (sym h.plain) (omega arith, omega arith) in
+      let b : AreIn (f.start + 2) g.burdened = subst (AreIn (f.start + 2)) (sym h.burdened) (omega arith, omega arith) in
+      let s : g.start ≡ f.start = h.start in
+      subst (λ k. Laid k (g ∷ below)) (sym rows_are) (omega arith, p, b, subst (λ k. Laid k below) (sym s) laid.3)
 
   along_adds : (on : Bool) (key : Option ℕ) → way_row on (b ∷ a ∷ rest) along key ≡ key_row (merged_on on m) key
   along_adds on key =
@@ -109,18 +110,18 @@ module _ (items : List LogRow) (f : FrameWays) (below : List FrameWays) (linked 
   top_ways on w v x y h =
       ((h.0.0, λ key. along_adds on key ∙ x key ∙ h.0.1 key), (h.1.0, λ key. through_adds on key ∙ y key ∙ h.1.1 key))
 
-  path_ways : (on : Bool) (v : Ways) → AreBoth on (reverse items) (path_of on f) v → AreBoth on (b ∷ a ∷ rest) (path_of on (merged_frame along through limit f)) v
-  path_ways false v h = top_ways false f.plain v (are false).0 (are false).1 h
-  path_ways true v h = top_ways true f.burdened v (are true).0 (are true).1 h
+  path_ways : (g : FrameWays) → AreMerged along through f g → (on : Bool) (v : Ways) → AreBoth on (reverse items) (path_of on f) v → AreBoth on (b ∷ a ∷ rest) (path_of on g) v
+  path_ways g k false v h = subst (λ (w : LoggedWays). AreBoth false (b ∷ a ∷ rest) w v) (sym k.plain) (top_ways false f.plain v (are false).0 (are false).1 h)
+  path_ways g k true v h = subst (λ (w : LoggedWays). AreBoth true (b ∷ a ∷ rest) w v) (sym k.burdened) (top_ways true f.burdened v (are true).0 (are true).1 h)
 
-  pub merge_ways : (on : Bool) (ws : List Ways) → AllWays on (reverse items) (f ∷ below) ws → AllWays on (reverse rows) (merged_frame along through limit f ∷ below) ws
-  merge_ways on [] h = absurd h
-  merge_ways on (w ∷ ws) h =
+  pub merge_ways : (g : FrameWays) → AreMerged along through f g → (on : Bool) (ws : List Ways) → AllWays on (reverse items) (f ∷ below) ws → AllWays on (reverse rows) (g ∷ below) ws
+  merge_ways g k on [] h = absurd h
+  merge_ways g k on (w ∷ ws) h =
       let same : AreAlike on f.start (reverse items) (b ∷ a ∷ rest) =
       λ k l key. rows_older on b (a ∷ rest) k (let z : k ≤ length (a ∷ rest) = omega (arith, left) in z) key
       ∙ rows_older on a rest k (let z : k ≤ length rest = omega (arith, left) in z) key ∙ cut_alike on items f.start f.start short (omega arith) k l key in
       let moved = all_move on f.start f.start (reverse items) (b ∷ a ∷ rest) same (omega arith) below ws laid.3 h.1 in
-      subst (λ (l : List LogRow). AllWays on l (merged_frame along through limit f ∷ below) (w ∷ ws)) (sym log_is) (path_ways on w h.0, moved)
+      subst (λ (l : List LogRow). AllWays on l (g ∷ below) (w ∷ ws)) (sym log_is) (path_ways g k on w h.0, moved)
 
 -- ---- the innermost frame
 

@@ -1,5 +1,5 @@
 -- What a wait and a return do to the ways into open frames.
-use Rattle.std.proofs.Common.{◌≡◌, ℕ, suc, ◌+◌, ◌≤◌, ◌<◌, Bool, true, false, cond, ◌||◌, List, [], ◌∷◌, ◌++◌, length, map, reverse, take, Option, Some, None, refl, sym, ap, ap₂, subst, ◌∙◌, arith}
+use Rattle.std.proofs.Common.{◌≡◌, ℕ, suc, ◌+◌, ◌≤◌, Bool, true, false, cond, List, [], ◌∷◌, length, reverse, take, Option, Some, None, refl, sym, ap, ap₂, subst, ◌∙◌, arith}
 use Rattle.std.proofs.lemmas.List.{length-take-le}
 use Rattle.spp_dag.specs.declared.row.Row.{Row}
 use Rattle.spp_dag.specs.declared.stack.FrameKind.{FrameKind}
@@ -10,13 +10,12 @@ use Rattle.spp_site.specs.Rows.{frame_row}
 use Rattle.spp_site.specs.declared.closed_frame.ClosedFrame.{ClosedFrame}
 use Rattle.spp_ways.specs.declared.log.LogRow.{LogRow}
 use Rattle.spp_ways.specs.declared.open_ways.OnPaths.{OnPaths}
-use Rattle.spp_ways.specs.declared.open_ways.LoggedWay.{LoggedWay}
 use Rattle.spp_ways.specs.declared.open_ways.LoggedWays.{LoggedWays}
 use Rattle.spp_ways.specs.declared.open_ways.FrameWays.{FrameWays}
 use Rattle.spp_site.proofs.Rows.{plus-zero}
 use Rattle.spp_ways.specs.Ways.{Leaf, Way, Ways, rows_at, way_on, way_through, waited_ways, closed_rows, returned_ways}
-use Rattle.spp_ways.specs.Logs.{way_row, row_on, merged_row, before_on, within_on, closed_on, IsLinked, AreLinked}
-use Rattle.spp_ways.specs.OpenWays.{IsWay, AreBoth, AllWays, on_path, path_of, AreIn, Laid, waited_list, returned_list, bare_row, chosen, nothing, come, entered, StayIn}
+use Rattle.spp_ways.specs.Logs.{way_row, row_on, merged_row, before_on, within_on, closed_on, AreLinked}
+use Rattle.spp_ways.specs.OpenWays.{IsWay, AreBoth, AllWays, on_path, path_of, AreIn, Laid, waited_list, bare_row, chosen, nothing, come, StayIn}
 use Rattle.spp_ways.proofs.Parts.{rows_at-append}
 use Rattle.spp_ways.proofs.Staying.{AreAlike, rows_last, rows_older, way_moves, both_move, all_move, in_more, Cut, cut, cut_alike, linked_less}
 use Rattle.spp_ways.proofs.Steps.{no_way_is}
@@ -54,6 +53,7 @@ waited_frame takes f = record {
   plain = record { along = chosen takes.plain f.plain; through = nothing };
   burdened = record { along = chosen takes.burdened f.burdened; through = nothing };
   start = f.start;
+  stored = f.stored;
   limit = f.limit;
 }
 

@@ -1,5 +1,5 @@
 -- What a return does to all open frames.
-use Rattle.std.proofs.Common.{◌≡◌, ℕ, suc, ◌+◌, ◌≤◌, ◌<◌, Bool, true, false, cond, ◌||◌, List, [], ◌∷◌, ◌++◌, length, map, reverse, take, Some, None, refl, sym, ap, ap₂, subst, ◌∙◌, arith}
+use Rattle.std.proofs.Common.{◌≡◌, ℕ, suc, ◌≤◌, ◌<◌, Bool, true, false, ◌||◌, List, [], ◌∷◌, ◌++◌, length, reverse, take, Some, None, refl, sym, subst, ◌∙◌, arith}
 use Rattle.std.proofs.lemmas.List.{length-take-le, length-append, reverse-append}
 use Rattle.spp_dag.specs.declared.stack.FrameKind.{FrameKind}
 use Rattle.spp_dag.specs.declared.stack.FrameKind.TheVariants.{Root, Called, Spawned}
@@ -32,8 +32,8 @@ returned_row takes site closed v g = record {
 }
 
 -- the parent, where the way through the child ends with the n-th row
-abbrev pub come_frame : FrameKind → OnPaths → ℕ → ℕ → FrameWays → FrameWays
-come_frame kind wins n limit g = record { plain = come kind wins.plain n g.plain; burdened = come kind wins.burdened n g.burdened; start = g.start; limit = limit }
+abbrev pub come_frame : FrameKind → OnPaths → ℕ → ℕ → ℕ → FrameWays → FrameWays
+come_frame kind wins n stored limit g = record { plain = come kind wins.plain n g.plain; burdened = come kind wins.burdened n g.burdened; start = g.start; stored = stored; limit = limit }
 
 stay_along : (n : ℕ) (kind : FrameKind) (wins : Bool) (w : LoggedWays) → StayIn n kind wins w → w.along.rows ≤ n
 stay_along n Root wins w h = h.0
@@ -46,15 +46,15 @@ stays_on false n kind wins g p b = p
 stays_on true n kind wins g p b = b
 
 -- the child's ways and the parent's on one path, with what the row says of them
-pub path_come : (on : Bool) (log rest : List LogRow) → AreAlike on (length rest) log rest → (kind : FrameKind) (takes wins : OnPaths) (site limit : ℕ) (closed : ClosedFrame) (v g : FrameWays) (x w : Ways)
+pub path_come : (on : Bool) (log rest : List LogRow) → AreAlike on (length rest) log rest → (kind : FrameKind) (takes wins : OnPaths) (site stored limit : ℕ) (closed : ClosedFrame) (v g : FrameWays) (x w : Ways)
     → AreBoth on log (path_of on v) x → AreBoth on log (path_of on g) w
     → StayIn (length rest) kind wins.plain g.plain → StayIn (length rest) kind wins.burdened g.burdened
     → (chosen takes.plain v.plain).rows ≤ length rest → (chosen takes.burdened v.burdened).rows ≤ length rest
-    → AreBoth on (returned_row takes site closed v g ∷ rest) (path_of on (come_frame kind wins (suc (length rest)) limit g))
+    → AreBoth on (returned_row takes site closed v g ∷ rest) (path_of on (come_frame kind wins (suc (length rest)) stored limit g))
     (returned_ways kind (on_path on wins) (closed_rows (Some site) (bare_row closed) (way_on (on_path on takes) x)) w)
-path_come false log rest same kind takes wins site limit closed v g x w c h p b vp vb =
+path_come false log rest same kind takes wins site stored limit closed v g x w c h p b vp vb =
     come_ways false log rest same (returned_row takes site closed v g) kind takes.plain wins.plain site closed g.plain v.plain x w c h p vp refl refl refl refl refl
-path_come true log rest same kind takes wins site limit closed v g x w c h p b vp vb =
+path_come true log rest same kind takes wins site stored limit closed v g x w c h p b vp vb =
     come_ways true log rest same (returned_row takes site closed v g) kind takes.burdened wins.burdened site closed g.burdened v.burdened x w c h b vb refl refl refl refl refl
 
 is_gone : (kind : FrameKind) (wins : OnPaths) → entered kind wins ≡ false → (kind ≡ Called → ⊥) × (kind ≡ Spawned → wins.plain ≡ false) × (kind ≡ Spawned → wins.burdened ≡ false)
@@ -116,7 +116,7 @@ module _ (items : List LogRow) (v g : FrameWays) (below : List FrameWays) (linke
         (gone_ways on rest kind (on_path on wins) (closed_rows (Some site) (bare_row closed) (way_on (on_path on takes) x)) (path_of on g) w (is_gone kind wins gone).0 (path_wins on) moved.0, moved.1)
 
   -- it is kept on one of them
-  module _ (in_plain : (chosen takes.plain v.plain).rows ≤ t) (in_burdened : (chosen takes.burdened v.burdened).rows ≤ t) (few : site < 65536) (limit : ℕ) where
+  module _ (in_plain : (chosen takes.plain v.plain).rows ≤ t) (in_burdened : (chosen takes.burdened v.burdened).rows ≤ t) (few : site < 65536) (stored limit : ℕ) where
     abbrev row : LogRow
     row = returned_row takes site closed v g
 
@@ -140,8 +140,8 @@ module _ (items : List LogRow) (v g : FrameWays) (below : List FrameWays) (linke
         } in
         subst AreLinked (sym last) (link, return_linked)
 
-    pub kept_laid : Laid (length (take t items ++ (row ∷ []))) (come_frame kind wins (suc (length rest)) limit g ∷ below)
-    kept_laid = subst (λ k. Laid k (come_frame kind wins (suc (length rest)) limit g ∷ below)) (sym more) (
+    pub kept_laid : Laid (length (take t items ++ (row ∷ []))) (come_frame kind wins (suc (length rest)) stored limit g ∷ below)
+    kept_laid = subst (λ k. Laid k (come_frame kind wins (suc (length rest)) stored limit g ∷ below)) (sym more) (
       (let z : g.start ≤ suc (length rest) = omega (arith, left) in z),
       come_in (length rest) kind wins.plain g.plain here_plain,
       come_in (length rest) kind wins.burdened g.burdened here_burdened,
@@ -149,7 +149,7 @@ module _ (items : List LogRow) (v g : FrameWays) (below : List FrameWays) (linke
     )
 
     pub kept_all : (on : Bool) (ws : List Ways) → AllWays on (reverse items) (v ∷ g ∷ below) ws
-        → AllWays on (reverse (take t items ++ (row ∷ []))) (come_frame kind wins (suc (length rest)) limit g ∷ below) (returned_list kind (on_path on takes) (on_path on wins) site (bare_row closed) ws)
+        → AllWays on (reverse (take t items ++ (row ∷ []))) (come_frame kind wins (suc (length rest)) stored limit g ∷ below) (returned_list kind (on_path on takes) (on_path on wins) site (bare_row closed) ws)
     kept_all on [] h = absurd h
     kept_all on (x ∷ []) h = absurd h.1
     kept_all on (x ∷ w ∷ ws) h =
@@ -158,5 +158,5 @@ module _ (items : List LogRow) (v g : FrameWays) (below : List FrameWays) (linke
         let z2 : (chosen takes.burdened v.burdened).rows ≤ length rest = omega (arith, left) in
         let begin : g.start ≤ length rest = omega (arith, left) in
         let more : AreAlike on (length rest) (reverse items) (row ∷ rest) = λ k l key. rows_older on row rest k l key ∙ same k l key in
-        subst (λ (l : List LogRow). AllWays on l (come_frame kind wins (suc (length rest)) limit g ∷ below) (returned_list kind (on_path on takes) (on_path on wins) site (bare_row closed) (x ∷ w ∷ ws))) (sym last)
-        (path_come on (reverse items) rest same kind takes wins site limit closed v g x w h.0 h.1.0 here_plain here_burdened z1 z2, all_move on (length rest) g.start (reverse items) (row ∷ rest) more begin below ws laid.3.3 h.1.1)
+        subst (λ (l : List LogRow). AllWays on l (come_frame kind wins (suc (length rest)) stored limit g ∷ below) (returned_list kind (on_path on takes) (on_path on wins) site (bare_row closed) (x ∷ w ∷ ws))) (sym last)
+        (path_come on (reverse items) rest same kind takes wins site stored limit closed v g x w h.0 h.1.0 here_plain here_burdened z1 z2, all_move on (length rest) g.start (reverse items) (row ∷ rest) more begin below ws laid.3.3 h.1.1)

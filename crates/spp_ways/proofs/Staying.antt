@@ -1,5 +1,5 @@
 -- A way stays as it is where the log grows, and where rows behind its last one are cut off.
-use Rattle.std.proofs.Common.{◌≡◌, ℕ, zero, suc, ◌+◌, ◌≤◌, ◌<◌, Bool, true, false, List, [], ◌∷◌, ◌++◌, length, Option, reverse, take, drop, nat_eq, refl, sym, ap, ap₂, subst, ◌∙◌, arith}
+use Rattle.std.proofs.Common.{◌≡◌, ℕ, suc, ◌≤◌, Bool, true, false, List, [], ◌∷◌, ◌++◌, length, Option, reverse, take, drop, nat_eq, refl, sym, ap, subst, ◌∙◌, arith}
 use Rattle.std.proofs.lemmas.Bool.{ne_eqb, eq-eqb}
 use Rattle.std.proofs.lemmas.List.{reverse-append, length-reverse, length-append, length-take-le, take-append-drop}
 use Rattle.spp_ways.specs.declared.log.LogRow.{LogRow}
@@ -8,7 +8,7 @@ use Rattle.spp_ways.specs.declared.open_ways.FrameWays.{FrameWays}
 use Rattle.spp_dag.specs.Shares.{plus, zero_row}
 use Rattle.spp_ways.specs.declared.open_ways.LoggedWay.{LoggedWay}
 use Rattle.spp_ways.specs.Ways.{Way, Ways}
-use Rattle.spp_ways.specs.Logs.{way_row, before_on, within_on, row_on, IsLinked, AreLinked}
+use Rattle.spp_ways.specs.Logs.{way_row, before_on, within_on, row_on, AreLinked}
 use Rattle.spp_ways.specs.OpenWays.{IsWay, AreBoth, AllWays, path_of, AreIn, Laid}
 
 -- a row behind the last one of a way

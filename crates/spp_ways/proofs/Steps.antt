@@ -1,13 +1,12 @@
 -- What the steps do to the ways into open frames.
-use Rattle.std.proofs.Common.{◌≡◌, ℕ, suc, ◌+◌, ◌-◌, ◌≤◌, ◌<◌, ◌^◌, Bool, true, false, List, [], ◌∷◌, length, Option, reverse, set, refl, sym, ap, subst, ◌∙◌, arith}
+use Rattle.std.proofs.Common.{◌≡◌, ℕ, suc, ◌+◌, ◌-◌, ◌<◌, ◌^◌, Bool, true, false, List, [], ◌∷◌, length, reverse, set, refl, sym, ap, subst, arith}
 use Rattle.std.proofs.lemmas.List.{length-reverse}
 use Rattle.spp_site.proofs.LastFirst.{topped}
-use Rattle.spp_dag.specs.Shares.{zero_row}
 use Rattle.spp_ways.specs.declared.log.LogRow.{LogRow}
 use Rattle.spp_ways.specs.declared.open_ways.LoggedWays.{LoggedWays}
 use Rattle.spp_ways.specs.declared.open_ways.FrameWays.{FrameWays}
 use Rattle.spp_ways.specs.declared.open_ways.OpenWays.{OpenWays}
-use Rattle.spp_ways.specs.Ways.{Way, Ways, no_way, no_ways, strand_ways}
+use Rattle.spp_ways.specs.Ways.{Ways, no_way, no_ways, strand_ways}
 use Rattle.spp_ways.specs.OpenWays.{IsWay, AreBoth, AllWays, AreWays, path_of, nothing, HasOne, HasTwo, FitStrand, strand_list, Laid, IsLaid}
 use Rattle.spp_ways.proofs.Staying.{rows_none}
 
@@ -39,7 +38,7 @@ fit_frame on count o ws h f = some_frame on o ws h (fit_one count ws f)
 -- ---- a frame that is opened
 
 abbrev pub opened : ℕ → ℕ → FrameWays
-opened start limit = record { plain = record { along = nothing; through = nothing }; burdened = record { along = nothing; through = nothing }; start = start; limit = limit }
+opened start limit = record { plain = record { along = nothing; through = nothing }; burdened = record { along = nothing; through = nothing }; start = start; stored = 0; limit = limit }
 
 pub no_way_is : (on : Bool) (log : List LogRow) → IsWay on log nothing no_way
 no_way_is on log = (refl, λ key. rows_none on log key)
@@ -54,7 +53,7 @@ abbrev pub strand_on : ℕ → LoggedWays → LoggedWays
 strand_on count w = record { along = record { rows = w.along.rows; own = w.along.own + count }; through = w.through }
 
 abbrev pub strand_frame : ℕ → FrameWays → FrameWays
-strand_frame count f = record { plain = strand_on count f.plain; burdened = strand_on count f.burdened; start = f.start; limit = f.limit }
+strand_frame count f = record { plain = strand_on count f.plain; burdened = strand_on count f.burdened; start = f.start; stored = f.stored; limit = f.limit }
 
 strand_both : (on : Bool) (log : List LogRow) (count : ℕ) (w : LoggedWays) (v : Ways) → AreBoth on log w v → AreBoth on log (strand_on count w) (strand_ways count v)
 strand_both on log count w v h = ((ap (λ n. n + count) h.0.0, h.0.1), h.1)

@@ -1,17 +1,17 @@
 -- The rows of a way, as they are added up.
-use Rattle.std.proofs.Common.{◌≡◌, ℕ, zero, suc, ◌+◌, ◌*◌, ◌-◌, ◌≤◌, ◌<◌, Bool, true, false, cond, nat_eq, List, [], ◌∷◌, ◌++◌, length, reverse, take, get_or, Option, Some, None, refl, sym, ap, ap₂, subst, ◌∙◌, arith}
+use Rattle.std.proofs.Common.{◌≡◌, ℕ, suc, ◌+◌, ◌*◌, ◌≤◌, ◌<◌, Bool, true, false, cond, nat_eq, List, [], ◌∷◌, ◌++◌, length, reverse, take, get_or, Option, Some, None, refl, sym, ap, ap₂, subst, ◌∙◌, arith}
 use Rattle.std.proofs.lemmas.Bool.{ne_eqb, eq-eqb}
 use Rattle.std.proofs.lemmas.List.{length-append, reverse-append}
 use Rattle.std.proofs.Math.Seq.{take-suc}
 use Rattle.spp_dag.specs.declared.row.Row.{Row}
 use Rattle.spp_dag.specs.Shares.{plus, zero_row}
 use Rattle.spp_dag.specs.Steps.{same_key}
-use Rattle.spp_site.specs.Rows.{Fits, frame_row}
+use Rattle.spp_site.specs.Rows.{Fits}
 use Rattle.spp_site.specs.Table.{Sums, row_at, IsAdded, IsSum}
 use Rattle.spp_site.specs.Profiles.{key_row}
-use Rattle.spp_site.proofs.Rows.{plus-zero, zero-plus, plus-assoc, plus-swap, plus-over}
+use Rattle.spp_site.proofs.Rows.{plus-zero, zero-plus, plus-assoc, plus-over}
 use Rattle.spp_ways.specs.declared.log.LogRow.{LogRow}
-use Rattle.spp_ways.specs.Logs.{way_row, row_on, before_on, within_on, closed_on, IsLinked, AreLinked}
+use Rattle.spp_ways.specs.Logs.{way_row, row_on, before_on, within_on, IsLinked, AreLinked}
 use Rattle.spp_ways.proofs.Staying.{rows_stay, rows_last, Cut, cut, linked_less}
 
 -- ---- sums of rows

@@ -110,13 +110,10 @@ nothing = record { rows = 0; own = 0 }
 abbrev pub merged_ways : ℕ → ℕ → LoggedWays → LoggedWays
 merged_ways along through w = record { along = record { rows = along; own = w.along.own }; through = record { rows = through; own = w.through.own } }
 
-abbrev pub merged_frame : ℕ → ℕ → ℕ → FrameWays → FrameWays
-merged_frame along through limit f = record {
-  plain = merged_ways along through f.plain;
-  burdened = merged_ways along through f.burdened;
-  start = f.start;
-  limit = limit;
-}
+pub record AreMerged (along through : ℕ) (f g : FrameWays) : Type 0 where
+  pub plain : g.plain ≡ merged_ways along through f.plain
+  pub burdened : g.burdened ≡ merged_ways along through f.burdened
+  pub start : g.start ≡ f.start
 
 -- the innermost frame has two rows or more
 abbrev pub HasRowsOf : ℕ → List FrameWays → Type 0

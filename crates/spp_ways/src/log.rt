@@ -22,12 +22,18 @@ impl Merged {
     fn on(&self, burdened: bool) -> &Share
         ensures { result.now ≡ merged_on burdened self.now }
     {
-        if burdened { &self.burdened } else { &self.plain }
+        if burdened {
+            &self.burdened
+        } else {
+            &self.plain
+        }
     }
 
     /// How many rows are stored.
     pub(crate) fn len(&self) -> usize {
-        self.plain.row_count().saturating_add(self.burdened.row_count())
+        self.plain
+            .row_count()
+            .saturating_add(self.burdened.row_count())
     }
 }
 
@@ -89,14 +95,22 @@ impl LogRow {
     fn before(&self, burdened: bool) -> u32
         ensures { result ≡ before_on burdened self.now }
     {
-        if burdened { self.burdened_before } else { self.before }
+        if burdened {
+            self.burdened_before
+        } else {
+            self.before
+        }
     }
 
     /// Where the way through it ends.
     fn within(&self, burdened: bool) -> u32
         ensures { result ≡ within_on burdened self.now }
     {
-        if burdened { self.burdened_within } else { self.within }
+        if burdened {
+            self.burdened_within
+        } else {
+            self.within
+        }
     }
 
     /// Adds it to a table of that path.
@@ -116,7 +130,11 @@ impl LogRow {
         ensures { result ≡ closed_on burdened self.now }
     {
         ClosedFrame {
-            local: if burdened { self.burdened_own } else { self.own },
+            local: if burdened {
+                self.burdened_own
+            } else {
+                self.own
+            },
             work: self.work,
             span: self.span,
             top_site: self.top_site,
@@ -180,7 +198,13 @@ impl Log {
     /// # Errors
     ///
     /// Where an allocation failed.
-    pub(crate) fn add_up(&self, alloc: Global, burdened: bool, way: u32, table: &mut Table) -> Result<(), AllocError>
+    pub(crate) fn add_up(
+        &self,
+        alloc: Global,
+        burdened: bool,
+        way: u32,
+        table: &mut Table,
+    ) -> Result<(), AllocError>
         requires linked { AreLinked (reverse self.now.rows.items) }
         requires way { way ≤ length self.now.rows.items }
         requires fits { (key : Option ℕ) → Fits (plus (key_row table.old key) (row_in burdened self.now way key)) }
@@ -206,7 +230,12 @@ impl Log {
     /// # Errors
     ///
     /// Where an allocation failed.
-    pub(crate) fn merge(&self, alloc: Global, plain: u32, burdened: u32) -> Result<Merged, AllocError>
+    pub(crate) fn merge(
+        &self,
+        alloc: Global,
+        plain: u32,
+        burdened: u32,
+    ) -> Result<Merged, AllocError>
         requires linked { AreLinked (reverse self.now.rows.items) }
         requires plain { plain ≤ length self.now.rows.items }
         requires burdened { burdened ≤ length self.now.rows.items }

@@ -22,7 +22,7 @@ ghost use Rattle.spp_ways.specs.OpenWays.{
   come,
   entered,
   merged_ways,
-  merged_frame,
+  AreMerged,
   AreIn,
   StayIn,
   FitTop,
@@ -151,7 +151,9 @@ struct FrameWays {
     burdened: LoggedWays,
     /// How many rows the log had where the frame was opened: the ways into the frames below end there or before.
     start: u32,
-    /// How many rows behind those are merged.
+    /// How many rows by call site the merged ones behind those store, at most.
+    stored: u32,
+    /// Of how many rows, with those that are stored, all behind those are merged.
     limit: u32,
 }
 
@@ -159,27 +161,37 @@ impl FrameWays {
     /// A frame that is opened where the log has so many rows, and of which so many rows are merged.
     #[inline(always)]
     fn opened(start: u32, limit: u32) -> Self
-        ensures { result ≡ record { plain = record { along = nothing; through = nothing }; burdened = record { along = nothing; through = nothing }; start = start; limit = limit } }
+        ensures { result ≡ record { plain = record { along = nothing; through = nothing }; burdened = record { along = nothing; through = nothing }; start = start; stored = 0; limit = limit } }
     {
         FrameWays {
             plain: LoggedWays::going_on(LoggedWay::none()),
             burdened: LoggedWays::going_on(LoggedWay::none()),
             start,
+            stored: 0,
             limit,
         }
     }
 
-    /// The frame, where the rows of its ways have been merged into these two of the log; of so many rows they are merged
-    /// again.
-    fn merged(self, along: u32, through: u32, limit: u32) -> Self
-        ensures { result ≡ merged_frame along through limit self }
+    /// The frame, where the rows of its ways have been merged into these two of the log, which store so many rows.
+    fn merged(self, along: u32, through: u32, stored: u32) -> Self
+        ensures { AreMerged along through self result }
     {
         FrameWays {
             plain: self.plain.merged(along, through),
             burdened: self.burdened.merged(along, through),
             start: self.start,
-            limit,
+            stored,
+            limit: self.limit.max(stored.saturating_mul(2)),
         }
+    }
+
+    /// Whether its rows are to be merged, where the log has so many.
+    #[inline(always)]
+    fn is_full(&self, rows: u32) -> bool
+        ensures { result ≡ true → self.now.start + 2 ≤ rows }
+    {
+        rows > self.start.saturating_add(1)
+            && rows - self.start > self.limit.saturating_sub(self.stored)
     }
 
     /// The way on which the frame goes on where it waits, on that path: without burdens, or under them.
@@ -206,16 +218,12 @@ fn is_entered(kind: FrameKind, wins: OnPaths) -> bool
     }
 }
 
-/// Of how many rows those of a frame are merged again, where that many are left of them, and they had been merged of so many.
-fn limit_for(left: usize, limit: u32) -> u32
-    ensures { limit ≤ result }
-{
-    let left = left.min(u32::MAX as usize / 2) as u32;
-    limit.max(left * 2)
-}
-
-/// The least number of rows of a frame at which they are merged.
+/// The least number of rows of a frame at which they are merged. Where there are many call sites it is four for each, since
+/// a row that is stored takes more memory than one of the log.
 const LEAST_LIMIT: u32 = 1024;
+
+/// Where more rows are stored than that, it doesn't matter how many.
+const MOST_STORED: usize = u32::MAX as usize;
 
 /// The ways into the open frames of a run, without burdens and under them: for each frame the greatest way along the frame
 /// itself, and the greatest way through a child that waits in it, with the closed frames that they enter. Which child a
@@ -244,7 +252,7 @@ impl OpenWays {
         ensures ways { IfOk result (λ w. (on : Bool) → AreWays on w (no_ways ∷ [])) }
         ensures rows { IfOk result (λ w. length w.log.rows.items ≡ 0) }
     {
-        let limit = sites.max(LEAST_LIMIT);
+        let limit = sites.saturating_mul(4).max(LEAST_LIMIT);
         let mut frames = Vec::new(alloc);
         frames.push(FrameWays::opened(0, limit))?;
         Ok(OpenWays {
@@ -320,21 +328,15 @@ impl OpenWays {
     {
         let last = self.frames.len() - 1;
         let frame = self.frames[last];
-        let along = self.log.merge(
-            alloc,
-            frame.plain.along.rows,
-            frame.burdened.along.rows,
-        )?;
-        let through = self.log.merge(
-            alloc,
-            frame.plain.through.rows,
-            frame.burdened.through.rows,
-        )?;
-        let rows = along.len().saturating_add(through.len());
+        let along = self
+            .log
+            .merge(alloc, frame.plain.along.rows, frame.burdened.along.rows)?;
+        let through = self.log.merge(alloc, frame.plain.through.rows, frame.burdened.through.rows)?;
+        let stored = along.len().saturating_add(through.len());
         self.log.cut(frame.start);
         let along = self.log.push_merged(alloc, along)?;
         let through = self.log.push_merged(alloc, through)?;
-        self.frames[last] = frame.merged(along, through, limit_for(rows, frame.limit));
+        self.frames[last] = frame.merged(along, through, stored.min(MOST_STORED) as u32);
         Ok(())
     }
 
@@ -361,6 +363,7 @@ impl OpenWays {
         let last = self.frames.len() - 1;
         let plain = self.frames[last].plain.chosen(takes.plain);
         let burdened = self.frames[last].burdened.chosen(takes.burdened);
+        let stored = self.frames[last].stored;
         let limit = self.frames[last].limit;
         self.frames.truncate(last);
         let parent = &mut self.frames[last - 1];
@@ -388,8 +391,9 @@ impl OpenWays {
         })?;
         parent.plain.come(kind, wins.plain, rows);
         parent.burdened.come(kind, wins.burdened, rows);
+        parent.stored = parent.stored.saturating_add(stored);
         parent.limit = parent.limit.max(limit);
-        Ok(rows > parent.start.saturating_add(parent.limit.max(1)))
+        Ok(parent.is_full(rows))
     }
 
     /// The innermost frame returns to the one below: how it was entered; on which paths it takes the child that waits in

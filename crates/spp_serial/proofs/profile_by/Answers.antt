@@ -1,4 +1,4 @@
-use Rattle.std.proofs.Common.{◌≡◌, ℕ, suc, ◌+◌, ◌≤◌, ◌<◌, ◌^◌, Bool, true, false, List, [], ◌∷◌, length, Option, Some, None, is_some, Ok, Err, refl, sym, ap, subst, ◌∙◌, arith}
+use Rattle.std.proofs.Common.{◌≡◌, ℕ, suc, ◌+◌, ◌≤◌, ◌<◌, ◌^◌, Bool, true, false, List, [], ◌∷◌, length, Option, Some, is_some, Ok, Err, refl, sym, ap, subst, ◌∙◌, arith}
 use Rattle.std.proofs.lemmas.List.{length-map}
 use Rattle.spp_event.specs.declared.records.Event.{Event}
 use Rattle.spp_event.specs.declared.records.Event.TheVariants.{Strand, Call, Spawn, Ret, Sync}
@@ -7,7 +7,6 @@ use Rattle.spp_maxplus.specs.declared.state.Burdens.{Burdens}
 use Rattle.spp_frame.specs.declared.profile_fault.ProfileFault.{ProfileFault}
 use Rattle.spp_frame.specs.Answers.{IsFaultOf}
 use Rattle.spp_site.proofs.WholeProfile.{whole}
-use Rattle.spp_ways.specs.declared.open_ways.OnPaths.{OnPaths}
 use Rattle.spp_ways.specs.declared.open_ways.OpenWays.{OpenWays}
 use Rattle.spp_ways.specs.Ways.{Ways, no_ways}
 use Rattle.spp_ways.specs.OpenWays.{IsLaid, HasOne, AreWays, on_path, bare_row, strand_list, waited_list, returned_list}
@@ -15,7 +14,7 @@ use Rattle.spp_pass.specs.declared.counted_frame.CountedFrame.{CountedFrame}
 use Rattle.spp_pass.specs.declared.counting.Counting.{Counting}
 use Rattle.spp_pass.specs.declared.counting.Closing.{Closing}
 use Rattle.spp_pass.specs.declared.counting.Ended.{Ended}
-use Rattle.spp_pass.specs.Passes.{Seen, Notes, no_notes, noted_sync, noted_return, seen_with, start_seen, sync_seen, takes_of, AreTakes, CanReturn, Returns, IsClosing}
+use Rattle.spp_pass.specs.Passes.{Seen, Notes, no_notes, noted_sync, noted_return, seen_with, start_seen, AreTakes, CanReturn, Returns, IsClosing}
 use Rattle.spp_pass.proofs.Keeping.{kept_bad, kept_return, kept_open}
 use Rattle.spp_pass.proofs.Passed.{light_of, leans, is_read, ready_add, ready_return, root_stays, ready_finish}
 use Rattle.spp_serial.proofs.Reading.{Led, start_led, fits, has_one, strand_led, sync_led, call_led, spawn_led, has_two, site_in, returned_fits, return_led}

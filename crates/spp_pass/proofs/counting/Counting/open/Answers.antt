@@ -3,7 +3,7 @@ use Rattle.std.proofs.lemmas.List.{reverse-append}
 use Rattle.spp_pass.specs.declared.counted_frame.CountedFrame.{CountedFrame}
 use Rattle.spp_maxplus.specs.declared.weights.Weights.{Weights}
 use Rattle.spp_maxplus.specs.Weights.{start}
-use Rattle.spp_pass.specs.Passes.{Seen, seen_with, no_notes, opened_frame, open_frames}
+use Rattle.spp_pass.specs.Passes.{Seen, seen_with, opened_frame, open_frames}
 use Rattle.spp_site.proofs.LastFirst.{topped}
 use Rattle.spp_pass.proofs.Tops.{some_open}
 use Rattle.spp_pass.proofs.counting.Counting.open.Goals as goal

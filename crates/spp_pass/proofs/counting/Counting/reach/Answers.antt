@@ -1,5 +1,5 @@
 use Rattle.std.proofs.Common.{arith}
-use Rattle.spp_pass.specs.Passes.{seen_with, no_notes}
+use Rattle.spp_pass.specs.Passes.{seen_with}
 use Rattle.spp_pass.proofs.Tops.{some_open}
 use Rattle.spp_pass.proofs.Reaching.{reached_one}
 use Rattle.spp_pass.proofs.counting.Counting.reach.Goals as goal

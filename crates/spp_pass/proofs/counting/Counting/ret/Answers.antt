@@ -1,4 +1,4 @@
-use Rattle.std.proofs.Common.{◌≡◌, ◌+◌, ◌-◌, ◌<◌, ◌≤◌, true, List, ◌∷◌, ◌++◌, length, reverse, take, get_or, set, Option, Some, refl, sym, ap, ap₂, subst, ◌∙◌, arith}
+use Rattle.std.proofs.Common.{◌≡◌, ◌+◌, ◌-◌, ◌<◌, ◌≤◌, true, List, ◌∷◌, length, reverse, take, get_or, set, Option, Some, refl, sym, ap, ap₂, subst, ◌∙◌, arith}
 use Rattle.std.proofs.lemmas.List.{length-take-le}
 use Rattle.spp_site.specs.Rows.{frame_row}
 use Rattle.spp_site.specs.Table.{IsAdded}
@@ -7,7 +7,7 @@ use Rattle.spp_ways.specs.declared.open_ways.OnPaths.{OnPaths}
 use Rattle.spp_site.specs.declared.closed_frame.ClosedFrame.{ClosedFrame}
 use Rattle.spp_pass.specs.declared.counted_frame.CountedFrame.{CountedFrame}
 use Rattle.spp_pass.specs.declared.counted_frame.Returned.{Returned}
-use Rattle.spp_pass.specs.Passes.{Seen, Notes, seen_with, no_notes, noted_return, returned_of, received, closed_of, state_of, burdened_state_of, takes_of, wins_of, closing_of, CanReturn, CanClose, Returns, IsClosing, FitsReturn}
+use Rattle.spp_pass.specs.Passes.{Seen, Notes, seen_with, no_notes, noted_return, returned_of, received, closed_of, state_of, burdened_state_of, takes_of, wins_of, CanReturn, CanClose, Returns, IsClosing}
 use Rattle.spp_pass.specs.declared.counting.Closing.{Closing}
 use Rattle.spp_ways.specs.Ways.{outruns}
 use Rattle.spp_dag.specs.declared.stack.FrameKind.{FrameKind}

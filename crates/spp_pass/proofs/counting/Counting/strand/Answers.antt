@@ -1,6 +1,6 @@
 use Rattle.std.proofs.Common.{◌≡◌, ◌-◌, ◌+◌, ℕ, List, ◌∷◌, length, reverse, get_or, set, sym, ap, ap₂, ◌∙◌, arith}
 use Rattle.spp_pass.specs.declared.counted_frame.CountedFrame.{CountedFrame}
-use Rattle.spp_pass.specs.Passes.{Seen, seen_with, no_notes, strand_frame, on_top}
+use Rattle.spp_pass.specs.Passes.{Seen, seen_with, strand_frame, on_top}
 use Rattle.spp_site.proofs.LastFirst.{topped}
 use Rattle.spp_pass.proofs.Tops.{some_open}
 use Rattle.spp_pass.proofs.counting.Counting.strand.Goals as goal

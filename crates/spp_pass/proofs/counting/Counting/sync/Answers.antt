@@ -1,6 +1,6 @@
 use Rattle.std.proofs.Common.{◌≡◌, ◌-◌, List, ◌∷◌, length, reverse, get_or, set, sym, ap, ◌∙◌, arith}
 use Rattle.spp_pass.specs.declared.counted_frame.CountedFrame.{CountedFrame}
-use Rattle.spp_pass.specs.Passes.{Seen, seen_with, no_notes, sync_frame, on_top, sync_seen}
+use Rattle.spp_pass.specs.Passes.{Seen, seen_with, sync_frame, on_top, sync_seen}
 use Rattle.spp_site.proofs.LastFirst.{topped}
 use Rattle.spp_pass.proofs.Tops.{some_open}
 use Rattle.spp_pass.proofs.counting.Counting.sync.Goals as goal

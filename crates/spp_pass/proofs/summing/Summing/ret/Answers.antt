@@ -1,6 +1,5 @@
-use Rattle.std.proofs.Common.{◌≡◌, ◌++◌, Bool, List, Option, is_some, reverse, refl, ap, sym, subst, ◌∙◌}
+use Rattle.std.proofs.Common.{◌≡◌, ◌++◌, List, is_some, reverse, ap, sym, subst, ◌∙◌}
 use Rattle.spp_pass.specs.declared.counted_frame.CountedFrame.{CountedFrame}
-use Rattle.spp_pass.specs.declared.counting.Closing.{Closing}
 use Rattle.spp_pass.specs.Passes.{Seen, Notes, seen_with, notes_of, noted_return, ends_at, Returns}
 use Rattle.spp_pass.proofs.Tops.{returned_top}
 use Rattle.spp_pass.proofs.summing.Summing.ret.Goals as goal

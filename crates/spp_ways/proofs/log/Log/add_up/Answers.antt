@@ -1,16 +1,12 @@
-use Rattle.std.proofs.Common.{◌≡◌, ℕ, suc, ◌+◌, ◌*◌, ◌-◌, ◌≤◌, ◌<◌, Bool, true, cond, nat_eq, List, [], ◌∷◌, ◌++◌, length, reverse, get_or, Option, Some, refl, sym, ap, ap₂, subst, ◌∙◌, arith}
-use Rattle.std.proofs.lemmas.Bool.{eq-eqb}
+use Rattle.std.proofs.Common.{◌≡◌, ℕ, suc, ◌+◌, ◌*◌, ◌-◌, ◌≤◌, ◌<◌, Bool, List, [], ◌∷◌, ◌++◌, length, reverse, get_or, Option, sym, ap, ap₂, subst, ◌∙◌, arith}
 use Rattle.std.proofs.lemmas.List.{length-append}
 use Rattle.spp_dag.specs.declared.row.Row.{Row}
-use Rattle.spp_dag.specs.Shares.{plus, zero_row}
-use Rattle.spp_dag.specs.Steps.{same_key}
-use Rattle.spp_site.specs.Rows.{Fits, frame_row}
-use Rattle.spp_site.specs.Table.{Sums, row_at, IsAdded}
+use Rattle.spp_dag.specs.Shares.{plus}
+use Rattle.spp_site.specs.Rows.{Fits}
 use Rattle.spp_site.specs.Profiles.{key_row}
-use Rattle.spp_site.specs.declared.closed_frame.ClosedFrame.{ClosedFrame}
-use Rattle.spp_site.proofs.Rows.{zero-plus, plus-zero, plus-assoc}
+use Rattle.spp_site.proofs.Rows.{plus-zero, plus-assoc}
 use Rattle.spp_ways.specs.declared.log.LogRow.{LogRow}
-use Rattle.spp_ways.specs.Logs.{way_row, row_on, before_on, within_on, row_in}
+use Rattle.spp_ways.specs.Logs.{way_row, row_on, before_on, within_on}
 use Rattle.spp_ways.proofs.Staying.{rows_none}
 use Rattle.spp_ways.proofs.Summing.{row_fits, all_rows, all_count, AllIn, all_rows-append, count-append, in-append, link, next, next_in, next_fewer, next_sums}
 use Rattle.spp_ways.proofs.log.Log.add_up.Goals as goal

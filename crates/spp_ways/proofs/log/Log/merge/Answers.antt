@@ -1,4 +1,4 @@
-use Rattle.std.proofs.Common.{◌≡◌, false, true, sym, ap, subst, ◌∙◌}
+use Rattle.std.proofs.Common.{false, true, sym, ap, subst, ◌∙◌}
 use Rattle.spp_dag.specs.declared.row.Row.{Row}
 use Rattle.spp_dag.specs.Shares.{plus}
 use Rattle.spp_site.specs.Rows.{Fits}

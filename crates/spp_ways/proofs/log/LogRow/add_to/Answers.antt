@@ -1,16 +1,12 @@
-use Rattle.std.proofs.Common.{◌≡◌, ℕ, true, cond, nat_eq, Option, Some, None, refl, sym, ap, ap₂, subst, ◌∙◌}
+use Rattle.std.proofs.Common.{◌≡◌, true, cond, nat_eq, Some, None, refl, sym, ap, subst, ◌∙◌}
 use Rattle.std.proofs.lemmas.Bool.{eq-eqb}
 use Rattle.spp_dag.specs.declared.row.Row.{Row}
 use Rattle.spp_dag.specs.Shares.{plus, zero_row}
-use Rattle.spp_dag.specs.Steps.{same_key}
 use Rattle.spp_site.specs.Rows.{Fits, frame_row}
-use Rattle.spp_site.specs.Table.{Sums, row_at, IsAdded}
+use Rattle.spp_site.specs.Table.{Sums, row_at}
 use Rattle.spp_site.specs.Profiles.{key_row}
-use Rattle.spp_site.specs.declared.closed_frame.ClosedFrame.{ClosedFrame}
-use Rattle.spp_ways.specs.declared.log.Merged.{Merged}
 use Rattle.spp_ways.specs.declared.log.LogRow.{LogRow}
 use Rattle.spp_ways.specs.Logs.{row_on, merged_row, merged_on, closed_on}
-use Rattle.spp_ways.proofs.Summing.{added_key, sum_key}
 use Rattle.spp_ways.proofs.log.LogRow.add_to.Goals as goal
 
 -- the row at its own key

@@ -1,4 +1,4 @@
-use Rattle.std.proofs.Common.{◌≡◌, ℕ, ◌+◌, ◌-◌, ◌≤◌, ◌<◌, Bool, true, false, List, [], ◌∷◌, ◌++◌, length, Option, reverse, take, get_or, set, ap, ap₂, subst, sym, ◌∙◌, arith}
+use Rattle.std.proofs.Common.{◌≡◌, ℕ, ◌+◌, ◌-◌, ◌≤◌, ◌<◌, Bool, true, false, List, [], ◌∷◌, ◌++◌, length, Option, reverse, take, get_or, set, ap, subst, sym, ◌∙◌, arith}
 use Rattle.std.proofs.lemmas.List.{length-take-le, length-reverse, length-append}
 use Rattle.spp_site.specs.Rows.{Fits}
 use Rattle.spp_site.specs.Profiles.{key_row}
@@ -8,7 +8,7 @@ use Rattle.spp_ways.specs.declared.log.LogRow.{LogRow}
 use Rattle.spp_ways.specs.declared.open_ways.FrameWays.{FrameWays}
 use Rattle.spp_ways.specs.declared.open_ways.OpenWays.{OpenWays}
 use Rattle.spp_ways.specs.Logs.{way_row, merged_on, AreLinked}
-use Rattle.spp_ways.specs.OpenWays.{AllWays, HasRowsOf, Laid, path_of, merged_frame}
+use Rattle.spp_ways.specs.OpenWays.{AllWays, HasRowsOf, Laid, path_of, AreMerged}
 use Rattle.spp_ways.proofs.Merging.{top_fits, has_frame, merge_linked, merge_laid, merge_ways, rows_are}
 use Rattle.spp_ways.proofs.open_ways.OpenWays.merge.Goals as goal
 
@@ -162,20 +162,19 @@ returns-clause-laid c =
     let along : c.in_ok-along-2.along ≡ t.top.start + 1 = (let z = c.in_ok-along-2.ensures.count in omega arith) in
     let through : c.in_ok-through-2.through ≡ t.top.start + 2 =
     (let z = c.in_ok-through-2.ensures.count in let w : length c.push_merged.new.self.rows.items ≡ length c.cut.new.self.rows.items + 1 = ap (λ (l : List LogRow). length l) x.2 ∙ length-append c.cut.new.self.rows.items (x.0 ∷ []) in omega arith) in
-    let limit : ℕ = c.limit_for.result in
-    let frame : c.merged.result ≡ merged_frame (t.top.start + 1) (t.top.start + 2) limit t.top =
-    c.merged.ensures ∙ ap₂ (λ (k l : ℕ). merged_frame k l limit old) along through ∙ ap (merged_frame (t.top.start + 1) (t.top.start + 2) limit) top in
-    let frames : reverse (set fs (c.len-last.result - 1) c.merged.result) ≡ merged_frame (t.top.start + 1) (t.top.start + 2) limit t.top ∷ t.below =
-    ap₂ (λ (k : ℕ) (f : FrameWays). reverse (set fs k f)) at frame ∙ t.put (merged_frame (t.top.start + 1) (t.top.start + 2) limit t.top) in
+    let merged : AreMerged (t.top.start + 1) (t.top.start + 2) t.top c.merged.result =
+    subst (λ (k : ℕ). AreMerged k (t.top.start + 2) t.top c.merged.result) along (subst (λ (k : ℕ). AreMerged c.in_ok-along-2.along k t.top c.merged.result) through
+    (subst (λ (f : FrameWays). AreMerged c.in_ok-along-2.along c.in_ok-through-2.through f c.merged.result) top c.merged.ensures)) in
+    let frames : reverse (set fs (c.len-last.result - 1) c.merged.result) ≡ c.merged.result ∷ t.below = ap (λ (k : ℕ). reverse (set fs k c.merged.result)) at ∙ t.put c.merged.result in
     let are = both_are (reverse items) t.top c.in_ok-along.along c.in_ok-through.through
     (λ key. c.in_ok-along.ensures.plain key ∙ ap (λ (f : FrameWays). way_row false (reverse items) f.plain.along.rows key) top)
     (λ key. c.in_ok-along.ensures.burdened key ∙ ap (λ (f : FrameWays). way_row true (reverse items) f.burdened.along.rows key) top)
     (λ key. c.in_ok-through.ensures.plain key ∙ ap (λ (f : FrameWays). way_row false (reverse items) f.plain.through.rows key) top)
     (λ key. c.in_ok-through.ensures.burdened key ∙ ap (λ (f : FrameWays). way_row true (reverse items) f.burdened.through.rows key) top) in
     record {
-      linked = subst (λ (l : List LogRow). AreLinked (reverse l)) (sym log) (merge_linked items t.top t.below c.requires.laid.linked laid c.in_ok-along.along c.in_ok-through.through x.0 y.0 x.1 y.1 limit are);
+      linked = subst (λ (l : List LogRow). AreLinked (reverse l)) (sym log) (merge_linked items t.top t.below c.requires.laid.linked laid c.in_ok-along.along c.in_ok-through.through x.0 y.0 x.1 y.1 are);
       frames = subst (λ (l : List LogRow). Laid (length l) (reverse (set fs (c.len-last.result - 1) c.merged.result))) (sym log)
-          (subst (λ (l : List FrameWays). Laid (length ((take t.top.start items ++ (x.0 ∷ [])) ++ (y.0 ∷ []))) l) (sym frames) (merge_laid items t.top t.below c.requires.laid.linked laid c.in_ok-along.along c.in_ok-through.through x.0 y.0 x.1 y.1 limit are));
+          (subst (λ (l : List FrameWays). Laid (length ((take t.top.start items ++ (x.0 ∷ [])) ++ (y.0 ∷ []))) l) (sym frames) (merge_laid items t.top t.below c.requires.laid.linked laid c.in_ok-along.along c.in_ok-through.through x.0 y.0 x.1 y.1 are c.merged.result merged));
     }
 
 pub returns-clause-ways : goal.returns-clause-ways
@@ -201,11 +200,10 @@ returns-clause-ways c on ws h =
     let along : c.in_ok-along-2.along ≡ t.top.start + 1 = (let z = c.in_ok-along-2.ensures.count in omega arith) in
     let through : c.in_ok-through-2.through ≡ t.top.start + 2 =
     (let z = c.in_ok-through-2.ensures.count in let w : length c.push_merged.new.self.rows.items ≡ length c.cut.new.self.rows.items + 1 = ap (λ (l : List LogRow). length l) x.2 ∙ length-append c.cut.new.self.rows.items (x.0 ∷ []) in omega arith) in
-    let limit : ℕ = c.limit_for.result in
-    let frame : c.merged.result ≡ merged_frame (t.top.start + 1) (t.top.start + 2) limit t.top =
-    c.merged.ensures ∙ ap₂ (λ (k l : ℕ). merged_frame k l limit old) along through ∙ ap (merged_frame (t.top.start + 1) (t.top.start + 2) limit) top in
-    let frames : reverse (set fs (c.len-last.result - 1) c.merged.result) ≡ merged_frame (t.top.start + 1) (t.top.start + 2) limit t.top ∷ t.below =
-    ap₂ (λ (k : ℕ) (f : FrameWays). reverse (set fs k f)) at frame ∙ t.put (merged_frame (t.top.start + 1) (t.top.start + 2) limit t.top) in
+    let merged : AreMerged (t.top.start + 1) (t.top.start + 2) t.top c.merged.result =
+    subst (λ (k : ℕ). AreMerged k (t.top.start + 2) t.top c.merged.result) along (subst (λ (k : ℕ). AreMerged c.in_ok-along-2.along k t.top c.merged.result) through
+    (subst (λ (f : FrameWays). AreMerged c.in_ok-along-2.along c.in_ok-through-2.through f c.merged.result) top c.merged.ensures)) in
+    let frames : reverse (set fs (c.len-last.result - 1) c.merged.result) ≡ c.merged.result ∷ t.below = ap (λ (k : ℕ). reverse (set fs k c.merged.result)) at ∙ t.put c.merged.result in
     let are = both_are (reverse items) t.top c.in_ok-along.along c.in_ok-through.through
     (λ key. c.in_ok-along.ensures.plain key ∙ ap (λ (f : FrameWays). way_row false (reverse items) f.plain.along.rows key) top)
     (λ key. c.in_ok-along.ensures.burdened key ∙ ap (λ (f : FrameWays). way_row true (reverse items) f.burdened.along.rows key) top)
@@ -213,7 +211,7 @@ returns-clause-ways c on ws h =
     (λ key. c.in_ok-through.ensures.burdened key ∙ ap (λ (f : FrameWays). way_row true (reverse items) f.burdened.through.rows key) top) in
     subst (λ (l : List LogRow). AllWays on (reverse l) (reverse (set fs (c.len-last.result - 1) c.merged.result)) ws) (sym log)
     (subst (λ (l : List FrameWays). AllWays on (reverse ((take t.top.start items ++ (x.0 ∷ [])) ++ (y.0 ∷ []))) l ws) (sym frames)
-    (merge_ways items t.top t.below c.requires.laid.linked laid c.in_ok-along.along c.in_ok-through.through x.0 y.0 x.1 y.1 limit are on ws (subst (λ (l : List FrameWays). AllWays on (reverse items) l ws) t.is h)))
+    (merge_ways items t.top t.below c.requires.laid.linked laid c.in_ok-along.along c.in_ok-through.through x.0 y.0 x.1 y.1 are c.merged.result merged on ws (subst (λ (l : List FrameWays). AllWays on (reverse items) l ws) t.is h)))
 
 pub returns-clause-rows : goal.returns-clause-rows
 returns-clause-rows c =
@@ -238,14 +236,13 @@ returns-clause-rows c =
     let along : c.in_ok-along-2.along ≡ t.top.start + 1 = (let z = c.in_ok-along-2.ensures.count in omega arith) in
     let through : c.in_ok-through-2.through ≡ t.top.start + 2 =
     (let z = c.in_ok-through-2.ensures.count in let w : length c.push_merged.new.self.rows.items ≡ length c.cut.new.self.rows.items + 1 = ap (λ (l : List LogRow). length l) x.2 ∙ length-append c.cut.new.self.rows.items (x.0 ∷ []) in omega arith) in
-    let limit : ℕ = c.limit_for.result in
-    let frame : c.merged.result ≡ merged_frame (t.top.start + 1) (t.top.start + 2) limit t.top =
-    c.merged.ensures ∙ ap₂ (λ (k l : ℕ). merged_frame k l limit old) along through ∙ ap (merged_frame (t.top.start + 1) (t.top.start + 2) limit) top in
-    let frames : reverse (set fs (c.len-last.result - 1) c.merged.result) ≡ merged_frame (t.top.start + 1) (t.top.start + 2) limit t.top ∷ t.below =
-    ap₂ (λ (k : ℕ) (f : FrameWays). reverse (set fs k f)) at frame ∙ t.put (merged_frame (t.top.start + 1) (t.top.start + 2) limit t.top) in
+    let merged : AreMerged (t.top.start + 1) (t.top.start + 2) t.top c.merged.result =
+    subst (λ (k : ℕ). AreMerged k (t.top.start + 2) t.top c.merged.result) along (subst (λ (k : ℕ). AreMerged c.in_ok-along-2.along k t.top c.merged.result) through
+    (subst (λ (f : FrameWays). AreMerged c.in_ok-along-2.along c.in_ok-through-2.through f c.merged.result) top c.merged.ensures)) in
+    let frames : reverse (set fs (c.len-last.result - 1) c.merged.result) ≡ c.merged.result ∷ t.below = ap (λ (k : ℕ). reverse (set fs k c.merged.result)) at ∙ t.put c.merged.result in
     let are = both_are (reverse items) t.top c.in_ok-along.along c.in_ok-through.through
     (λ key. c.in_ok-along.ensures.plain key ∙ ap (λ (f : FrameWays). way_row false (reverse items) f.plain.along.rows key) top)
     (λ key. c.in_ok-along.ensures.burdened key ∙ ap (λ (f : FrameWays). way_row true (reverse items) f.burdened.along.rows key) top)
     (λ key. c.in_ok-through.ensures.plain key ∙ ap (λ (f : FrameWays). way_row false (reverse items) f.plain.through.rows key) top)
     (λ key. c.in_ok-through.ensures.burdened key ∙ ap (λ (f : FrameWays). way_row true (reverse items) f.burdened.through.rows key) top) in
-    (let z : length c.push_merged-2.new.self.rows.items ≡ t.top.start + 2 = ap (λ (l : List LogRow). length l) log ∙ rows_are items t.top t.below c.requires.laid.linked laid c.in_ok-along.along c.in_ok-through.through x.0 y.0 x.1 y.1 limit are in omega arith)
+    (let z : length c.push_merged-2.new.self.rows.items ≡ t.top.start + 2 = ap (λ (l : List LogRow). length l) log ∙ rows_are items t.top t.below c.requires.laid.linked laid c.in_ok-along.along c.in_ok-through.through x.0 y.0 x.1 y.1 are in omega arith)

@@ -1,13 +1,10 @@
-use Rattle.std.proofs.Common.{◌≡◌, ℕ, ◌-◌, ◌≤◌, ◌<◌, Bool, false, cond, List, ◌∷◌, [], ◌++◌, length, map, reverse, get_or, Option, Some, None, sym, ap, ap₂, subst, ◌∙◌, arith}
+use Rattle.std.proofs.Common.{◌≡◌, ℕ, ◌-◌, Bool, cond, List, length, reverse, get_or, Option, None, sym, ap, ap₂, subst, ◌∙◌, arith}
 use Rattle.spp_dag.specs.declared.row.Row.{Row}
 use Rattle.spp_dag.specs.Shares.{plus, zero_row}
-use Rattle.spp_dag.specs.Steps.{same_key, strand_row}
+use Rattle.spp_dag.specs.Steps.{same_key}
 use Rattle.spp_site.specs.Rows.{Fits, frame_row}
-use Rattle.spp_site.specs.Table.{Sums}
-use Rattle.spp_site.specs.Profiles.{key_row}
 use Rattle.spp_site.specs.declared.closed_frame.ClosedFrame.{ClosedFrame}
 use Rattle.spp_site.proofs.LastFirst.{topped}
-use Rattle.spp_ways.specs.declared.log.LogRow.{LogRow}
 use Rattle.spp_ways.specs.declared.open_ways.OnPaths.{OnPaths}
 use Rattle.spp_ways.specs.declared.open_ways.LoggedWay.{LoggedWay}
 use Rattle.spp_ways.specs.declared.open_ways.FrameWays.{FrameWays}
@@ -18,7 +15,7 @@ use Rattle.spp_ways.specs.OpenWays.{AreWays, on_path, path_of, chosen}
 use Rattle.spp_ways.proofs.Steps.{some_frame}
 use Rattle.spp_site.proofs.Rows.{zero-plus}
 use Rattle.spp_ways.proofs.Summing.{row_fits}
-use Rattle.spp_ways.proofs.Ending.{RootWay, root_way, new_key, root_key}
+use Rattle.spp_ways.proofs.Ending.{root_way, new_key, root_key}
 use Rattle.spp_ways.proofs.open_ways.OpenWays.path_table.Goals as goal
 
 pub add_up-requires-clause-fits : goal.add_up-requires-clause-fits

@@ -1,5 +1,4 @@
-use Rattle.std.proofs.Common.{◌≡◌, ℕ, suc, ◌+◌, ◌-◌, ◌≤◌, ◌<◌, max, Bool, true, false, None, List, [], ◌∷◌, ◌++◌, length, map, reverse, take, get_or, set, ap, ap₂, subst, sym, ◌∙◌, arith}
-use Rattle.std.proofs.lemmas.Bool.{ltb-true}
+use Rattle.std.proofs.Common.{◌≡◌, ℕ, suc, ◌+◌, ◌-◌, ◌≤◌, max, false, None, List, [], ◌∷◌, ◌++◌, length, reverse, take, get_or, set, ap, ap₂, subst, sym, ◌∙◌, arith}
 use Rattle.std.proofs.lemmas.List.{length-take-le, length-reverse, length-append}
 use Rattle.spp_dag.specs.declared.stack.FrameKind.{FrameKind}
 use Rattle.spp_site.proofs.LastFirst.{topped}
@@ -32,6 +31,12 @@ index_mut-parent-requires c =
 
 pub index-requires-3 : goal.index-requires-3
 index-requires-3 c =
+    let o : OpenWays = c.args.self.now in
+    let two = two_frames false o c.requires.some.0 c.requires.some.1 c.requires.some.2 in
+    omega (arith, c.len-last.ensures, o.frames.ok.0)
+
+pub index-requires-4 : goal.index-requires-4
+index-requires-4 c =
     let o : OpenWays = c.args.self.now in
     let two = two_frames false o c.requires.some.0 c.requires.some.1 c.requires.some.2 in
     omega (arith, c.len-last.ensures, o.frames.ok.0)
@@ -211,16 +216,17 @@ returns-clause-laid c =
     c.in_ok-rows.ensures.row ∙ ap₂ (λ (l : List LogRow) (r : LogRow). l ++ (r ∷ [])) cut is_row in
     let count : c.in_ok-rows.rows ≡ suc (length (reverse (take n items))) =
     (let x = c.in_ok-rows.ensures.count in let y : length c.cut-2.new.self.rows.items ≡ length (take n items) = ap (λ (l : List LogRow). length l) cut in let z = length-reverse (take n items) in omega arith) in
+    let stored : ℕ = c.saturating_add-parent.result in
     let limit : ℕ = c.max-parent.result in
-    let frame = λ (x y : LoggedWays) (f : FrameWays). let w : FrameWays = record { plain = x; burdened = y; start = f.start; limit = limit } in w in
-    let is_frame : frame c.come.new.self c.come-2.new.self old ≡ come_frame kind wins (suc (length (reverse (take n items)))) limit g =
-    ap₂ (λ (x y : LoggedWays). frame x y old) c.come.ensures c.come-2.ensures ∙ ap₂ (λ (k : ℕ) (f : FrameWays). come_frame kind wins k limit f) count parent in
-    let frames : reverse (set rest (c.len-last.result - 1 - 1) (frame c.come.new.self c.come-2.new.self old)) ≡ come_frame kind wins (suc (length (reverse (take n items)))) limit g ∷ u.below =
-    ap₂ (λ (k : ℕ) (f : FrameWays). reverse (set rest k f)) next is_frame ∙ u.put (come_frame kind wins (suc (length (reverse (take n items)))) limit g) in
+    let frame = λ (x y : LoggedWays) (f : FrameWays). let w : FrameWays = record { plain = x; burdened = y; start = f.start; stored = stored; limit = limit } in w in
+    let is_frame : frame c.come.new.self c.come-2.new.self old ≡ come_frame kind wins (suc (length (reverse (take n items)))) stored limit g =
+    ap₂ (λ (x y : LoggedWays). frame x y old) c.come.ensures c.come-2.ensures ∙ ap₂ (λ (k : ℕ) (f : FrameWays). come_frame kind wins k stored limit f) count parent in
+    let frames : reverse (set rest (c.len-last.result - 1 - 1) (frame c.come.new.self c.come-2.new.self old)) ≡ come_frame kind wins (suc (length (reverse (take n items)))) stored limit g ∷ u.below =
+    ap₂ (λ (k : ℕ) (f : FrameWays). reverse (set rest k f)) next is_frame ∙ u.put (come_frame kind wins (suc (length (reverse (take n items)))) stored limit g) in
     record {
-      linked = subst (λ (l : List LogRow). AreLinked (reverse l)) (sym log) (kept_linked items v g u.below c.requires.laid.linked laid kind takes wins site closed n start sp sb short np nb c.requires.site limit);
+      linked = subst (λ (l : List LogRow). AreLinked (reverse l)) (sym log) (kept_linked items v g u.below c.requires.laid.linked laid kind takes wins site closed n start sp sb short np nb c.requires.site stored limit);
       frames = subst (λ (l : List LogRow). Laid (length l) (reverse (set rest (c.len-last.result - 1 - 1) (frame c.come.new.self c.come-2.new.self old)))) (sym log)
-          (subst (λ (l : List FrameWays). Laid (length (take n items ++ (returned_row takes site closed v g ∷ []))) l) (sym frames) (kept_laid items v g u.below c.requires.laid.linked laid kind takes wins site closed n start sp sb short np nb c.requires.site limit));
+          (subst (λ (l : List FrameWays). Laid (length (take n items ++ (returned_row takes site closed v g ∷ []))) l) (sym frames) (kept_laid items v g u.below c.requires.laid.linked laid kind takes wins site closed n start sp sb short np nb c.requires.site stored limit));
     }
 
 pub returns-clause-ways : goal.returns-clause-ways
@@ -296,15 +302,16 @@ returns-clause-ways c on ws h =
     c.in_ok-rows.ensures.row ∙ ap₂ (λ (l : List LogRow) (r : LogRow). l ++ (r ∷ [])) cut is_row in
     let count : c.in_ok-rows.rows ≡ suc (length (reverse (take n items))) =
     (let x = c.in_ok-rows.ensures.count in let y : length c.cut-2.new.self.rows.items ≡ length (take n items) = ap (λ (l : List LogRow). length l) cut in let z = length-reverse (take n items) in omega arith) in
+    let stored : ℕ = c.saturating_add-parent.result in
     let limit : ℕ = c.max-parent.result in
-    let frame = λ (x y : LoggedWays) (f : FrameWays). let w : FrameWays = record { plain = x; burdened = y; start = f.start; limit = limit } in w in
-    let is_frame : frame c.come.new.self c.come-2.new.self old ≡ come_frame kind wins (suc (length (reverse (take n items)))) limit g =
-    ap₂ (λ (x y : LoggedWays). frame x y old) c.come.ensures c.come-2.ensures ∙ ap₂ (λ (k : ℕ) (f : FrameWays). come_frame kind wins k limit f) count parent in
-    let frames : reverse (set rest (c.len-last.result - 1 - 1) (frame c.come.new.self c.come-2.new.self old)) ≡ come_frame kind wins (suc (length (reverse (take n items)))) limit g ∷ u.below =
-    ap₂ (λ (k : ℕ) (f : FrameWays). reverse (set rest k f)) next is_frame ∙ u.put (come_frame kind wins (suc (length (reverse (take n items)))) limit g) in
+    let frame = λ (x y : LoggedWays) (f : FrameWays). let w : FrameWays = record { plain = x; burdened = y; start = f.start; stored = stored; limit = limit } in w in
+    let is_frame : frame c.come.new.self c.come-2.new.self old ≡ come_frame kind wins (suc (length (reverse (take n items)))) stored limit g =
+    ap₂ (λ (x y : LoggedWays). frame x y old) c.come.ensures c.come-2.ensures ∙ ap₂ (λ (k : ℕ) (f : FrameWays). come_frame kind wins k stored limit f) count parent in
+    let frames : reverse (set rest (c.len-last.result - 1 - 1) (frame c.come.new.self c.come-2.new.self old)) ≡ come_frame kind wins (suc (length (reverse (take n items)))) stored limit g ∷ u.below =
+    ap₂ (λ (k : ℕ) (f : FrameWays). reverse (set rest k f)) next is_frame ∙ u.put (come_frame kind wins (suc (length (reverse (take n items)))) stored limit g) in
     subst (λ (l : List LogRow). AllWays on (reverse l) (reverse (set rest (c.len-last.result - 1 - 1) (frame c.come.new.self c.come-2.new.self old))) (returned_list kind (on_path on takes) (on_path on wins) site (bare_row closed) ws)) (sym log)
     (subst (λ (l : List FrameWays). AllWays on (reverse (take n items ++ (returned_row takes site closed v g ∷ []))) l (returned_list kind (on_path on takes) (on_path on wins) site (bare_row closed) ws)) (sym frames)
-    (kept_all items v g u.below c.requires.laid.linked laid kind takes wins site closed n start sp sb short np nb c.requires.site limit on ws (subst (λ (l : List FrameWays). AllWays on (reverse items) l ws) all h)))
+    (kept_all items v g u.below c.requires.laid.linked laid kind takes wins site closed n start sp sb short np nb c.requires.site stored limit on ws (subst (λ (l : List FrameWays). AllWays on (reverse items) l ws) all h)))
 
 pub returns-clause-many : goal.returns-clause-many
 returns-clause-many c more =
@@ -379,17 +386,15 @@ returns-clause-many c more =
     c.in_ok-rows.ensures.row ∙ ap₂ (λ (l : List LogRow) (r : LogRow). l ++ (r ∷ [])) cut is_row in
     let count : c.in_ok-rows.rows ≡ suc (length (reverse (take n items))) =
     (let x = c.in_ok-rows.ensures.count in let y : length c.cut-2.new.self.rows.items ≡ length (take n items) = ap (λ (l : List LogRow). length l) cut in let z = length-reverse (take n items) in omega arith) in
+    let stored : ℕ = c.saturating_add-parent.result in
     let limit : ℕ = c.max-parent.result in
-    let frame = λ (x y : LoggedWays) (f : FrameWays). let w : FrameWays = record { plain = x; burdened = y; start = f.start; limit = limit } in w in
-    let is_frame : frame c.come.new.self c.come-2.new.self old ≡ come_frame kind wins (suc (length (reverse (take n items)))) limit g =
-    ap₂ (λ (x y : LoggedWays). frame x y old) c.come.ensures c.come-2.ensures ∙ ap₂ (λ (k : ℕ) (f : FrameWays). come_frame kind wins k limit f) count parent in
-    let frames : reverse (set rest (c.len-last.result - 1 - 1) (frame c.come.new.self c.come-2.new.self old)) ≡ come_frame kind wins (suc (length (reverse (take n items)))) limit g ∷ u.below =
-    ap₂ (λ (k : ℕ) (f : FrameWays). reverse (set rest k f)) next is_frame ∙ u.put (come_frame kind wins (suc (length (reverse (take n items)))) limit g) in
+    let frame = λ (x y : LoggedWays) (f : FrameWays). let w : FrameWays = record { plain = x; burdened = y; start = f.start; stored = stored; limit = limit } in w in
+    let is_frame : frame c.come.new.self c.come-2.new.self old ≡ come_frame kind wins (suc (length (reverse (take n items)))) stored limit g =
+    ap₂ (λ (x y : LoggedWays). frame x y old) c.come.ensures c.come-2.ensures ∙ ap₂ (λ (k : ℕ) (f : FrameWays). come_frame kind wins k stored limit f) count parent in
+    let frames : reverse (set rest (c.len-last.result - 1 - 1) (frame c.come.new.self c.come-2.new.self old)) ≡ come_frame kind wins (suc (length (reverse (take n items)))) stored limit g ∷ u.below =
+    ap₂ (λ (k : ℕ) (f : FrameWays). reverse (set rest k f)) next is_frame ∙ u.put (come_frame kind wins (suc (length (reverse (take n items)))) stored limit g) in
     let rows : length c.push.new.self.rows.items ≡ c.in_ok-rows.rows =
     (let x = c.in_ok-rows.ensures.count in let y : length c.push.new.self.rows.items ≡ length (c.cut-2.new.self.rows.items ++ (row c.chosen-plain.result c.chosen-burdened.result old ∷ [])) = ap (λ (l : List LogRow). length l) c.in_ok-rows.ensures.row in
     let z = length-append c.cut-2.new.self.rows.items (row c.chosen-plain.result c.chosen-burdened.result old ∷ []) in omega arith) in
-    let lt : c.saturating_add.result < c.in_ok-rows.rows = ltb-true c.saturating_add.result c.in_ok-rows.rows more in
-    let sum = c.saturating_add.ensures in
-    let one : 1 ≤ c.max-4.result = (let z = c.max-4.ensures in omega arith) in
-    let small : c.in_ok-rows.rows < 4294967296 = (let z : length items + 1 < 4294967296 = c.requires.few in let y : length c.cut-2.new.self.rows.items ≡ n = ap (λ (l : List LogRow). length l) cut ∙ length-take-le n items short in omega arith) in
+    let full : old.start + 2 ≤ c.in_ok-rows.rows = c.is_full.ensures more in
     subst (HasRowsOf (length c.push.new.self.rows.items)) (sym frames) (let z : g.start + 2 ≤ length c.push.new.self.rows.items = omega arith in z)

@@ -1,4 +1,3 @@
-use Rattle.std.proofs.Common.{Bool, arith}
 use Rattle.spp_ways.specs.OpenWays.{on_path, bare_row, returned_list}
 use Rattle.spp_ways.proofs.open_ways.OpenWays.ret.Goals as goal
 

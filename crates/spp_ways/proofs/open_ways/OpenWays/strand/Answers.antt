@@ -1,5 +1,5 @@
-use Rattle.std.proofs.Common.{◌≡◌, ℕ, ◌-◌, ◌<◌, Bool, true, false, List, ◌∷◌, length, map, reverse, get_or, set, ap, ap₂, subst, sym, ◌∙◌, arith}
-use Rattle.spp_site.proofs.LastFirst.{Topped, topped}
+use Rattle.std.proofs.Common.{◌≡◌, ℕ, ◌-◌, true, false, List, length, reverse, get_or, set, ap, ap₂, subst, sym, ◌∙◌, arith}
+use Rattle.spp_site.proofs.LastFirst.{topped}
 use Rattle.spp_ways.specs.declared.open_ways.FrameWays.{FrameWays}
 use Rattle.spp_ways.specs.declared.open_ways.OpenWays.{OpenWays}
 use Rattle.spp_ways.specs.OpenWays.{AllWays, Laid, strand_list}
@@ -50,7 +50,7 @@ returns-clause-laid c =
     let at : c.len-last.result - 1 ≡ length fs - 1 = omega (arith, c.len-last.ensures, o.frames.ok.0) in
     let old : FrameWays = c.index_mut-frame.result.now in
     let top : old ≡ t.top = c.index_mut-frame.ensures.value ∙ ap (λ k. get_or fs k old) at ∙ t.get old in
-    let frame = λ (m n : ℕ). let f : FrameWays = record { plain = strand_on m old.plain; burdened = strand_on n old.burdened; start = old.start; limit = old.limit } in f in
+    let frame = λ (m n : ℕ). let f : FrameWays = record { plain = strand_on m old.plain; burdened = strand_on n old.burdened; start = old.start; stored = old.stored; limit = old.limit } in f in
     let moved : set fs (c.len-last.result - 1) (frame c.from.result c.from-2.result) ≡ set fs (length fs - 1) (strand_frame count t.top) =
     ap₂ (λ (k : ℕ) (f : FrameWays). set fs k f) at (ap₂ frame c.from.ensures c.from-2.ensures ∙ ap (strand_frame count) top) in
     let d = strand_done count o some c.requires.laid in
@@ -66,7 +66,7 @@ returns-clause-ways c on ws h =
     let at : c.len-last.result - 1 ≡ length fs - 1 = omega (arith, c.len-last.ensures, o.frames.ok.0) in
     let old : FrameWays = c.index_mut-frame.result.now in
     let top : old ≡ t.top = c.index_mut-frame.ensures.value ∙ ap (λ k. get_or fs k old) at ∙ t.get old in
-    let frame = λ (m n : ℕ). let f : FrameWays = record { plain = strand_on m old.plain; burdened = strand_on n old.burdened; start = old.start; limit = old.limit } in f in
+    let frame = λ (m n : ℕ). let f : FrameWays = record { plain = strand_on m old.plain; burdened = strand_on n old.burdened; start = old.start; stored = old.stored; limit = old.limit } in f in
     let moved : set fs (c.len-last.result - 1) (frame c.from.result c.from-2.result) ≡ set fs (length fs - 1) (strand_frame count t.top) =
     ap₂ (λ (k : ℕ) (f : FrameWays). set fs k f) at (ap₂ frame c.from.ensures c.from-2.ensures ∙ ap (strand_frame count) top) in
     let d = strand_done count o some c.requires.laid in

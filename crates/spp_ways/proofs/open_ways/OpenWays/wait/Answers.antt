@@ -1,4 +1,4 @@
-use Rattle.std.proofs.Common.{◌≡◌, ℕ, ◌-◌, ◌≤◌, ◌<◌, max, Bool, true, false, List, ◌∷◌, length, map, reverse, take, get_or, set, ap, ap₂, subst, sym, ◌∙◌, arith}
+use Rattle.std.proofs.Common.{◌≡◌, ℕ, ◌-◌, ◌≤◌, max, false, List, ◌∷◌, length, reverse, take, get_or, set, ap, ap₂, subst, sym, ◌∙◌, arith}
 use Rattle.spp_site.proofs.LastFirst.{topped}
 use Rattle.spp_ways.specs.declared.log.LogRow.{LogRow}
 use Rattle.spp_ways.specs.declared.open_ways.OnPaths.{OnPaths}
@@ -23,7 +23,7 @@ returns-clause-laid c =
     let at : c.len-last.result - 1 ≡ length fs - 1 = omega (arith, c.len-last.ensures, o.frames.ok.0) in
     let old : FrameWays = c.index_mut-frame.result.now in
     let top : old ≡ t.top = c.index_mut-frame.ensures.value ∙ ap (λ k. get_or fs k old) at ∙ t.get old in
-    let frame = λ (a b : LoggedWays). let f : FrameWays = record { plain = a; burdened = b; start = old.start; limit = old.limit } in f in
+    let frame = λ (a b : LoggedWays). let f : FrameWays = record { plain = a; burdened = b; start = old.start; stored = old.stored; limit = old.limit } in f in
     let on_along = λ (w : LoggedWay). let v : LoggedWays = record { along = w; through = nothing } in v in
     let plain : c.chosen-plain.result ≡ chosen takes.plain t.top.plain = c.chosen-plain.ensures ∙ ap (λ (f : FrameWays). chosen takes.plain f.plain) top in
     let burdened : c.chosen-burdened.result ≡ chosen takes.burdened t.top.burdened = c.chosen-burdened.ensures ∙ ap (λ (f : FrameWays). chosen takes.burdened f.burdened) top in
@@ -61,7 +61,7 @@ returns-clause-ways c on ws h =
     let at : c.len-last.result - 1 ≡ length fs - 1 = omega (arith, c.len-last.ensures, o.frames.ok.0) in
     let old : FrameWays = c.index_mut-frame.result.now in
     let top : old ≡ t.top = c.index_mut-frame.ensures.value ∙ ap (λ k. get_or fs k old) at ∙ t.get old in
-    let frame = λ (a b : LoggedWays). let f : FrameWays = record { plain = a; burdened = b; start = old.start; limit = old.limit } in f in
+    let frame = λ (a b : LoggedWays). let f : FrameWays = record { plain = a; burdened = b; start = old.start; stored = old.stored; limit = old.limit } in f in
     let on_along = λ (w : LoggedWay). let v : LoggedWays = record { along = w; through = nothing } in v in
     let plain : c.chosen-plain.result ≡ chosen takes.plain t.top.plain = c.chosen-plain.ensures ∙ ap (λ (f : FrameWays). chosen takes.plain f.plain) top in
     let burdened : c.chosen-burdened.result ≡ chosen takes.burdened t.top.burdened = c.chosen-burdened.ensures ∙ ap (λ (f : FrameWays). chosen takes.burdened f.burdened) top in
