@@ -207,13 +207,17 @@ fn all_noted(
 /// Whether these are the joins at positions from `from` to before `end`.
 fn are_joins(told: &[Choice], wanted: &[(u32, Option<u32>)], from: u32, end: u32) -> bool {
     let mut here = wanted.iter().filter(|join| from <= join.0 && join.0 < end);
-    let same = told.iter().all(|join| here.next() == Some(&(join.at, join.taken)));
+    let same = told
+        .iter()
+        .all(|join| here.next() == Some(&(join.at, join.taken)));
     same && here.next().is_none()
 }
 
 /// Whether these are the ends there.
 fn are_ends(told: &[End], wanted: &[(u32, u32)], from: u32, end: u32) -> bool {
-    let mut here = wanted.iter().filter(|of_run| from <= of_run.0 && of_run.0 < end);
+    let mut here = wanted
+        .iter()
+        .filter(|of_run| from <= of_run.0 && of_run.0 < end);
     let same = told.iter().all(|of_part| here.next() == Some(&(of_part.at, of_part.spawn)));
     same && here.next().is_none()
 }
@@ -265,9 +269,17 @@ fn is_told<R: Threads + Wait + Sync>(
 ) -> Result<bool, ProfileFault> {
     let stacks = stacks_under(rt, alloc, cut, Crew::One, AFTER)?;
     let choices = all_noted(alloc, cut, &stacks, AFTER)?;
-    Ok(have_choices(cut, &choices, run)
-        && enters(alloc, &stacks, &choices, Under::Zero, run.entered)?
-        && enters(alloc, &stacks, &choices, Under::Burdens, run.burdened_entered)?)
+    Ok(
+        have_choices(cut, &choices, run)
+            && enters(alloc, &stacks, &choices, Under::Zero, run.entered)?
+            && enters(
+                alloc,
+                &stacks,
+                &choices,
+                Under::Burdens,
+                run.burdened_entered,
+            )?,
+    )
 }
 
 /// Whether it is so of the run in one part, and in two parts however it is cut; none where an allocation failed.
