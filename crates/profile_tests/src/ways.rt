@@ -550,14 +550,18 @@ fn lines_of(table: &Table) -> Lines {
 }
 
 /// A run's figures, and its rows on both paths; none where it has no profile.
-fn told(alloc: Global, way: &Way) -> Result<Option<(Figures, Lines, Lines)>, AllocError> {
-    let Some(bytes) = bytes_of(alloc, way.events)? else {
+fn told(
+    alloc: Global,
+    events: &[Event],
+    burdens: Burdens,
+) -> Result<Option<(Figures, Lines, Lines)>, AllocError> {
+    let Some(bytes) = bytes_of(alloc, events)? else {
         return Ok(None);
     };
     let Ok(trace) = open_trace(alloc, bytes.as_slice()) else {
         return Ok(None);
     };
-    match profile_serial(alloc, &trace, way.burdens) {
+    match profile_serial(alloc, &trace, burdens) {
         Ok(profile) => Ok(Some((
             profile.figures,
             lines_of(&profile.path),
@@ -572,7 +576,53 @@ fn told(alloc: Global, way: &Way) -> Result<Option<(Figures, Lines, Lines)>, All
 fn paths_have_the_rows_of_the_frames_that_they_enter(rt: HostRuntime) -> Result<(), Fail> {
     for (i, way) in WAYS.iter().enumerate() {
         let wanted = Some((way.figures, *way.path, *way.burdened_path));
-        assert_eq!(rt; told(rt.alloc(), way)?, wanted, "run {i}");
+        assert_eq!(rt; told(rt.alloc(), way.events, way.burdens)?, wanted, "run {i}");
     }
+    Ok(())
+}
+
+/// A child that calls 2,000 frames, and beside it 1,500 in the root frame: more rows than are kept apart.
+fn long_run(alloc: Global) -> Result<Vec<Event>, AllocError> {
+    let mut events = Vec::new(alloc);
+    events.push(SPAWN_A)?;
+    for _ in 0..2000 {
+        events.push(CALL_B)?;
+        events.push(S2)?;
+        events.push(RET)?;
+    }
+    events.push(RET)?;
+    for _ in 0..1500 {
+        events.push(CALL_C)?;
+        events.push(S1)?;
+        events.push(RET)?;
+    }
+    events.push(SYNC)?;
+    events.push(S10)?;
+    Ok(events)
+}
+
+/// Without burdens the child is the longer way, and with a burden on continuation edges what runs beside it.
+#[test]
+fn rows_that_are_added_up_on_the_way_count(rt: HostRuntime) -> Result<(), Fail> {
+    let burdens = Burdens {
+        continuation: 10000,
+        join: 0,
+    };
+    let figures = Figures {
+        work: 5510,
+        span: 4010,
+        burdened: 11510,
+    };
+    let root = [1, 10, 1, 5510, 4010, 1, 5510, 4010];
+    let path = [
+        root,
+        [1, 0, 1, 4000, 4000, 1, 4000, 4000],
+        [2000, 4000, 2000, 4000, 4000, 2000, 4000, 4000],
+        NONE,
+    ];
+    let burdened_path = [root, NONE, NONE, [1500; 8]];
+    let events = long_run(rt.alloc())?;
+    let wanted = Some((figures, path, burdened_path));
+    assert_eq!(rt; told(rt.alloc(), events.as_slice(), burdens)?, wanted);
     Ok(())
 }
