@@ -576,7 +576,11 @@ fn told(
 fn paths_have_the_rows_of_the_frames_that_they_enter(rt: HostRuntime) -> Result<(), Fail> {
     for (i, way) in WAYS.iter().enumerate() {
         let wanted = Some((way.figures, *way.path, *way.burdened_path));
-        assert_eq!(rt; told(rt.alloc(), way.events, way.burdens)?, wanted, "run {i}");
+        assert_eq!(rt;
+            told(rt.alloc(), way.events, way.burdens)?,
+            wanted,
+            "run {i}"
+        );
     }
     Ok(())
 }
