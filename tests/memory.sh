@@ -97,7 +97,8 @@ each_refused() { # NAME STATUS STARTS OUT ERR INPUT PROGRAM WORDS..: what the pr
 # Each call twice: of the crew figures, profile and marks by two workers, with 1, 4 and 3 threads.
 each_refused 'the calls' 0 16 "$(cat "$tests/../crates/memory_probe/stdout")" '' /dev/null "$probe"
 
-# A round has a thread for each worker but one; `profile` has three rounds, and settles its paths on two threads.
+# A round has a thread for each worker but one; `profile` has three rounds, and settles its paths on two threads. With one
+# worker it has neither.
 examples=$tests/../examples
 head -c 23 "$examples/small.sptrace" > "$folder/short"
 { head -c 100 "$examples/small.sptrace"; head -c 16 /dev/zero | tr '\0' '\5'; } > "$folder/tag"
@@ -119,6 +120,8 @@ printf '%s\n' 'func main' 'func f' 'site A' 'strand 1' 'spawn 0 1' 'strand 4' 'r
     'sync' 'strand 3' | "$spprof" encode > "$folder/two"
 each_refused 'figures by workers' 0 1 'work 10*' '' "$folder/two" "$spprof" figures --parts 9 --workers 2
 each_refused 'profile by workers' 0 4 'name,count*' '' "$folder/two" "$spprof" profile --csv --parts 9 --workers 2
+each_refused 'profile by one worker' 0 0 'work 32744*' '' "$examples/nqueens.sptrace" "$spprof" profile --workers 1
+each_refused 'compare by one worker' 0 0 'work 10 17*' '' /dev/null "$spprof" compare --workers 1 "$folder/two" "$examples/small.sptrace"
 each_refused 'marks by workers' 0 3 '111100011' '' "$folder/two" "$printer" marks 9 2
 each_refused 'marks, a recorded trace' 0 6 '1*' '' "$examples/nqueens.sptrace" "$printer" marks 20 3
 each_refused 'compare' 0 20 'work 17 32744*' '' /dev/null "$spprof" compare "$examples/small.sptrace" "$examples/nqueens.sptrace"
@@ -172,6 +175,14 @@ peaks_within() { # BOUND STATUS INPUT WORDS..: so many KiB are used at most, and
 size=$(($(stat -c %s "$folder/long") / 1024))
 peaks_within $((size * 13 / 10)) 0 "$folder/long" figures --workers 1
 peaks_within $((size * 11 / 10)) 0 "$folder/long" figures --workers 1 "$folder/long"
+# With one worker a profile takes little more, however many frames are on the path: some are called, and others spawned, each
+# of which is longer than the one before.
+awk 'BEGIN { print "func f"; for (n = 0; n < 40; n++) print "site s" n
+    for (n = 0; n < 1400000; n++) print (n < 700000 ? "call " : "spawn ") n % 40, 0 "\nstrand", n "\nreturn" }' | "$spprof" encode \
+    > "$folder/row"
+size=$(($(stat -c %s "$folder/row") / 1024))
+peaks_within $((size * 11 / 10)) 0 "$folder/row" profile --workers 1 "$folder/row"
+size=$(($(stat -c %s "$folder/long") / 1024))
 # Of a trace of version 1 `check` keeps the header and a piece: most of what is measured is the process that starts the
 # program.
 peaks_within 20000 0 "$folder/long" check
