@@ -40,7 +40,7 @@ use spp_stack::Entry;
 use spp_ways::OnPaths;
 use std::alloc::{AllocError, Global};
 
-/// What the return of a frame tells of the ways through it.
+/// A frame that returns, and what that tells of the ways through it.
 #[derive(Clone, Copy)]
 pub struct Closing {
     /// How it was entered.
@@ -51,7 +51,8 @@ pub struct Closing {
     pub closed: ClosedFrame,
     /// On which paths it takes the child that waits in it.
     pub takes: OnPaths,
-    /// On which paths the way through it is greater than that through the child that waits in its parent, or none waits.
+    /// Of a spawned frame on which paths the way through it is heavier than that through the child that waits in its parent,
+    /// or none waits there. A tie is no win; of a called frame nothing is meant by it.
     pub wins: OnPaths,
 }
 

@@ -1,4 +1,5 @@
-//! The task `profile`: the figures and tables of a run, by workers that share the parts of its trace, or its first fault.
+//! The task `profile`: the figures and tables of a run, by one worker in one reading or by several that share the parts of
+//! its trace, or its first fault.
 ghost use Rattle.std.specs.Prelude.{◌≡◌, ◌<◌, ◌^◌, [], ◌∷◌, IfOk, IfErr};
 ghost use Rattle.spp_shell.specs.Tasks.{IfLine};
 ghost use Rattle.spp_frame.specs.Answers.{IsFaultOf};

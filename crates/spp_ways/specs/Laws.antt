@@ -1,4 +1,4 @@
--- What the ways into open frames are for: those into the root frame at the end give the rows of the path.
+-- What the ways into open frames are for: the one with which the root frame closes gives the rows of the path.
 use Rattle.std.specs.Prelude.{◌≡◌, ℕ, Bool, List, [], ◌∷◌, length, Option, None}
 use Rattle.spp_event.specs.declared.records.Event.{Event}
 use Rattle.spp_maxplus.specs.declared.state.Burdens.{Burdens}

@@ -2,7 +2,7 @@
 
 ghost use Rattle.spp_ways.specs.Laws.{WaysGiveRows};
 
-/// The law of ways: those into the root frame, where it closes, have the rows of the path. Its contract is what it is for.
+/// The law of ways: the one with which the root frame closes has the rows of the path. Its contract is what it is for.
 pub fn way_laws()
     ensures rows { WaysGiveRows }
 {}

@@ -1,6 +1,7 @@
-//! The ways into the open frames of a run: for each frame the greatest way along it, and the greatest way through a child
-//! that waits in it, with the closed frames that they enter, on the path without burdens and on the one under them. Those
-//! into the root frame at the end are the critical paths, and what they enter are the rows of the paths' tables.
+//! The ways into the open frames of a run, from the first position of each: the greatest one along the frame, and the
+//! greatest one through the child that waits to be joined, with the closed frames that they enter, on the path without
+//! burdens and on the one under them. The one with which the root frame closes is the critical path, and what it enters
+//! are the rows of the path's table.
 #![tactic(auto)]
 
 mod laws;

@@ -40,7 +40,7 @@ impl Merged {
 /// A closed frame, and for either path how the ways lead on from it; or what the rows of two ways come to.
 #[derive(Drop)]
 pub(crate) struct LogRow {
-    /// Its work.
+    /// Its work, in instructions, as all counts here.
     pub(crate) work: u128,
     /// Its span.
     pub(crate) span: u128,
@@ -48,7 +48,7 @@ pub(crate) struct LogRow {
     pub(crate) own: u128,
     /// And on that under the burdens.
     pub(crate) burdened_own: u128,
-    /// Where the way ends that leads to it in its parent.
+    /// Where the way ends that leads to it in its parent: how many rows the log has up to its last one, 0 for none.
     pub(crate) before: u32,
     /// Where the way through it ends.
     pub(crate) within: u32,
@@ -114,6 +114,10 @@ impl LogRow {
     }
 
     /// Adds it to a table of that path.
+    ///
+    /// # Errors
+    ///
+    /// Where an allocation failed.
     fn add_to(&self, burdened: bool, table: &mut Table) -> Result<(), AllocError>
         requires site { self.now.site < 65536 }
         requires fits { (key : Option ℕ) → Fits (plus (key_row table.old key) (row_on burdened self.now key)) }
@@ -170,7 +174,7 @@ impl Log {
         self.rows.len() as u32
     }
 
-    /// Leaves the first rows, so many.
+    /// Keeps the first rows alone, so many.
     #[inline(always)]
     pub(crate) fn cut(&mut self, to: u32)
         ensures { self.new.rows.items ≡ take to self.old.rows.items }
@@ -182,6 +186,10 @@ impl Log {
     }
 
     /// Puts a row behind the others, and gives the number of rows then.
+    ///
+    /// # Errors
+    ///
+    /// Where an allocation failed.
     #[inline(always)]
     pub(crate) fn push(&mut self, row: LogRow) -> Result<u32, AllocError>
         requires { length self.old.rows.items + 1 < 2 ^ 32 }
@@ -192,8 +200,8 @@ impl Log {
         Ok(self.rows.len() as u32)
     }
 
-    /// Adds the rows of a way to a table: without burdens, or under them. It takes constant time for each, and memory for
-    /// as many numbers as closed frames nest.
+    /// Adds the rows of a way to a table: without burdens, or under them. It takes constant time for each frame, time linear
+    /// in what is stored for each that was merged, and memory for as many numbers as closed frames nest.
     ///
     /// # Errors
     ///
@@ -255,6 +263,10 @@ impl Log {
     }
 
     /// Puts what was merged behind the other rows, and gives the number of rows then.
+    ///
+    /// # Errors
+    ///
+    /// Where an allocation failed.
     pub(crate) fn push_merged(&mut self, alloc: Global, merged: Merged) -> Result<u32, AllocError>
         requires { length self.old.rows.items + 1 < 2 ^ 32 }
         ensures row { OnOk result ((r : LogRowValue) × IsMergedRow merged r × (self.new.rows.items ≡ self.old.rows.items ++ (r ∷ []))) }

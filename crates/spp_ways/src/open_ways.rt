@@ -1,6 +1,6 @@
 //! The ways into the open frames of a run, on both paths at once.
 
-ghost use Rattle.std.specs.Prelude.{◌≡◌, ◌+◌, ◌<◌, ◌≤◌, ◌^◌, ◌∷◌, [], ℕ, Bool, List, true, false, Option, length, OnOk, IfOk};
+ghost use Rattle.std.specs.Prelude.{◌≡◌, ◌+◌, ◌-◌, ◌*◌, ◌/◌, max, min, nat_lt, ◌<◌, ◌≤◌, ◌^◌, ◌∷◌, [], ℕ, Bool, List, true, false, Option, length, OnOk, IfOk};
 ghost use Rattle.spp_site.specs.Rows.{Fits};
 ghost use Rattle.spp_site.specs.Profiles.{key_row};
 ghost use Rattle.spp_ways.specs.Ways.{Ways, no_ways, rows_at};
@@ -34,7 +34,7 @@ use spp_dag::FrameKind;
 use spp_site::{ClosedFrame, Table};
 use std::alloc::{AllocError, Global};
 
-/// An answer for each of both paths.
+/// A yes or a no for each of both paths.
 #[derive(Clone, Copy, Debug, PartialEq, Eq)]
 pub struct OnPaths {
     /// For the path without burdens.
@@ -113,6 +113,7 @@ impl LoggedWays {
     fn needed(&self, kind: FrameKind, wins: bool) -> u32
         ensures stay { StayIn result kind wins self.now }
         ensures most { (n : ℕ) → AreIn n self.now → result ≤ n }
+        ensures least { (n : ℕ) → StayIn n kind wins self.now → result ≤ n }
     {
         match kind {
             FrameKind::Spawned if wins => self.along.rows,
@@ -151,9 +152,9 @@ struct FrameWays {
     burdened: LoggedWays,
     /// How many rows the log had where the frame was opened: the ways into the frames below end there or before.
     start: u32,
-    /// How many rows by call site the merged ones behind those store, at most.
+    /// How many rows by call site are stored for what was merged behind those, at most.
     stored: u32,
-    /// Of how many rows, with those that are stored, all behind those are merged.
+    /// Where the rows behind those and the stored ones are more than that, they are merged.
     limit: u32,
 }
 
@@ -174,7 +175,9 @@ impl FrameWays {
 
     /// The frame, where the rows of its ways have been merged into these two of the log, which store so many rows.
     fn merged(self, along: u32, through: u32, stored: u32) -> Self
-        ensures { AreMerged along through self result }
+        ensures ways { AreMerged along through self result }
+        ensures stored { result.stored ≡ stored }
+        ensures limit { result.limit ≡ max self.limit (min (2 * stored) 4294967295) }
     {
         FrameWays {
             plain: self.plain.merged(along, through),
@@ -188,10 +191,11 @@ impl FrameWays {
     /// Whether its rows are to be merged, where the log has so many.
     #[inline(always)]
     fn is_full(&self, rows: u32) -> bool
-        ensures { result ≡ true → self.now.start + 2 ≤ rows }
+        ensures full { result ≡ nat_lt (max (self.now.limit - self.now.stored) 1) (rows - self.now.start) }
+        ensures two { result ≡ true → self.now.start + 2 ≤ rows }
     {
-        rows > self.start.saturating_add(1)
-            && rows - self.start > self.limit.saturating_sub(self.stored)
+        let most = self.limit.saturating_sub(self.stored);
+        rows.saturating_sub(self.start) > most.max(1)
     }
 
     /// The way on which the frame goes on where it waits, on that path: without burdens, or under them.
@@ -218,9 +222,9 @@ fn is_entered(kind: FrameKind, wins: OnPaths) -> bool
     }
 }
 
-/// The least number of rows of a frame at which they are merged. Where there are many call sites it is four for each, since
-/// a row that is stored takes more memory than one of the log.
-const LEAST_LIMIT: u32 = 1024;
+/// The least number of rows of a frame at which they are merged; where there are more call sites than eight times as many,
+/// an eighth of these, since merging takes a step for each.
+const LEAST_LIMIT: u32 = 64;
 
 /// Where more rows are stored than that, it doesn't matter how many.
 const MOST_STORED: usize = u32::MAX as usize;
@@ -229,10 +233,11 @@ const MOST_STORED: usize = u32::MAX as usize;
 /// itself, and the greatest way through a child that waits in it, with the closed frames that they enter. Which child a
 /// frame takes, and which of two children is kept, is told by whoever keeps their weights.
 ///
-/// A frame that closes takes a row of 96 bytes. Rows behind the last one that a way ends with are cut off; and where those
-/// of an open frame are too many, the rows of its ways are merged into one for each call site. So what an open frame keeps
-/// doesn't grow with the number of frames that it has called or spawned, but with that of the call sites on its ways. An
-/// open frame takes 144 bytes. Each step takes constant time, amortized.
+/// A closed frame that a way enters takes a row of 96 bytes in a log; rows behind the last one that a way ends with are cut
+/// off. Where the rows of an open frame are more than 64, and more than an eighth of the trace's call sites, those of its
+/// ways are merged: what they add to each site is stored, in some 128 bytes a site for each way and path, up to four times
+/// that with spare room. What is stored counts towards the next time, which is not before twice as much. An open frame takes
+/// 144 bytes besides. Each step takes constant time, amortized. After an error the ways are of no use.
 #[derive(Drop)]
 pub struct OpenWays {
     frames: Vec<FrameWays>,
@@ -251,8 +256,9 @@ impl OpenWays {
         ensures laid { IfOk result (λ w. IsLaid w) }
         ensures ways { IfOk result (λ w. (on : Bool) → AreWays on w (no_ways ∷ [])) }
         ensures rows { IfOk result (λ w. length w.log.rows.items ≡ 0) }
+        ensures limit { IfOk result (λ w. w.limit ≡ max (sites / 8) 64) }
     {
-        let limit = sites.saturating_mul(4).max(LEAST_LIMIT);
+        let limit = (sites / 8).max(LEAST_LIMIT);
         let mut frames = Vec::new(alloc);
         frames.push(FrameWays::opened(0, limit))?;
         Ok(OpenWays {
@@ -314,7 +320,12 @@ impl OpenWays {
         self.log.cut(needed);
     }
 
-    /// Merges the rows of the innermost frame.
+    /// Merges the rows of the innermost frame. It takes time linear in the numbers of its rows, of those that are stored for
+    /// them, and of call sites.
+    ///
+    /// # Errors
+    ///
+    /// Where an allocation failed.
     #[cold]
     #[inline(never)]
     fn merge(&mut self, alloc: Global) -> Result<(), AllocError>
@@ -396,9 +407,10 @@ impl OpenWays {
         Ok(parent.is_full(rows))
     }
 
-    /// The innermost frame returns to the one below: how it was entered; on which paths it takes the child that waits in
-    /// it; on which the way through it is greater than the one through the child that waits in the frame below, or none
-    /// waits; and the frame as the table of the whole dag counts it.
+    /// The innermost frame returns to the one below. `kind` and `site` tell how it was entered; `takes` on which paths it
+    /// takes the child that waits in it. For a spawned frame `wins` tells on which paths the way through it is heavier than
+    /// that through the child that waits in the frame below, or none waits there; a tie is no win. `closed` is the frame as
+    /// the table of the whole dag counts it; its `local` isn't used, since the ways have their own strands.
     ///
     /// # Errors
     ///
@@ -430,7 +442,7 @@ impl OpenWays {
 
     /// The table of a path, without burdens or under them, where the root frame, which alone is open, closes: on which paths
     /// it takes the child that waits in it, and the frame as the table of the whole dag counts it. It takes time linear in
-    /// the number of frames that the path enters.
+    /// the numbers of rows that the path has in the log, of those that are stored for them, and of call sites.
     ///
     /// # Errors
     ///

@@ -164,7 +164,7 @@ returns-clause-laid c =
     (let z = c.in_ok-through-2.ensures.count in let w : length c.push_merged.new.self.rows.items ≡ length c.cut.new.self.rows.items + 1 = ap (λ (l : List LogRow). length l) x.2 ∙ length-append c.cut.new.self.rows.items (x.0 ∷ []) in omega arith) in
     let merged : AreMerged (t.top.start + 1) (t.top.start + 2) t.top c.merged.result =
     subst (λ (k : ℕ). AreMerged k (t.top.start + 2) t.top c.merged.result) along (subst (λ (k : ℕ). AreMerged c.in_ok-along-2.along k t.top c.merged.result) through
-    (subst (λ (f : FrameWays). AreMerged c.in_ok-along-2.along c.in_ok-through-2.through f c.merged.result) top c.merged.ensures)) in
+    (subst (λ (f : FrameWays). AreMerged c.in_ok-along-2.along c.in_ok-through-2.through f c.merged.result) top c.merged.ensures.ways)) in
     let frames : reverse (set fs (c.len-last.result - 1) c.merged.result) ≡ c.merged.result ∷ t.below = ap (λ (k : ℕ). reverse (set fs k c.merged.result)) at ∙ t.put c.merged.result in
     let are = both_are (reverse items) t.top c.in_ok-along.along c.in_ok-through.through
     (λ key. c.in_ok-along.ensures.plain key ∙ ap (λ (f : FrameWays). way_row false (reverse items) f.plain.along.rows key) top)
@@ -202,7 +202,7 @@ returns-clause-ways c on ws h =
     (let z = c.in_ok-through-2.ensures.count in let w : length c.push_merged.new.self.rows.items ≡ length c.cut.new.self.rows.items + 1 = ap (λ (l : List LogRow). length l) x.2 ∙ length-append c.cut.new.self.rows.items (x.0 ∷ []) in omega arith) in
     let merged : AreMerged (t.top.start + 1) (t.top.start + 2) t.top c.merged.result =
     subst (λ (k : ℕ). AreMerged k (t.top.start + 2) t.top c.merged.result) along (subst (λ (k : ℕ). AreMerged c.in_ok-along-2.along k t.top c.merged.result) through
-    (subst (λ (f : FrameWays). AreMerged c.in_ok-along-2.along c.in_ok-through-2.through f c.merged.result) top c.merged.ensures)) in
+    (subst (λ (f : FrameWays). AreMerged c.in_ok-along-2.along c.in_ok-through-2.through f c.merged.result) top c.merged.ensures.ways)) in
     let frames : reverse (set fs (c.len-last.result - 1) c.merged.result) ≡ c.merged.result ∷ t.below = ap (λ (k : ℕ). reverse (set fs k c.merged.result)) at ∙ t.put c.merged.result in
     let are = both_are (reverse items) t.top c.in_ok-along.along c.in_ok-through.through
     (λ key. c.in_ok-along.ensures.plain key ∙ ap (λ (f : FrameWays). way_row false (reverse items) f.plain.along.rows key) top)
@@ -238,7 +238,7 @@ returns-clause-rows c =
     (let z = c.in_ok-through-2.ensures.count in let w : length c.push_merged.new.self.rows.items ≡ length c.cut.new.self.rows.items + 1 = ap (λ (l : List LogRow). length l) x.2 ∙ length-append c.cut.new.self.rows.items (x.0 ∷ []) in omega arith) in
     let merged : AreMerged (t.top.start + 1) (t.top.start + 2) t.top c.merged.result =
     subst (λ (k : ℕ). AreMerged k (t.top.start + 2) t.top c.merged.result) along (subst (λ (k : ℕ). AreMerged c.in_ok-along-2.along k t.top c.merged.result) through
-    (subst (λ (f : FrameWays). AreMerged c.in_ok-along-2.along c.in_ok-through-2.through f c.merged.result) top c.merged.ensures)) in
+    (subst (λ (f : FrameWays). AreMerged c.in_ok-along-2.along c.in_ok-through-2.through f c.merged.result) top c.merged.ensures.ways)) in
     let frames : reverse (set fs (c.len-last.result - 1) c.merged.result) ≡ c.merged.result ∷ t.below = ap (λ (k : ℕ). reverse (set fs k c.merged.result)) at ∙ t.put c.merged.result in
     let are = both_are (reverse items) t.top c.in_ok-along.along c.in_ok-through.through
     (λ key. c.in_ok-along.ensures.plain key ∙ ap (λ (f : FrameWays). way_row false (reverse items) f.plain.along.rows key) top)

@@ -396,5 +396,5 @@ returns-clause-many c more =
     let rows : length c.push.new.self.rows.items ≡ c.in_ok-rows.rows =
     (let x = c.in_ok-rows.ensures.count in let y : length c.push.new.self.rows.items ≡ length (c.cut-2.new.self.rows.items ++ (row c.chosen-plain.result c.chosen-burdened.result old ∷ [])) = ap (λ (l : List LogRow). length l) c.in_ok-rows.ensures.row in
     let z = length-append c.cut-2.new.self.rows.items (row c.chosen-plain.result c.chosen-burdened.result old ∷ []) in omega arith) in
-    let full : old.start + 2 ≤ c.in_ok-rows.rows = c.is_full.ensures more in
+    let full : old.start + 2 ≤ c.in_ok-rows.rows = c.is_full.ensures.two more in
     subst (HasRowsOf (length c.push.new.self.rows.items)) (sym frames) (let z : g.start + 2 ≤ length c.push.new.self.rows.items = omega arith in z)
