@@ -222,9 +222,9 @@ fn is_entered(kind: FrameKind, wins: OnPaths) -> bool
     }
 }
 
-/// The least number of rows of a frame at which they are merged; where there are more call sites than eight times as many,
-/// an eighth of these, since merging takes a step for each.
-const LEAST_LIMIT: u32 = 64;
+/// The least number of rows of a frame at which they are merged; where there are more than twice as many call sites, half of
+/// these, since merging takes a step for each.
+const LEAST_LIMIT: u32 = 256;
 
 /// Where more rows are stored than that, it doesn't matter how many.
 const MOST_STORED: usize = u32::MAX as usize;
@@ -234,8 +234,8 @@ const MOST_STORED: usize = u32::MAX as usize;
 /// frame takes, and which of two children is kept, is told by whoever keeps their weights.
 ///
 /// A closed frame that a way enters takes a row of 96 bytes in a log; rows behind the last one that a way ends with are cut
-/// off. Where the rows of an open frame are more than 64, and more than an eighth of the trace's call sites, those of its
-/// ways are merged: what they add to each site is stored, in some 128 bytes a site for each way and path, up to four times
+/// off. Where the rows of an open frame are more than 256, and more than half of the trace's call sites, those of its ways
+/// are merged: what they add to each site is stored, in some 128 bytes a site for each way and path, up to four times
 /// that with spare room. What is stored counts towards the next time, which is not before twice as much. An open frame takes
 /// 144 bytes besides. Each step takes constant time, amortized. After an error the ways are of no use.
 #[derive(Drop)]
@@ -256,9 +256,9 @@ impl OpenWays {
         ensures laid { IfOk result (λ w. IsLaid w) }
         ensures ways { IfOk result (λ w. (on : Bool) → AreWays on w (no_ways ∷ [])) }
         ensures rows { IfOk result (λ w. length w.log.rows.items ≡ 0) }
-        ensures limit { IfOk result (λ w. w.limit ≡ max (sites / 8) 64) }
+        ensures limit { IfOk result (λ w. w.limit ≡ max (sites / 2) 256) }
     {
-        let limit = (sites / 8).max(LEAST_LIMIT);
+        let limit = (sites / 2).max(LEAST_LIMIT);
         let mut frames = Vec::new(alloc);
         frames.push(FrameWays::opened(0, limit))?;
         Ok(OpenWays {
