@@ -1,4 +1,4 @@
-use Rattle.std.proofs.Common.{◌<◌, List, length, sym, subst, ap, ◌∙◌, arith}
+use Rattle.std.proofs.Common.{◌<◌, List, length, sym, subst}
 use Rattle.spp_cut.specs.Parts.{PartOf}
 use Rattle.spp_jobs.proofs.Begins.{part_got}
 use Rattle.spp_jobs.proofs.Entries.{entry_stands}
