@@ -280,6 +280,7 @@ impl OpenWays {
         ensures laid { OnOk result (IsLaid self.new) }
         ensures ways { OnOk result ((on : Bool) (ways : List Ways) → AreWays on self.old ways → AreWays on self.new (no_ways ∷ ways)) }
         ensures rows { OnOk result (length self.new.log.rows.items ≤ length self.old.log.rows.items) }
+        ensures limit { self.new.limit ≡ self.old.limit }
     {
         self.frames
             .push(FrameWays::opened(self.log.len(), self.limit))?;
@@ -294,6 +295,7 @@ impl OpenWays {
         ensures laid { IsLaid self.new }
         ensures ways { (on : Bool) (ways : List Ways) → AreWays on self.old ways → AreWays on self.new (strand_list count ways) }
         ensures rows { length self.new.log.rows.items ≤ length self.old.log.rows.items }
+        ensures limit { self.new.limit ≡ self.old.limit }
     {
         let last = self.frames.len() - 1;
         let frame = &mut self.frames[last];
@@ -309,6 +311,7 @@ impl OpenWays {
         ensures laid { IsLaid self.new }
         ensures ways { (on : Bool) (ways : List Ways) → AreWays on self.old ways → AreWays on self.new (waited_list (on_path on takes) ways) }
         ensures rows { length self.new.log.rows.items ≤ length self.old.log.rows.items }
+        ensures limit { self.new.limit ≡ self.old.limit }
     {
         let last = self.frames.len() - 1;
         let frame = &mut self.frames[last];
@@ -336,6 +339,7 @@ impl OpenWays {
         ensures laid { OnOk result (IsLaid self.new) }
         ensures ways { OnOk result ((on : Bool) (ways : List Ways) → AreWays on self.old ways → AreWays on self.new ways) }
         ensures rows { OnOk result (length self.new.log.rows.items ≤ length self.old.log.rows.items) }
+        ensures limit { self.new.limit ≡ self.old.limit }
     {
         let last = self.frames.len() - 1;
         let frame = self.frames[last];
@@ -370,6 +374,7 @@ impl OpenWays {
         ensures ways { OnOk result ((on : Bool) (ways : List Ways) → AreWays on self.old ways → AreWays on self.new (returned_list kind (on_path on takes) (on_path on wins) site (bare_row closed.now) ways)) }
         ensures rows { OnOk result (length self.new.log.rows.items ≤ length self.old.log.rows.items + 1) }
         ensures many { IfOk result (λ merges. merges ≡ true → HasRows self.new) }
+        ensures limit { self.new.limit ≡ self.old.limit }
     {
         let last = self.frames.len() - 1;
         let plain = self.frames[last].plain.chosen(takes.plain);
@@ -433,6 +438,7 @@ impl OpenWays {
         ensures laid { OnOk result (IsLaid self.new) }
         ensures ways { OnOk result ((on : Bool) (ways : List Ways) → AreWays on self.old ways → AreWays on self.new (returned_list kind (on_path on takes) (on_path on wins) site (bare_row closed.now) ways)) }
         ensures rows { OnOk result (length self.new.log.rows.items ≤ length self.old.log.rows.items + 1) }
+        ensures limit { self.new.limit ≡ self.old.limit }
     {
         if self.put(kind, takes, wins, site, closed)? {
             self.merge(alloc)?;
