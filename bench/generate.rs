@@ -8,7 +8,7 @@
 use std::io::{self, BufWriter, Write};
 use std::process::exit;
 
-const USAGE: &str = "usage: generate fib|loop|wide|deep|sites|random EVENTS [text] > FILE";
+const USAGE: &str = "usage: generate fib|loop|wide|deep|sites|program|random EVENTS [text] > FILE";
 
 /// The most events that a header may announce.
 const MOST_EVENTS: u64 = 1 << 28;
@@ -148,6 +148,7 @@ enum Kind {
     Wide,
     Deep,
     Sites,
+    Program,
     Random,
 }
 
@@ -159,6 +160,7 @@ impl Kind {
             "wide" => Kind::Wide,
             "deep" => Kind::Deep,
             "sites" => Kind::Sites,
+            "program" => Kind::Program,
             "random" => Kind::Random,
             _ => return None,
         })
@@ -183,6 +185,7 @@ impl Kind {
                 list(&["deep.c:3 call even", "deep.c:8 call odd", "deep.c:10 spawn odd"]),
             ),
             Kind::Sites => (many(60_000, "function"), many(60_000, "sites.c:")),
+            Kind::Program => (many(20_000, "function"), many(60_000, "program.c:")),
             Kind::Random => (many(8, "function"), many(16, "random.c:")),
         }
     }
@@ -194,8 +197,9 @@ impl Kind {
             Kind::Loop => whole_loop(trace),
             Kind::Wide => wide(trace),
             Kind::Deep => deep(trace),
-            Kind::Sites => tree(trace, 60_000, 60_000, 200),
-            Kind::Random => tree(trace, 16, 8, 60),
+            Kind::Sites => tree(trace, 200, |random, _| (random.below(60_000), random.below(60_000))),
+            Kind::Program => tree(trace, 200, own_site),
+            Kind::Random => tree(trace, 60, |random, _| (random.below(16), random.below(8))),
         }
     }
 }
@@ -296,21 +300,27 @@ fn deep<S: Sink>(trace: &mut Trace<S>) {
     }
 }
 
-/// A random walk up and down a tree of frames, at most `most` deep.
-fn tree<S: Sink>(trace: &mut Trace<S>, sites: u32, functions: u32, most: u64) {
+/// A random walk up and down a tree of frames, at most `most` deep. `entered` chooses, in a frame of this function, a
+/// call site and the function that is entered by it.
+fn tree<S: Sink>(trace: &mut Trace<S>, most: u64, entered: impl Fn(&mut Random, u32) -> (u32, u32)) {
+    // the functions of the open frames
+    let mut open = vec![0];
     // each open frame needs an event that closes it
     while trace.left > trace.depth {
         match trace.random.below(16) {
             0..=4 if trace.depth < most && trace.left >= trace.depth + 2 => {
-                let site = trace.random.below(sites);
-                let function = trace.random.below(functions);
+                let (site, function) = entered(&mut trace.random, open[open.len() - 1]);
                 if trace.random.below(2) == 0 {
                     trace.call(site, function);
                 } else {
                     trace.spawn(site, function);
                 }
+                open.push(function);
             }
-            5..=9 if trace.depth > 0 => trace.end(),
+            5..=9 if trace.depth > 0 => {
+                trace.end();
+                open.pop();
+            }
             10 => trace.sync(),
             _ => trace.strand(0, 1000),
         }
@@ -318,6 +328,12 @@ fn tree<S: Sink>(trace: &mut Trace<S>, sites: u32, functions: u32, most: u64) {
     while trace.depth > 0 {
         trace.end();
     }
+}
+
+/// One of the three call sites that each function of a large program has, and its callee: always the same.
+fn own_site(random: &mut Random, function: u32) -> (u32, u32) {
+    let site = 3 * function + random.below(3);
+    (site, (site * 12_983 + 1) % 20_000)
 }
 
 // ------------------------------------------------------------- the whole file

@@ -94,8 +94,8 @@ each_refused() { # NAME STATUS STARTS OUT ERR INPUT PROGRAM WORDS..: what the pr
     passed=$((passed + 1))
 }
 
-# Each call twice: of the crew figures, profile and marks by two workers, with 1, 4 and 3 threads.
-each_refused 'the calls' 0 16 "$(cat "$tests/../crates/memory_probe/stdout")" '' /dev/null "$probe"
+# Each call twice: of the crew figures, profile, the same in one round, and marks by two workers, with 1, 4, 1 and 3 threads.
+each_refused 'the calls' 0 18 "$(cat "$tests/../crates/memory_probe/stdout")" '' /dev/null "$probe"
 
 # A round has a thread for each worker but one; `profile` has three rounds, and settles its paths on two threads. With one
 # worker it has neither.

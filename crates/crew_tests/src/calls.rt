@@ -3,7 +3,7 @@
 ghost use Rattle.std.specs.Prelude.{◌<◌, ◌≤◌, IfOk};
 ghost use Rattle.spp_stack.specs.Parts.{AreEntriesOf};
 
-use spp_crew::{Gate, OpenGate, Round, figures, marks, profile, survey};
+use spp_crew::{Gate, OpenGate, Round, figures, marks, profile, profile_once, survey};
 use spp_cut::Cut;
 use spp_frame::ProfileFault;
 use spp_jobs::entries_of;
@@ -53,11 +53,17 @@ pub(crate) const THREE: Burdens = Burdens {
 pub(crate) enum Call {
     Figures,
     Profile,
+    ProfileOnce,
     Marks,
 }
 
 /// All calls.
-pub(crate) const EVERY_CALL: [Call; 3] = [Call::Figures, Call::Profile, Call::Marks];
+pub(crate) const EVERY_CALL: [Call; 4] = [
+    Call::Figures,
+    Call::Profile,
+    Call::ProfileOnce,
+    Call::Marks,
+];
 
 impl Call {
     /// The rounds in which it is answered.
@@ -65,7 +71,16 @@ impl Call {
         match self {
             Call::Figures => &[Round::Summaries],
             Call::Profile => &[Round::Summaries, Round::Tables, Round::Paths],
+            Call::ProfileOnce => &[Round::Profile],
             Call::Marks => &[Round::Summaries, Round::Tables, Round::Marks],
+        }
+    }
+
+    /// The round in which a bad event is found.
+    pub(crate) fn first_round(self) -> &'static [Round] {
+        match self {
+            Call::ProfileOnce => &[Round::Profile],
+            Call::Figures | Call::Profile | Call::Marks => &[Round::Summaries],
         }
     }
 }
@@ -91,6 +106,10 @@ pub(crate) fn ask<R: Threads + Wait + Sync, G: Gate>(
         }
         Call::Profile => {
             profile(rt, alloc, cut, workers, THREE, gate)?;
+            Ok(())
+        }
+        Call::ProfileOnce => {
+            profile_once(rt, alloc, cut, workers, THREE, gate)?;
             Ok(())
         }
         Call::Marks => {

@@ -4,7 +4,7 @@ use crate::calls::{CREWS, Call, Crew, EVERY_CALL, THREADED, ask, marks_of};
 use crate::gates::TestGate;
 use crate::traces::{evenly, singly};
 use crate::worked::{CALL, RET, S1, S2, SPAWN};
-use spp_crew::{OpenGate, Round};
+use spp_crew::OpenGate;
 use spp_cut::Cut;
 use spp_event::{Event, EventFault, open_trace, trace_of};
 use spp_frame::{Fault, ProfileFault, Why};
@@ -200,7 +200,7 @@ fn the_first_bad_event_is_told(rt: HostRuntime) -> Result<(), Fail> {
     Ok(())
 }
 
-/// Whether the call tells the fault, which the first round finds, though the worker of a part is held there until all
+/// Whether the call tells the fault, which its first round finds, though the worker of a part is held there until all
 /// other parts have begun: with two workers all but the last of them are done then.
 fn held_tells<R: Threads + Wait + Sync>(
     rt: &R,
@@ -214,7 +214,7 @@ fn held_tells<R: Threads + Wait + Sync>(
     let parts = cut.parts().len() as u32;
     let gate = TestGate::holding(alloc, held, 0, parts);
     let answer = ask(rt, alloc, cut, call, crew, &gate);
-    answer == Err(fault) && gate.saw(&[Round::Summaries], parts)
+    answer == Err(fault) && gate.saw(call.first_round(), parts)
 }
 
 /// Whether the call tells the fault, whichever part's worker is held.

@@ -1,11 +1,13 @@
 //! The calls of a crew: two workers share the parts of a trace.
 
 use super::{Answer, of_fault, trace_in};
-use spp_crew::{OpenGate, figures, marks, profile};
+use spp_crew::{OpenGate, figures, marks, profile, profile_once};
 use spp_cut::{Cut, Parts, cut_even};
 use spp_dag::Figures;
 use spp_event::{Event, trace_of};
+use spp_frame::ProfileFault;
 use spp_maxplus::Burdens;
+use spp_site::Profile;
 use std::alloc::Global;
 use std::sync::Wait;
 use std::thread::Threads;
@@ -41,6 +43,7 @@ const WORKERS: u32 = 2;
 pub enum Task {
     Figures,
     Profile,
+    ProfileOnce,
     Marks,
 }
 
@@ -61,8 +64,8 @@ fn measured<R: Threads + Wait + Sync>(rt: &R, alloc: Global, cut: &Cut<'_, '_>) 
 
 /// The path without burdens goes through the first child, which has 4 instructions, and that under them through the
 /// second, which has 2.
-fn profiled<R: Threads + Wait + Sync>(rt: &R, alloc: Global, cut: &Cut<'_, '_>) -> Answer {
-    match profile(rt, alloc, cut, WORKERS, Burdens::equal(3), &OpenGate) {
+fn of_profile(told: Result<Profile, ProfileFault>) -> Answer {
+    match told {
         Ok(profile) => good_if(
             profile.figures == FIGURES
                 && profile.dag.row(0).local == 6
@@ -71,6 +74,14 @@ fn profiled<R: Threads + Wait + Sync>(rt: &R, alloc: Global, cut: &Cut<'_, '_>) 
         ),
         Err(fault) => of_fault(fault),
     }
+}
+
+fn profiled<R: Threads + Wait + Sync>(rt: &R, alloc: Global, cut: &Cut<'_, '_>) -> Answer {
+    of_profile(profile(rt, alloc, cut, WORKERS, Burdens::equal(3), &OpenGate))
+}
+
+fn profiled_once<R: Threads + Wait + Sync>(rt: &R, alloc: Global, cut: &Cut<'_, '_>) -> Answer {
+    of_profile(profile_once(rt, alloc, cut, WORKERS, Burdens::equal(3), &OpenGate))
 }
 
 fn marked<R: Threads + Wait + Sync>(rt: &R, alloc: Global, cut: &Cut<'_, '_>) -> Answer {
@@ -98,6 +109,7 @@ pub fn asked<R: Threads + Wait + Sync>(rt: &R, alloc: Global, task: Task) -> Ans
     match task {
         Task::Figures => measured(rt, alloc, &cut),
         Task::Profile => profiled(rt, alloc, &cut),
+        Task::ProfileOnce => profiled_once(rt, alloc, &cut),
         Task::Marks => marked(rt, alloc, &cut),
     }
 }

@@ -2,4 +2,5 @@ pub mod Draws
 pub mod FirstRound
 pub mod Halves
 pub mod Marked
+pub mod WholePiece
 pub mod Profiled

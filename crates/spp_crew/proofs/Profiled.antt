@@ -35,7 +35,7 @@ if_ok (Ok r) f p = f r p
 if_ok (Err e) f p = tt
 
 -- where the parts end
-begin_all : (cut : CutOf) → IsCut cut → begin cut (length cut.parts) ≡ length cut.trace.records
+pub begin_all : (cut : CutOf) → IsCut cut → begin cut (length cut.parts) ≡ length cut.trace.records
 begin_all cut h = ap (λ (ps : List PartOf). events_in ps) (take-length cut.parts) ∙ all_events cut h
 
 -- the rows of a table that was made of a share

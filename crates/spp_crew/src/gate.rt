@@ -2,16 +2,20 @@
 
 use std::sync::Wait;
 
-/// A round of the crew: what its workers do with each part.
+/// A round of the crew: what its workers do with each part. Figures take the round `Summaries` alone; a profile takes
+/// `Summaries`, `Tables` and `Paths`, or `Profile` alone where each event is read once; marks take `Summaries`, `Tables` and
+/// `Marks`, in this order.
 #[derive(Clone, Copy, Debug, PartialEq, Eq)]
 pub enum Round {
-    /// Round 1: the part is summarised.
+    /// What the part comes to in the profile is found, in one reading.
+    Profile,
+    /// The part is summarised.
     Summaries,
-    /// Round 2: its frames are counted on the whole dag, and its choices noted.
+    /// Its frames are counted on the whole dag, and its choices noted.
     Tables,
-    /// Round 3: its frames are counted on both paths.
+    /// Its frames are counted on both paths.
     Paths,
-    /// Round 4: its events are marked.
+    /// Its events are marked.
     Marks,
 }
 

@@ -2,22 +2,24 @@
 //!
 //! A crew of workers goes through the parts of a cut trace in rounds. In each round the workers draw the numbers of the
 //! parts, each once, do the round's job on them, and put what came of it at one desk, whose book joins the pieces in
-//! whatever order they come. Rounds 1 to 3 go so. The marking of events, round 4, has no desk: each worker is given
+//! whatever order they come. Figures take one round, a profile three ([`profile_once`] makes it in one, which reads each
+//! event once), and marks three: two like these, and the marking of events, which has no desk: each worker is given
 //! neighbouring parts and the bytes of their events.
 //!
-//! Between the rounds little is done, and that by one thread or two. After round 1 one thread finds the frames that are open
-//! where each part begins. Before round 3 both paths are settled, in parallel where there are two workers; before round 4
-//! the path without burdens, on one thread.
+//! Between the rounds little is done, and that by one thread or two: after the first it finds the frames that are open where
+//! each part begins, and before the last it settles the paths.
 #![tactic(auto)]
 
 mod gate;
 mod marking;
+mod once;
 mod profiling;
 mod round;
 mod surveying;
 
 pub use gate::{Gate, OpenGate, Round};
 pub use marking::marks;
+pub use once::profile_once;
 pub use profiling::{profile, tabled};
 pub use round::run_round;
 pub use surveying::{Surveyed, figures, survey};

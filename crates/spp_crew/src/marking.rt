@@ -135,9 +135,9 @@ fn mark_halves<R: Threads + Wait + Sync, G: Gate>(
 }
 
 /// Marks which events of a cut trace are on its path, the one that is greatest without burdens, by so many workers, 1 to
-/// 64, each on a thread of its own but one (in round 4 at most one for each part): byte `i` is 1 where event `i` is on the path, else 0. The gate is called in
-/// round 1 before a part is summarised, in round 2 before its choices are noted, and in round 4 before its events are
-/// marked.
+/// 64, each on a thread of its own but one (at most one for each part where events are marked): byte `i` is 1 where event
+/// `i` is on the path, else 0. The gate is called in the round [`Round::Summaries`] before a part is summarised, in the round
+/// [`Round::Tables`] before its choices are noted, and in the round [`Round::Marks`] before its events are marked.
 ///
 /// Each event is read three times: for the summaries, for the choices, and for the marks, where each worker has a run of
 /// neighbouring parts. The memory is linear in the numbers of parts, of the sites that each of them has rows of, of the

@@ -46,7 +46,7 @@ fn root_row(whole: &Figures) -> Row
 }
 
 /// The rows of all parts on the whole dag, without what the root frame adds itself, and the choices in each, made by so
-/// many workers in round 2.
+/// many workers in the round [`Round::Tables`].
 ///
 /// # Errors
 ///
@@ -107,8 +107,8 @@ fn settle_both<'e, R: Threads>(
     Ok((path?, burdened?))
 }
 
-/// The rows of all parts on both paths, without what the root frame adds itself, made by so many workers in round 3: both
-/// paths are settled first, by the choices of the parts.
+/// The rows of all parts on both paths, without what the root frame adds itself, made by so many workers in the round
+/// [`Round::Paths`]: both paths are settled first, by the choices of the parts.
 ///
 /// # Errors
 ///

@@ -31,7 +31,7 @@ pub struct Surveyed {
 }
 
 /// The summaries of the parts of a cut trace, with the figures that all parts together come to, made by so many workers
-/// in round 1.
+/// in the round [`Round::Summaries`].
 ///
 /// # Errors
 ///
@@ -68,7 +68,7 @@ pub fn survey<R: Threads + Wait + Sync, G: Gate>(
 }
 
 /// The work, span and burdened span of a run, in instructions, made by so many workers, 1 to 64, each on a thread of its
-/// own but one. They draw the parts of the cut trace in round 1. The work is below 2^92. How many workers there are, which
+/// own but one. They draw the parts of the cut trace in one round. The work is below 2^92. How many workers there are, which
 /// of them draws which part, and in which order the parts are done doesn't show in the figures.
 ///
 /// Each event is read once. All workers together take a time linear in the number of events, besides the joins of the

@@ -3,6 +3,7 @@ pub mod Begins
 pub mod Cuts
 pub mod Entries
 pub mod Paths
+pub mod ProfilePieces
 pub mod Rows
 pub mod Runs
 pub mod Shares

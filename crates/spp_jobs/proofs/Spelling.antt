@@ -11,7 +11,7 @@ use Rattle.spp_event.specs.declared.version.Version.TheVariants.{One, Two}
 use Rattle.spp_event.specs.Recordings.{Record, Recording, version_number}
 use Rattle.spp_cut.specs.Parts.{PartOf, CutOf, Cover, IsCut}
 use Rattle.spp_maxplus.specs.declared.state.Burdens.{Burdens}
-use Rattle.spp_jobs.specs.Names.{Kind, surveys, tables, paths, JobOf, spell_kind, spell_fault, spell_record, spell_list, spell_lists, spell_trace, counts_of, spell, parts_in, range_in, IsNamed}
+use Rattle.spp_jobs.specs.Names.{Kind, surveys, tables, paths, profiles, JobOf, spell_kind, spell_fault, spell_record, spell_list, spell_lists, spell_trace, counts_of, spell, parts_in, range_in, IsNamed}
 
 -- ---- lists
 
@@ -169,12 +169,19 @@ kind_one : (a b : Kind) → spell_kind a ≡ spell_kind b → a ≡ b
 kind_one surveys surveys e = refl
 kind_one tables tables e = refl
 kind_one paths paths e = refl
+kind_one profiles profiles e = refl
 kind_one surveys tables e = absurd (omega arith)
 kind_one surveys paths e = absurd (omega arith)
 kind_one tables surveys e = absurd (omega arith)
 kind_one tables paths e = absurd (omega arith)
 kind_one paths surveys e = absurd (omega arith)
 kind_one paths tables e = absurd (omega arith)
+kind_one surveys profiles e = absurd (omega arith)
+kind_one tables profiles e = absurd (omega arith)
+kind_one paths profiles e = absurd (omega arith)
+kind_one profiles surveys e = absurd (omega arith)
+kind_one profiles tables e = absurd (omega arith)
+kind_one profiles paths e = absurd (omega arith)
 
 abbrev burdens : ℕ → ℕ → Burdens
 burdens continuation join = record { continuation = continuation; join = join }

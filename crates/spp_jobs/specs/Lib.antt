@@ -4,3 +4,4 @@ pub mod Summaries
 pub mod Surveys
 pub mod Tables
 pub mod Paths
+pub mod ProfilePieces

@@ -13,6 +13,7 @@ pub data Kind : Type 0 where
   surveys : Kind
   tables : Kind
   paths : Kind
+  profiles : Kind
 
 -- a job: its kind, the parts, and the burdens
 pub record JobOf : Type 0 where
@@ -27,6 +28,7 @@ abbrev pub spell_kind : Kind → ℕ
 spell_kind surveys = 0
 spell_kind tables = 1
 spell_kind paths = 2
+spell_kind profiles = 3
 
 -- a fault of a record as a number
 abbrev pub spell_fault : EventFault → ℕ

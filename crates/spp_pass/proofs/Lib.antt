@@ -11,3 +11,12 @@ pub mod Suspending
 pub mod Reaching
 pub mod Anywhere
 pub mod Going
+pub mod Taking
+pub mod Joining
+pub mod Alone
+pub mod PlacedFrames
+pub mod ChildWins
+pub mod RunReturns
+pub mod Stretching
+pub mod Joinable
+pub mod Alike

@@ -2,3 +2,4 @@ pub mod LeanFrames
 pub mod Passes
 pub mod Shares
 pub mod Outside
+pub mod Stretches

@@ -21,6 +21,8 @@ use Rattle.spp_ways.specs.Ways.{takes, outruns}
 use Rattle.spp_pass.specs.declared.counting.Counting.{Counting}
 use Rattle.spp_pass.specs.declared.counting.Closing.{Closing}
 use Rattle.spp_pass.specs.declared.counting.Ended.{Ended}
+use Rattle.spp_pass.specs.declared.counting.Popped.{Popped}
+use Rattle.spp_ways.specs.Enclosures.{outer_caller}
 use Rattle.spp_pass.specs.declared.summing.Summing.{Summing}
 use Rattle.spp_maxplus.specs.declared.weights.Weights.{Weights}
 use Rattle.spp_maxplus.specs.Weights.{start, close, after_strand, after_sync}
@@ -294,6 +296,30 @@ Returns burdens at old [] went new = ⊥
 Returns burdens at old (f ∷ []) went new = went ≡ false
 Returns burdens at old (f ∷ g ∷ fs) went new = (went ≡ true) × IsReturned burdens at f g fs old new
 
+-- ---- the innermost frame taken out
+
+-- some frame is open, and if it isn't alone the innermost can be taken out
+abbrev pub CanPop : Burdens → Seen → List CountedFrame → Type 0
+CanPop burdens s [] = ⊥
+CanPop burdens s (f ∷ []) = Unit {0}
+CanPop burdens s (f ∷ g ∷ fs) = FitsReturn burdens (returned_of f) g × (f.before ≤ s.work)
+
+-- what there is where the innermost frame f has returned to g, below which the frames fs are open, and no table has its row
+abbrev pub popped_seen : Burdens → ℕ → CountedFrame → CountedFrame → List CountedFrame → Seen → Seen
+popped_seen burdens at f g fs s = record s {
+  frames = returned_frame burdens f g ∷ fs;
+  open_sites = without f.top_site f.site s.open_sites;
+  open_funcs = without f.top_func f.func s.open_funcs;
+  ends = s.ends ++ ends_at at f.kind f.at;
+  joins = s.joins ++ joins_at at (state_of f);
+  burdened_joins = s.burdened_joins ++ joins_at at (burdened_state_of f);
+}
+
+abbrev pub Pops : Burdens → ℕ → Seen → List CountedFrame → Bool → Seen → Type 0
+Pops burdens at old [] went new = ⊥
+Pops burdens at old (f ∷ []) went new = went ≡ false
+Pops burdens at old (f ∷ g ∷ fs) went new = (went ≡ true) × (new ≡ popped_seen burdens at f g fs old)
+
 -- ---- the end
 
 -- the innermost frame can close last
@@ -338,6 +364,17 @@ abbrev pub IsClosing : Burdens → ℕ → List CountedFrame → Option Closing 
 IsClosing burdens work [] closing = ⊥
 IsClosing burdens work (f ∷ []) closing = closing ≡ None
 IsClosing burdens work (f ∷ g ∷ fs) closing = closing ≡ Some (closing_of burdens work f g)
+
+-- the function of the caller of a frame, above these in the list of open frames; none is told where that is the outermost
+abbrev pub caller_in : List CountedFrame → ℕ
+caller_in [] = outer_caller
+caller_in (g ∷ []) = outer_caller
+caller_in (g ∷ h ∷ fs) = g.func
+
+abbrev pub IsPopped : Burdens → ℕ → List CountedFrame → Option Popped → Type 0
+IsPopped burdens work [] popped = ⊥
+IsPopped burdens work (f ∷ []) popped = popped ≡ None
+IsPopped burdens work (f ∷ g ∷ fs) popped = popped ≡ Some (record { closing = closing_of burdens work f g; caller = caller_in (g ∷ fs) })
 
 -- the choices, where the innermost frame waits, and where it returns
 abbrev pub noted_sync : ℕ → List CountedFrame → Notes → Notes

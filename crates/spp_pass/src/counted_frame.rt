@@ -1,6 +1,6 @@
 //! An open frame as the pass has it, and what the events that belong to it do to it.
 
-ghost use Rattle.std.specs.Prelude.{◌≡◌, ◌+◌, ◌<◌, ◌≤◌, OnOk};
+ghost use Rattle.std.specs.Prelude.{◌≡◌, ◌+◌, ◌<◌, ◌≤◌, ◌^◌, OnOk};
 ghost use Rattle.spp_dag.specs.Shares.{plus};
 ghost use Rattle.spp_dag.specs.Steps.{strand_row};
 ghost use Rattle.spp_site.specs.Rows.{Fits};
@@ -20,13 +20,15 @@ ghost use Rattle.spp_pass.specs.Passes.{
   choice_at,
 };
 ghost use Rattle.spp_ways.specs.Ways.{takes as takes_child, outruns};
+ghost use Rattle.spp_ways.specs.Enclosures.{enclosure_of};
+ghost use Rattle.spp_pass.specs.Stretches.{stretch_frame, placed, placed_at, joined, child_wins, FitsJoin, FitsPlace};
 ghost use Rattle.spp_pass.specs.Outside.{entered_frame, spawn_of, frame_key, AreStrandsAdded};
 
 use spp_dag::{Choice, FrameKind, Row};
 use spp_maxplus::{Burdens, ChildKind, Weights};
 use spp_site::{ClosedFrame, Table};
 use spp_stack::Node;
-use spp_ways::OnPaths;
+use spp_ways::{Enclosing, OnPaths};
 use std::alloc::AllocError;
 
 /// What the return of a frame tells its parent.
@@ -93,6 +95,28 @@ impl CountedFrame {
             top_site: frame.top_site,
             top_caller: frame.top_caller,
             top_func: node.top_func,
+        }
+    }
+
+    /// The frame that stands for the one in which a stretch begins.
+    #[inline(always)]
+    pub(crate) fn outer() -> Self
+        ensures { result ≡ stretch_frame }
+    {
+        CountedFrame {
+            plain: Weights::start(),
+            burdened: Weights::start(),
+            before: 0,
+            local: 0,
+            child: None,
+            burdened_child: None,
+            at: 0,
+            site: 0,
+            func: 0,
+            kind: FrameKind::Root,
+            top_site: true,
+            top_caller: true,
+            top_func: true,
         }
     }
 
@@ -175,6 +199,78 @@ impl CountedFrame {
             plain: self.child.is_none() || self.plain.child < self.plain.spine + child.plain,
             burdened: self.burdened_child.is_none() || self.burdened.child < through,
         }
+    }
+
+    /// The frame, which was opened in a stretch that begins at the position `first`, where the work before it is `before`,
+    /// by a caller of that function.
+    #[inline(always)]
+    pub(crate) fn placed(
+        &self,
+        enclosing: &Enclosing<'_>,
+        before: u128,
+        first: u32,
+        caller: u32,
+    ) -> CountedFrame
+        requires before { before + self.now.before < 2 ^ 128 }
+        requires at { first + self.now.at < 2 ^ 32 }
+        requires child { FitsPlace first self.now.child }
+        requires burdened_child { FitsPlace first self.now.burdened_child }
+        ensures { result ≡ placed (enclosure_of enclosing.now) before first caller self.now }
+    {
+        CountedFrame {
+            before: before + self.before,
+            at: first + self.at,
+            child: placed_at(first, self.child),
+            burdened_child: placed_at(first, self.burdened_child),
+            top_site: self.top_site && enclosing.is_top_site(self.site),
+            top_caller: self.top_caller && enclosing.is_top_caller(caller),
+            top_func: self.top_func && enclosing.is_top_func(self.func),
+            ..*self
+        }
+    }
+
+    /// On which paths the way through the child that waits in the outer frame of a stretch is greater than that through the
+    /// one that waits in this frame before it, or none does.
+    #[inline(always)]
+    pub(crate) fn child_wins(&self, outer: &CountedFrame) -> OnPaths
+        requires { FitsJoin outer.now self.now }
+        ensures { result ≡ child_wins outer.now self.now }
+    {
+        let through = self.plain.spine + outer.plain.child;
+        let burdened = self.burdened.spine + outer.burdened.child;
+        OnPaths {
+            plain: outer.child.is_some() && (self.child.is_none() || self.plain.child < through),
+            burdened: outer.burdened_child.is_some()
+                && (self.burdened_child.is_none() || self.burdened.child < burdened),
+        }
+    }
+
+    /// Goes on by a stretch that begins at the position `first` and has that outer frame. Of two waiting children of the
+    /// same weight the first is kept.
+    #[inline(always)]
+    pub(crate) fn join(&mut self, outer: &CountedFrame, first: u32)
+        requires fits { FitsJoin outer.now self.old }
+        requires child { FitsPlace first outer.now.child }
+        requires burdened_child { FitsPlace first outer.now.burdened_child }
+        ensures { self.new ≡ joined first outer.now self.old }
+    {
+        if let Some(at) = outer.child {
+            let through = self.plain.spine + outer.plain.child;
+            if self.child.is_none() || self.plain.child < through {
+                self.child = Some(first + at);
+            }
+            self.plain.child = self.plain.child.max(through);
+        }
+        if let Some(at) = outer.burdened_child {
+            let through = self.burdened.spine + outer.burdened.child;
+            if self.burdened_child.is_none() || self.burdened.child < through {
+                self.burdened_child = Some(first + at);
+            }
+            self.burdened.child = self.burdened.child.max(through);
+        }
+        self.plain.spine += outer.plain.spine;
+        self.burdened.spine += outer.burdened.spine;
+        self.local += outer.local;
     }
 
     /// What its return tells its parent.
@@ -264,6 +360,18 @@ fn choice(at: u32, weights: Weights, child: Option<u32>) -> Option<Choice>
             at,
             taken: taken(weights, child),
         }),
+        None => None,
+    }
+}
+
+/// The position of a spawn in a stretch that begins at `first`.
+#[inline(always)]
+fn placed_at(first: u32, spawn: Option<u32>) -> Option<u32>
+    requires { FitsPlace first spawn }
+    ensures { result ≡ placed_at first spawn }
+{
+    match spawn {
+        Some(at) => Some(first + at),
         None => None,
     }
 }

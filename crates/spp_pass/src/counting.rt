@@ -1,6 +1,6 @@
 //! The open frames of a run with their weights, and the frames that have closed by call site, as its events come.
 
-ghost use Rattle.std.specs.Prelude.{◌≡◌, ◌+◌, ◌<◌, ◌≤◌, ◌^◌, ◌∷◌, ℕ, List, length, is_some, OnOk, IfOk};
+ghost use Rattle.std.specs.Prelude.{◌≡◌, ◌+◌, ◌<◌, ◌≤◌, ◌^◌, ◌∷◌, ℕ, List, length, None, is_some, OnOk, IfOk};
 ghost use Rattle.spp_dag.specs.declared.stack.EntryFrame.{EntryFrame as FrameValue};
 ghost use Rattle.spp_stack.specs.Chain.{HasFrames};
 ghost use Rattle.spp_pass.specs.Passes.{
@@ -13,15 +13,33 @@ ghost use Rattle.spp_pass.specs.Passes.{
   strand_seen,
   sync_seen,
   open_seen,
+  OnTop,
   HasOpen,
   CanAdd,
   CanReturn,
   Returns,
+  CanPop,
+  Pops,
+  IsPopped,
   CanFinish,
   AreTakes,
   IsClosing,
   IsTop,
   IsEnded,
+};
+ghost use Rattle.spp_ways.specs.Enclosures.{enclosure_of};
+ghost use Rattle.spp_pass.specs.declared.counted_frame.CountedFrame.{CountedFrame as CountedFrameValue};
+ghost use Rattle.spp_pass.specs.Stretches.{
+  stretch_seen,
+  next_seen,
+  frames_of,
+  child_wins,
+  enclosure,
+  FitsJoin,
+  IsStretchOf,
+  IsEndedStretch,
+  CanJoin,
+  IsJoined,
 };
 ghost use Rattle.spp_pass.specs.Outside.{
   IsBegun,
@@ -32,12 +50,13 @@ ghost use Rattle.spp_pass.specs.Outside.{
   IsShareSuspended,
 };
 
+use crate::closed_call::ClosedCall;
 use crate::counted_frame::CountedFrame;
 use spp_dag::{Figures, FrameKind};
 use spp_maxplus::{Burdens, Weights};
 use spp_site::{ClosedFrame, Marks, Share, Table};
 use spp_stack::Entry;
-use spp_ways::OnPaths;
+use spp_ways::{Enclosing, OUTER_CALLER, OnPaths};
 use std::alloc::{AllocError, Global};
 
 /// A frame that returns, and what that tells of the ways through it.
@@ -56,6 +75,15 @@ pub struct Closing {
     pub wins: OnPaths,
 }
 
+/// A frame that has been taken out.
+#[derive(Clone, Copy)]
+pub struct Popped {
+    /// What its return tells.
+    pub closing: Closing,
+    /// The function of its caller, or `OUTER_CALLER` where that is the outermost frame.
+    pub caller: u32,
+}
+
 /// What a run comes to, but for its paths.
 #[derive(Drop)]
 pub struct Ended {
@@ -67,6 +95,17 @@ pub struct Ended {
     pub root: ClosedFrame,
     /// On which paths the root frame takes the child that waits in it.
     pub takes: OnPaths,
+}
+
+/// What the frames of a stretch come to: the frame in which it begins, and those that it leaves open.
+#[derive(Drop)]
+pub struct CountedStretch {
+    /// The frame in which it begins, by what the stretch adds to it.
+    outer: CountedFrame,
+    /// Those that it leaves open, behind one that isn't used; that one at most where there are none.
+    frames: Vec<CountedFrame>,
+    /// The counts of its strands.
+    work: u128,
 }
 
 /// The open frames of a run with their weights, and the rows of the frames that have closed, between two events.
@@ -239,7 +278,45 @@ impl Counting {
         self.frames[last].sync();
     }
 
-    /// A return, and what it tells; none where the root frame alone is open.
+    /// Takes the innermost frame out, which returns, and gives what that tells; none where the outermost frame alone is open.
+    /// The table doesn't count it.
+    #[inline(always)]
+    pub fn pop(&mut self, burdens: Burdens) -> Option<Popped>
+        requires { CanPop burdens (seen_with self.old no_notes) (seen_with self.old no_notes).frames }
+        ensures pops { (at : ℕ) (n : Notes) → Pops burdens at (seen_with self.old n) (seen_with self.old n).frames (is_some result) (seen_with self.new (noted_return at (seen_with self.old n).frames n)) }
+        ensures popped { IsPopped burdens self.old.work (seen_with self.old no_notes).frames result }
+        ensures stays { result ≡ None → self.new ≡ self.old }
+    {
+        let last = self.frames.len() - 1;
+        if last == 0 {
+            return None;
+        }
+        let child = &self.frames[last];
+        let closed = child.closed(self.work);
+        self.open_sites.remove_if(child.top_site, child.site);
+        self.open_funcs.remove_if(child.top_func, child.func);
+        let returned = child.returned();
+        let site = child.site;
+        let takes = child.takes();
+        self.frames.truncate(last);
+        let parent = &mut self.frames[last - 1];
+        let wins = parent.wins(returned, burdens);
+        parent.receive(returned, burdens);
+        let caller = if last == 1 { OUTER_CALLER } else { parent.func };
+        Some(Popped {
+            closing: Closing {
+                kind: returned.kind,
+                site,
+                closed,
+                takes,
+                wins,
+            },
+            caller,
+        })
+    }
+
+    /// A return, and what it tells; none where the root frame alone is open. It does what [`Counting::pop`] does, and counts
+    /// the frame in the table; in one, since to hand on what a frame tells costs a hundredth of a profile.
     ///
     /// # Errors
     ///
@@ -273,6 +350,123 @@ impl Counting {
             takes,
             wins,
         }))
+    }
+
+    /// What there is before the first event of a stretch of which it isn't known what encloses it. A frame that stands for
+    /// the innermost of those that do is open.
+    ///
+    /// # Errors
+    ///
+    /// Where an allocation failed.
+    pub fn stretch(alloc: Global) -> Result<Self, AllocError>
+        ensures { IfOk result (λ c. seen_with c no_notes ≡ stretch_seen) }
+    {
+        let mut frames = Vec::new(alloc);
+        frames.push(CountedFrame::outer())?;
+        Ok(Counting {
+            frames,
+            open_sites: Marks::new(alloc),
+            open_funcs: Marks::new(alloc),
+            work: 0,
+            table: Table::new(alloc),
+        })
+    }
+
+    /// What a stretch comes to that ends where its outer frame alone is open, and goes on with a new one.
+    pub fn next_stretch(&mut self, alloc: Global) -> CountedStretch
+        requires { HasOpen (seen_with self.old no_notes) }
+        ensures ended { IsEndedStretch (seen_with self.old no_notes) result }
+        ensures begun { (n : Notes) → seen_with self.new n ≡ next_seen (seen_with self.old n) }
+    {
+        let outer = self.frames[0];
+        let work = self.work;
+        self.frames[0] = CountedFrame::outer();
+        self.work = 0;
+        CountedStretch {
+            outer,
+            frames: Vec::new(alloc),
+            work,
+        }
+    }
+
+    /// What a stretch comes to, with the frames that it leaves open.
+    pub fn into_stretch(self) -> CountedStretch
+        requires { HasOpen (seen_with self no_notes) }
+        ensures { IsStretchOf (seen_with self no_notes) result }
+    {
+        let Counting { frames, work, .. } = self;
+        CountedStretch {
+            outer: frames[0],
+            frames,
+            work,
+        }
+    }
+
+    /// What encloses the events that come.
+    pub fn enclosing(&self) -> Enclosing<'_>
+        requires { HasOpen (seen_with self.now no_notes) }
+        ensures { (g : CountedFrameValue) (gs : List CountedFrameValue) → (seen_with self.now no_notes).frames ≡ g ∷ gs → enclosure_of result ≡ enclosure g (seen_with self.now no_notes) }
+    {
+        let last = self.frames.len() - 1;
+        Enclosing {
+            sites: &self.open_sites,
+            funcs: &self.open_funcs,
+            direct: self.frames[last].top_func,
+        }
+    }
+
+    /// On which paths the way through the child that waits in the outer frame of a stretch is greater than that through the
+    /// one that waits in the innermost frame here, or none does.
+    pub fn wins_by(&self, stretch: &CountedStretch) -> OnPaths
+        requires { OnTop (FitsJoin stretch.now.outer) (seen_with self.now no_notes).frames }
+        ensures { (g : CountedFrameValue) (gs : List CountedFrameValue) → (seen_with self.now no_notes).frames ≡ g ∷ gs → result ≡ child_wins stretch.now.outer g }
+    {
+        let last = self.frames.len() - 1;
+        self.frames[last].child_wins(&stretch.outer)
+    }
+
+    /// Joins a stretch onto what there is, which stands before it: its first event is at the position `first`, and `calls`
+    /// are the frames that have closed in it. It takes constant time for each call and each frame that the stretch leaves open,
+    /// amortized.
+    ///
+    /// # Errors
+    ///
+    /// Where an allocation failed.
+    pub fn join(
+        &mut self,
+        stretch: &CountedStretch,
+        calls: &[ClosedCall],
+        first: u32,
+    ) -> Result<(), AllocError>
+        requires { CanJoin first (frames_of stretch.now) stretch.now.outer stretch.now.work calls.now (seen_with self.old no_notes) }
+        ensures { OnOk result ((g : CountedFrameValue) (gs : List CountedFrameValue) → (seen_with self.old no_notes).frames ≡ g ∷ gs → (m n : Notes) → IsJoined first (frames_of stretch.now) stretch.now.work calls.now g gs (seen_with self.old m) (seen_with self.new n)) }
+    {
+        let last = self.frames.len() - 1;
+        let enclosing = Enclosing {
+            sites: &self.open_sites,
+            funcs: &self.open_funcs,
+            direct: self.frames[last].top_func,
+        };
+        for call in calls {
+            let closed = enclosing.closed(call.site, call.caller, &call.closed());
+            self.table.close(call.site, &closed)?;
+        }
+        let outer = &mut self.frames[last];
+        outer.join(&stretch.outer, first);
+        let mut caller = OUTER_CALLER;
+        for k in 1..stretch.frames.len() {
+            let frame = &stretch.frames[k];
+            self.frames
+                .push(frame.placed(&enclosing, self.work, first, caller))?;
+            caller = frame.func;
+        }
+        for k in 1..stretch.frames.len() {
+            let frame = &stretch.frames[k];
+            self.open_sites.add(frame.site)?;
+            self.open_funcs.add(frame.func)?;
+        }
+        self.work += stretch.work;
+        Ok(())
     }
 
     /// What the run comes to, where the root, which alone is open, closes at the end.

@@ -1,5 +1,5 @@
 -- What a return does to all open frames.
-use Rattle.std.proofs.Common.{◌≡◌, ℕ, suc, ◌≤◌, ◌<◌, Bool, true, false, ◌||◌, List, [], ◌∷◌, ◌++◌, length, reverse, take, Some, None, refl, sym, subst, ◌∙◌, arith}
+use Rattle.std.proofs.Common.{◌≡◌, ℕ, suc, ◌≤◌, ◌<◌, Bool, true, false, ◌||◌, List, [], ◌∷◌, ◌++◌, length, reverse, take, Some, refl, sym, subst, ◌∙◌, arith}
 use Rattle.std.proofs.lemmas.List.{length-take-le, length-append, reverse-append}
 use Rattle.spp_dag.specs.declared.stack.FrameKind.{FrameKind}
 use Rattle.spp_dag.specs.declared.stack.FrameKind.TheVariants.{Root, Called, Spawned}
@@ -10,30 +10,9 @@ use Rattle.spp_ways.specs.declared.open_ways.LoggedWays.{LoggedWays}
 use Rattle.spp_ways.specs.declared.open_ways.FrameWays.{FrameWays}
 use Rattle.spp_ways.specs.Ways.{Ways, way_on, closed_rows, returned_ways}
 use Rattle.spp_ways.specs.Logs.{IsLinked, AreLinked}
-use Rattle.spp_ways.specs.OpenWays.{AreBoth, AllWays, on_path, path_of, AreIn, Laid, returned_list, bare_row, chosen, come, entered, StayIn}
+use Rattle.spp_ways.specs.OpenWays.{AreBoth, AllWays, on_path, path_of, AreIn, Laid, returned_list, bare_row, chosen, entered, StayIn, returned_row, come_frame}
 use Rattle.spp_ways.proofs.Staying.{AreAlike, rows_older, all_move, Cut, cut, cut_alike, linked_less}
 use Rattle.spp_ways.proofs.Returning.{come_ways, come_in, gone_in, gone_ways}
-
--- the row of a frame that returns, where its own ways and those into its parent are these
-abbrev pub returned_row : OnPaths → ℕ → ClosedFrame → FrameWays → FrameWays → LogRow
-returned_row takes site closed v g = record {
-  work = closed.work;
-  span = closed.span;
-  own = (chosen takes.plain v.plain).own;
-  burdened_own = (chosen takes.burdened v.burdened).own;
-  before = g.plain.along.rows;
-  within = (chosen takes.plain v.plain).rows;
-  burdened_before = g.burdened.along.rows;
-  burdened_within = (chosen takes.burdened v.burdened).rows;
-  site = site;
-  top_site = closed.top_site;
-  top_caller = closed.top_caller;
-  merged = None;
-}
-
--- the parent, where the way through the child ends with the n-th row
-abbrev pub come_frame : FrameKind → OnPaths → ℕ → ℕ → ℕ → FrameWays → FrameWays
-come_frame kind wins n stored limit g = record { plain = come kind wins.plain n g.plain; burdened = come kind wins.burdened n g.burdened; start = g.start; stored = stored; limit = limit }
 
 stay_along : (n : ℕ) (kind : FrameKind) (wins : Bool) (w : LoggedWays) → StayIn n kind wins w → w.along.rows ≤ n
 stay_along n Root wins w h = h.0
@@ -46,16 +25,16 @@ stays_on false n kind wins g p b = p
 stays_on true n kind wins g p b = b
 
 -- the child's ways and the parent's on one path, with what the row says of them
-pub path_come : (on : Bool) (log rest : List LogRow) → AreAlike on (length rest) log rest → (kind : FrameKind) (takes wins : OnPaths) (site stored limit : ℕ) (closed : ClosedFrame) (v g : FrameWays) (x w : Ways)
+pub path_come : (on : Bool) (log rest : List LogRow) → AreAlike on (length rest) log rest → (kind : FrameKind) (takes wins : OnPaths) (site caller stored limit : ℕ) (closed : ClosedFrame) (v g : FrameWays) (x w : Ways)
     → AreBoth on log (path_of on v) x → AreBoth on log (path_of on g) w
     → StayIn (length rest) kind wins.plain g.plain → StayIn (length rest) kind wins.burdened g.burdened
     → (chosen takes.plain v.plain).rows ≤ length rest → (chosen takes.burdened v.burdened).rows ≤ length rest
-    → AreBoth on (returned_row takes site closed v g ∷ rest) (path_of on (come_frame kind wins (suc (length rest)) stored limit g))
+    → AreBoth on (returned_row takes site caller closed v g ∷ rest) (path_of on (come_frame kind wins (suc (length rest)) stored limit g))
     (returned_ways kind (on_path on wins) (closed_rows (Some site) (bare_row closed) (way_on (on_path on takes) x)) w)
-path_come false log rest same kind takes wins site stored limit closed v g x w c h p b vp vb =
-    come_ways false log rest same (returned_row takes site closed v g) kind takes.plain wins.plain site closed g.plain v.plain x w c h p vp refl refl refl refl refl
-path_come true log rest same kind takes wins site stored limit closed v g x w c h p b vp vb =
-    come_ways true log rest same (returned_row takes site closed v g) kind takes.burdened wins.burdened site closed g.burdened v.burdened x w c h b vb refl refl refl refl refl
+path_come false log rest same kind takes wins site caller stored limit closed v g x w c h p b vp vb =
+    come_ways false log rest same (returned_row takes site caller closed v g) kind takes.plain wins.plain site closed g.plain v.plain x w c h p vp refl refl refl refl refl
+path_come true log rest same kind takes wins site caller stored limit closed v g x w c h p b vp vb =
+    come_ways true log rest same (returned_row takes site caller closed v g) kind takes.burdened wins.burdened site closed g.burdened v.burdened x w c h b vb refl refl refl refl refl
 
 is_gone : (kind : FrameKind) (wins : OnPaths) → entered kind wins ≡ false → (kind ≡ Called → ⊥) × (kind ≡ Spawned → wins.plain ≡ false) × (kind ≡ Spawned → wins.burdened ≡ false)
 is_gone Root wins e = (λ q. cc, λ q. cc, λ q. cc)
@@ -69,7 +48,7 @@ is_gone Spawned wins e = by wins.plain wins.burdened e
 
 -- the log is cut to t rows
 module _ (items : List LogRow) (v g : FrameWays) (below : List FrameWays) (linked : AreLinked (reverse items)) (laid : Laid (length items) (v ∷ g ∷ below))
-    (kind : FrameKind) (takes wins : OnPaths) (site : ℕ) (closed : ClosedFrame) (t : ℕ) (start : g.start ≤ t)
+    (kind : FrameKind) (takes wins : OnPaths) (site caller : ℕ) (closed : ClosedFrame) (t : ℕ) (start : g.start ≤ t)
     (plain : StayIn t kind wins.plain g.plain) (burdened : StayIn t kind wins.burdened g.burdened) (short : t ≤ length items) where
   c : Cut items t
   c = cut items t short
@@ -118,7 +97,7 @@ module _ (items : List LogRow) (v g : FrameWays) (below : List FrameWays) (linke
   -- it is kept on one of them
   module _ (in_plain : (chosen takes.plain v.plain).rows ≤ t) (in_burdened : (chosen takes.burdened v.burdened).rows ≤ t) (few : site < 65536) (stored limit : ℕ) where
     abbrev row : LogRow
-    row = returned_row takes site closed v g
+    row = returned_row takes site caller closed v g
 
     last : reverse (take t items ++ (row ∷ [])) ≡ row ∷ rest
     last = reverse-append (take t items) (row ∷ [])
@@ -159,4 +138,4 @@ module _ (items : List LogRow) (v g : FrameWays) (below : List FrameWays) (linke
         let begin : g.start ≤ length rest = omega (arith, left) in
         let more : AreAlike on (length rest) (reverse items) (row ∷ rest) = λ k l key. rows_older on row rest k l key ∙ same k l key in
         subst (λ (l : List LogRow). AllWays on l (come_frame kind wins (suc (length rest)) stored limit g ∷ below) (returned_list kind (on_path on takes) (on_path on wins) site (bare_row closed) (x ∷ w ∷ ws))) (sym last)
-        (path_come on (reverse items) rest same kind takes wins site stored limit closed v g x w h.0 h.1.0 here_plain here_burdened z1 z2, all_move on (length rest) g.start (reverse items) (row ∷ rest) more begin below ws laid.3.3 h.1.1)
+        (path_come on (reverse items) rest same kind takes wins site caller stored limit closed v g x w h.0 h.1.0 here_plain here_burdened z1 z2, all_move on (length rest) g.start (reverse items) (row ∷ rest) more begin below ws laid.3.3 h.1.1)

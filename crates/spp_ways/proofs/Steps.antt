@@ -1,5 +1,5 @@
 -- What the steps do to the ways into open frames.
-use Rattle.std.proofs.Common.{◌≡◌, ℕ, suc, ◌+◌, ◌-◌, ◌<◌, ◌^◌, Bool, true, false, List, [], ◌∷◌, length, reverse, set, refl, sym, ap, subst, arith}
+use Rattle.std.proofs.Common.{◌≡◌, ℕ, suc, ◌+◌, ◌-◌, ◌<◌, Bool, true, false, List, [], ◌∷◌, length, reverse, set, refl, sym, ap, subst, arith}
 use Rattle.std.proofs.lemmas.List.{length-reverse}
 use Rattle.spp_site.proofs.LastFirst.{topped}
 use Rattle.spp_ways.specs.declared.log.LogRow.{LogRow}
@@ -7,7 +7,7 @@ use Rattle.spp_ways.specs.declared.open_ways.LoggedWays.{LoggedWays}
 use Rattle.spp_ways.specs.declared.open_ways.FrameWays.{FrameWays}
 use Rattle.spp_ways.specs.declared.open_ways.OpenWays.{OpenWays}
 use Rattle.spp_ways.specs.Ways.{Ways, no_way, no_ways, strand_ways}
-use Rattle.spp_ways.specs.OpenWays.{IsWay, AreBoth, AllWays, AreWays, path_of, nothing, HasOne, HasTwo, FitStrand, strand_list, Laid, IsLaid}
+use Rattle.spp_ways.specs.OpenWays.{IsWay, AreBoth, AllWays, AreWays, path_of, nothing, HasOne, HasTwo, FitStrand, FitTopStrand, strand_list, Laid, IsLaid}
 use Rattle.spp_ways.proofs.Staying.{rows_none}
 
 -- as many frames are open as there are ways
@@ -27,13 +27,6 @@ pub two_frames : (on : Bool) (o : OpenWays) (ws : List Ways) → AreWays on o ws
 two_frames on o [] h two = absurd two
 two_frames on o (w ∷ []) h two = absurd two
 two_frames on o (w ∷ v ∷ ws) h two = let n = as_many on (reverse o.log.rows.items) (reverse o.frames.items) (w ∷ v ∷ ws) h in let m = length-reverse o.frames.items in omega arith
-
-fit_one : (count : ℕ) (ws : List Ways) → FitStrand count ws → HasOne ws
-fit_one count [] h = h
-fit_one count (w ∷ ws) h = tt
-
-pub fit_frame : (on : Bool) (count : ℕ) (o : OpenWays) (ws : List Ways) → AreWays on o ws → FitStrand count ws → 0 < length o.frames.items
-fit_frame on count o ws h f = some_frame on o ws h (fit_one count ws f)
 
 -- ---- a frame that is opened
 
@@ -66,21 +59,32 @@ pub strand_all : (on : Bool) (log : List LogRow) (count : ℕ) (f : FrameWays) (
 strand_all on log count f fs [] h = absurd h
 strand_all on log count f fs (w ∷ ws) h = (strand_is on log count f w h.0, h.1)
 
-own_fits : (on : Bool) (log : List LogRow) (count : ℕ) (f : FrameWays) (fs : List FrameWays) (ws : List Ways) → AllWays on log (f ∷ fs) ws → FitStrand count ws → (path_of on f).along.own + count < 2 ^ 128
-own_fits on log count f fs [] h fit = absurd fit
-own_fits on log count f fs (w ∷ ws) h fit = let e = h.0.0.0 in omega arith
+-- there is an innermost frame, whose strands fit
+pub fit_some : (on : Bool) (count : ℕ) (fs : List FrameWays) → FitTopStrand on count (reverse fs) → 0 < length fs
+fit_some on count fs h = by (reverse fs) (length-reverse fs) h
+  where
+    by : (gs : List FrameWays) → length gs ≡ length fs → FitTopStrand on count gs → 0 < length fs
+    by [] e h = absurd h
+    by (g ∷ gs) e h = let z : length (g ∷ gs) ≡ suc (length gs) = refl in omega arith
 
--- the innermost frame's strands fit
-pub strand_fits : (on : Bool) (count : ℕ) (o : OpenWays) (some : 0 < length o.frames.items) (ws : List Ways) → AreWays on o ws → FitStrand count ws
-    → (path_of on (topped o.frames.items some).top).along.own + count < 2 ^ 128
-strand_fits on count o some ws h fit =
-    let t = topped o.frames.items some in
-    own_fits on (reverse o.log.rows.items) count t.top t.below ws (subst (λ (l : List FrameWays). AllWays on (reverse o.log.rows.items) l ws) t.is h) fit
+own_fits : (on : Bool) (log : List LogRow) (count : ℕ) (fs : List FrameWays) (ws : List Ways) → AllWays on log fs ws → FitStrand count ws → FitTopStrand on count fs
+own_fits on log count [] [] h fit = absurd fit
+own_fits on log count [] (w ∷ ws) h fit = absurd h
+own_fits on log count (f ∷ fs) [] h fit = absurd fit
+own_fits on log count (f ∷ fs) (w ∷ ws) h fit = let e = h.0.0.0 in omega arith
+
+-- the strands of the innermost frame fit where those of its way do
+pub strand_fits : (on : Bool) (count : ℕ) (o : OpenWays) (ws : List Ways) → AreWays on o ws → FitStrand count ws → FitTopStrand on count (reverse o.frames.items)
+strand_fits on count o ws h fit = own_fits on (reverse o.log.rows.items) count (reverse o.frames.items) ws h fit
 
 -- the innermost frame has changed
 pub record StrandDone (count : ℕ) (o : OpenWays) (frames : List FrameWays) : Type 0 where
+  pub top : FrameWays
+  pub below : List FrameWays
+  pub is : reverse o.frames.items ≡ top ∷ below
+  pub then : reverse frames ≡ strand_frame count top ∷ below
   pub laid : Laid (length o.log.rows.items) (reverse frames)
-  pub ways : (on : Bool) (ws : List Ways) → AreWays on o ws → AllWays on (reverse o.log.rows.items) (reverse frames) (strand_list count ws)
+  pub ways : (on : Bool) (log : List LogRow) (ws : List Ways) → AllWays on log (reverse o.frames.items) ws → AllWays on log (reverse frames) (strand_list count ws)
 
 pub strand_done : (count : ℕ) (o : OpenWays) (some : 0 < length o.frames.items) → IsLaid o
     → StrandDone count o (set o.frames.items (length o.frames.items - 1) (strand_frame count (topped o.frames.items some).top))
@@ -90,8 +94,12 @@ strand_done count o some laid =
     let put = t.put g in
     let old : Laid (length o.log.rows.items) (t.top ∷ t.below) = subst (Laid (length o.log.rows.items)) t.is laid.frames in
     record {
+      top = t.top;
+      below = t.below;
+      is = t.is;
+      then = put;
       laid = subst (Laid (length o.log.rows.items)) (sym put) (old.0, old.1, old.2, old.3);
-      ways = λ on ws h.
-          subst (λ (l : List FrameWays). AllWays on (reverse o.log.rows.items) l (strand_list count ws)) (sym put)
-          (strand_all on (reverse o.log.rows.items) count t.top t.below ws (subst (λ (l : List FrameWays). AllWays on (reverse o.log.rows.items) l ws) t.is h));
+      ways = λ on log ws h.
+          subst (λ (l : List FrameWays). AllWays on log l (strand_list count ws)) (sym put)
+          (strand_all on log count t.top t.below ws (subst (λ (l : List FrameWays). AllWays on log l ws) t.is h));
     }

@@ -1,5 +1,5 @@
 -- The ways into open frames as they lie in a log, on both paths at once.
-use Rattle.std.specs.Prelude.{◌≡◌, ℕ, ◌+◌, ◌≤◌, ◌<◌, ◌^◌, Bool, true, false, cond, ◌||◌, List, [], ◌∷◌, length, reverse, Option, Some, None}
+use Rattle.std.specs.Prelude.{◌≡◌, ℕ, suc, ◌+◌, ◌≤◌, ◌<◌, ◌^◌, Bool, true, false, cond, ◌||◌, List, [], ◌∷◌, ◌++◌, length, reverse, take, Option, Some, None}
 use Rattle.spp_dag.specs.declared.row.Row.{Row}
 use Rattle.spp_dag.specs.declared.stack.FrameKind.{FrameKind}
 use Rattle.spp_dag.specs.declared.stack.FrameKind.TheVariants.{Root, Called, Spawned}
@@ -69,6 +69,11 @@ HasTwo (w ∷ ws) = HasOne ws
 abbrev pub FitStrand : ℕ → List Ways → Type 0
 FitStrand count [] = ⊥
 FitStrand count (w ∷ ws) = w.along.own + count < 2 ^ 128
+
+-- the strands of the innermost of these frames can have so many instructions more on that path
+abbrev pub FitTopStrand : Bool → ℕ → List FrameWays → Type 0
+FitTopStrand on count [] = ⊥
+FitTopStrand on count (f ∷ fs) = (path_of on f).along.own + count < 2 ^ 128
 
 abbrev pub strand_list : ℕ → List Ways → List Ways
 strand_list count [] = []
@@ -140,3 +145,48 @@ abbrev pub StayIn : ℕ → FrameKind → Bool → LoggedWays → Type 0
 StayIn n Root wins w = AreIn n w
 StayIn n Called wins w = AreIn n w
 StayIn n Spawned wins w = (w.along.rows ≤ n) × cond wins (Unit {0}) (w.through.rows ≤ n)
+
+-- ---- a return in the log
+
+-- the row of a frame that returns, where its own ways and those into its parent are these
+abbrev pub returned_row : OnPaths → ℕ → ℕ → ClosedFrame → FrameWays → FrameWays → LogRow
+returned_row takes site caller closed v g = record {
+  work = closed.work;
+  span = closed.span;
+  own = (chosen takes.plain v.plain).own;
+  burdened_own = (chosen takes.burdened v.burdened).own;
+  before = g.plain.along.rows;
+  within = (chosen takes.plain v.plain).rows;
+  burdened_before = g.burdened.along.rows;
+  burdened_within = (chosen takes.burdened v.burdened).rows;
+  caller = caller;
+  site = site;
+  top_site = closed.top_site;
+  top_caller = closed.top_caller;
+  merged = None;
+}
+
+-- the parent, where the way through the child ends with the n-th row
+abbrev pub come_frame : FrameKind → OnPaths → ℕ → ℕ → ℕ → FrameWays → FrameWays
+come_frame kind wins n stored limit g = record { plain = come kind wins.plain n g.plain; burdened = come kind wins.burdened n g.burdened; start = g.start; stored = stored; limit = limit }
+
+-- The innermost frame v has returned to g, and the log is cut to so many rows, but for the frame's own, which is put behind
+-- them if the way through it is kept on either path.
+abbrev pub IsLeft : Bool → FrameKind → OnPaths → OnPaths → ℕ → ℕ → ClosedFrame → FrameWays → FrameWays → List FrameWays → ℕ → List LogRow → List LogRow → List FrameWays → Type 0
+IsLeft false kind takes wins site caller closed v g below to old rows frames = (rows ≡ take to old) × (frames ≡ g ∷ below)
+IsLeft true kind takes wins site caller closed v g below to old rows frames =
+    (stored : ℕ) × (limit : ℕ) × ((chosen takes.plain v.plain).rows ≤ to) × ((chosen takes.burdened v.burdened).rows ≤ to)
+    × (rows ≡ take to old ++ (returned_row takes site caller closed v g ∷ []))
+    × (frames ≡ come_frame kind wins (suc to) stored limit g ∷ below)
+
+pub record IsPut (kind : FrameKind) (takes wins : OnPaths) (site caller : ℕ) (closed : ClosedFrame) (old new : OpenWays) : Type 0 where
+  pub child : FrameWays
+  pub parent : FrameWays
+  pub below : List FrameWays
+  pub frames : reverse old.frames.items ≡ child ∷ parent ∷ below
+  pub to : ℕ
+  pub start : parent.start ≤ to
+  pub plain : StayIn to kind wins.plain parent.plain
+  pub burdened : StayIn to kind wins.burdened parent.burdened
+  pub short : to ≤ length old.log.rows.items
+  pub left : IsLeft (entered kind wins) kind takes wins site caller closed child parent below to old.log.rows.items new.log.rows.items (reverse new.frames.items)

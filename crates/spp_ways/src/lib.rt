@@ -4,9 +4,11 @@
 //! are the rows of the path's table.
 #![tactic(auto)]
 
+mod enclosing;
 mod laws;
 mod log;
 mod open_ways;
 
+pub use enclosing::{Enclosing, OUTER_CALLER};
 pub use laws::way_laws;
-pub use open_ways::{OnPaths, OpenWays};
+pub use open_ways::{LoggedStretch, OnPaths, OpenWays};

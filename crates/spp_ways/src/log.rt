@@ -1,14 +1,66 @@
 //! The closed frames that ways enter.
 
-ghost use Rattle.std.specs.Prelude.{◌≡◌, ◌+◌, ◌<◌, ◌≤◌, ◌^◌, ◌++◌, ◌∷◌, [], ℕ, true, false, length, reverse, take, OnOk, IfOk, Option};
+ghost use Rattle.std.specs.Prelude.{◌≡◌, ◌+◌, ◌<◌, ◌≤◌, ◌^◌, ◌++◌, ◌∷◌, [], ℕ, true, false, length, map, reverse, take, drop, OnOk, IfOk, Option, All};
 ghost use Rattle.spp_dag.specs.Shares.{plus};
 ghost use Rattle.spp_site.specs.Rows.{Fits};
 ghost use Rattle.spp_site.specs.Profiles.{key_row};
 ghost use Rattle.spp_ways.specs.Logs.{AreLinked, IsMergedRow, before_on, within_on, closed_on, merged_on, row_on, row_in};
+ghost use Rattle.spp_ways.specs.Enclosures.{enclosure_of};
+ghost use Rattle.spp_ways.specs.Stretches.{linked_to, outer_row, joined_row, FitLinks};
 ghost use Rattle.spp_ways.specs.declared.log.LogRow.{LogRow as LogRowValue};
 
+use crate::enclosing::Enclosing;
 use spp_site::{ClosedFrame, Share, Table};
 use std::alloc::{AllocError, Global};
+
+/// In place of a caller's function, where a row of a stretch stands for the way into its outer frame before its first event.
+/// Contracts alone read it.
+const OUTER_WAY: u32 = 65537;
+
+/// How the ways of a stretch are told in the log onto which it is joined. In the stretch the first row stands for the way into
+/// its outer frame.
+#[derive(Clone, Copy)]
+pub(crate) struct Links {
+    /// Where the way into that frame ends in the log.
+    pub(crate) plain: u32,
+    /// And that under the burdens.
+    pub(crate) burdened: u32,
+    /// How many rows the log had before the stretch.
+    pub(crate) rows: u32,
+}
+
+impl Links {
+    /// Where a way of the stretch ends.
+    #[inline(always)]
+    pub(crate) fn plain(self, way: u32) -> u32
+        requires { self.rows + way < 2 ^ 32 }
+        ensures { result ≡ linked_to self.plain self.rows way }
+    {
+        linked_to(self.plain, self.rows, way)
+    }
+
+    /// Where a way of the stretch under the burdens ends.
+    #[inline(always)]
+    pub(crate) fn burdened(self, way: u32) -> u32
+        requires { self.rows + way < 2 ^ 32 }
+        ensures { result ≡ linked_to self.burdened self.rows way }
+    {
+        linked_to(self.burdened, self.rows, way)
+    }
+}
+
+/// Where a way of a stretch ends in a log that had so many rows before, and where the way into the stretch's outer frame ends.
+#[inline(always)]
+pub(crate) fn linked_to(outer: u32, rows: u32, way: u32) -> u32
+    requires { rows + way < 2 ^ 32 }
+    ensures { result ≡ linked_to outer rows way }
+{
+    match way {
+        0 => 0,
+        1 => outer,
+        _ => rows + way - 1,
+    }
+}
 
 /// What the rows of ways come to: on the path without burdens, and on that under them.
 #[derive(Drop)]
@@ -56,8 +108,10 @@ pub(crate) struct LogRow {
     pub(crate) burdened_before: u32,
     /// And of that through it.
     pub(crate) burdened_within: u32,
+    /// In a stretch of events the function of its caller, or `OUTER_CALLER`, or `OUTER_WAY`; 0 in the log of a run.
+    pub(crate) caller: u32,
     /// The call site by which it was entered.
-    pub(crate) site: u32,
+    pub(crate) site: u16,
     /// No frame of the same site encloses it.
     pub(crate) top_site: bool,
     /// Its caller is enclosed by no frame of the caller's function.
@@ -84,11 +138,56 @@ impl LogRow {
             within: 0,
             burdened_before: 0,
             burdened_within: 0,
+            caller: 0,
             site: 0,
             top_site: false,
             top_caller: false,
             merged: Some(Box::new(alloc, merged)?),
         })
+    }
+
+    /// The row of a stretch that stands for the way into its outer frame before its first event.
+    pub(crate) fn outer() -> Self
+        ensures { result ≡ outer_row }
+    {
+        LogRow {
+            work: 0,
+            span: 0,
+            own: 0,
+            burdened_own: 0,
+            before: 0,
+            within: 0,
+            burdened_before: 0,
+            burdened_within: 0,
+            caller: OUTER_WAY,
+            site: 0,
+            top_site: false,
+            top_caller: false,
+            merged: None,
+        }
+    }
+
+    /// The row of a frame of a stretch in the log onto which the stretch is joined.
+    #[inline(always)]
+    pub(crate) fn joined(&self, links: Links, enclosing: &Enclosing<'_>) -> Self
+        requires few { FitLinks links self.now }
+        ensures { result ≡ joined_row links (enclosure_of enclosing.now) self.now }
+    {
+        LogRow {
+            work: self.work,
+            span: self.span,
+            own: self.own,
+            burdened_own: self.burdened_own,
+            before: links.plain(self.before),
+            within: links.plain(self.within),
+            burdened_before: links.burdened(self.burdened_before),
+            burdened_within: links.burdened(self.burdened_within),
+            caller: 0,
+            site: self.site,
+            top_site: self.top_site && enclosing.is_top_site(u32::from(self.site)),
+            top_caller: self.top_caller && enclosing.is_top_caller(self.caller),
+            merged: None,
+        }
     }
 
     /// Where the way ends that leads to the frame in its parent: without burdens, or under them.
@@ -124,7 +223,7 @@ impl LogRow {
         ensures { OnOk result ((key : Option ℕ) → key_row table.new key ≡ plus (key_row table.old key) (row_on burdened self.now key)) }
     {
         match &self.merged {
-            None => table.close(self.site, &self.closed(burdened)),
+            None => table.close(u32::from(self.site), &self.closed(burdened)),
             Some(merged) => table.absorb(merged.on(burdened)),
         }
     }
@@ -198,6 +297,26 @@ impl Log {
     {
         self.rows.push(row)?;
         Ok(self.rows.len() as u32)
+    }
+
+    /// Puts the rows of a stretch behind the others, but for the one that stands for the way into its outer frame.
+    ///
+    /// # Errors
+    ///
+    /// Where an allocation failed.
+    pub(crate) fn join(
+        &mut self,
+        stretch: &Log,
+        links: Links,
+        enclosing: &Enclosing<'_>,
+    ) -> Result<(), AllocError>
+        requires few { All (FitLinks links) (drop 1 stretch.now.rows.items) }
+        ensures { OnOk result (self.new.rows.items ≡ self.old.rows.items ++ map (joined_row links (enclosure_of enclosing.now)) (drop 1 stretch.now.rows.items)) }
+    {
+        for k in 1..stretch.rows.len() {
+            self.rows.push(stretch.rows[k].joined(links, enclosing))?;
+        }
+        Ok(())
     }
 
     /// Adds the rows of a way to a table: without burdens, or under them. It takes constant time for each frame, time linear

@@ -1,14 +1,14 @@
 //! The ways into the open frames of a run, on both paths at once.
 
-ghost use Rattle.std.specs.Prelude.{◌≡◌, ◌+◌, ◌-◌, ◌*◌, ◌/◌, max, min, nat_lt, ◌<◌, ◌≤◌, ◌^◌, ◌∷◌, [], ℕ, Bool, List, true, false, Option, length, OnOk, IfOk};
+ghost use Rattle.std.specs.Prelude.{◌≡◌, ◌+◌, ◌-◌, ◌*◌, ◌/◌, max, min, nat_lt, ◌<◌, ◌≤◌, ◌^◌, ◌∷◌, ◌++◌, [], ℕ, Bool, List, true, false, Option, length, map, reverse, drop, OnOk, IfOk, All};
+ghost use Rattle.std.specs.Global.{Box};
 ghost use Rattle.spp_site.specs.Rows.{Fits};
 ghost use Rattle.spp_site.specs.Profiles.{key_row};
 ghost use Rattle.spp_ways.specs.Ways.{Ways, no_ways, rows_at};
 ghost use Rattle.spp_ways.specs.OpenWays.{
   IsLaid,
   HasOne,
-  HasTwo,
-  FitStrand,
+  FitTopStrand,
   AreWays,
   on_path,
   path_of,
@@ -27,12 +27,36 @@ ghost use Rattle.spp_ways.specs.OpenWays.{
   StayIn,
   FitTop,
   HasRows,
+  IsPut,
+};
+ghost use Rattle.spp_ways.specs.Enclosures.{Enclosure, enclosure_of, enclosed};
+ghost use Rattle.spp_ways.specs.declared.log.Merged.{Merged as MergedValue};
+ghost use Rattle.spp_ways.specs.Stretches.{
+  outer_way,
+  IsBase,
+  outer_row,
+  outer_frame,
+  AreStretchWays,
+  AreEnclosed,
+  stretch_rows,
+  stretch_frames,
+  IsStretch,
+  joined_ways,
+  joined_frame,
+  joined_list,
+  gone_on_by,
+  gone_on,
+  FitFrame,
+  FitOwn,
+  CanJoin,
 };
 
-use crate::log::{Log, LogRow};
+use crate::enclosing::Enclosing;
+use crate::log::{Links, Log, LogRow, linked_to};
 use spp_dag::FrameKind;
 use spp_site::{ClosedFrame, Table};
 use std::alloc::{AllocError, Global};
+use std::mem;
 
 /// A yes or a no for each of both paths.
 #[derive(Clone, Copy, Debug, PartialEq, Eq)]
@@ -123,6 +147,44 @@ impl LoggedWays {
         }
     }
 
+    /// Those of a stretch, in the log onto which it is joined: that had so many rows, and `outer` tells where the way into the
+    /// stretch's outer frame ends there.
+    #[inline(always)]
+    fn joined(&self, outer: u32, rows: u32) -> Self
+        requires along { rows + self.now.along.rows < 2 ^ 32 }
+        requires through { rows + self.now.through.rows < 2 ^ 32 }
+        ensures { result ≡ joined_ways outer rows self.now }
+    {
+        LoggedWays {
+            along: LoggedWay {
+                rows: linked_to(outer, rows, self.along.rows),
+                own: self.along.own,
+            },
+            through: LoggedWay {
+                rows: linked_to(outer, rows, self.through.rows),
+                own: self.through.own,
+            },
+        }
+    }
+
+    /// Goes on by those of a stretch, whose way through a child that waits is kept if it wins.
+    #[inline(always)]
+    fn join(&mut self, stretch: &LoggedWays, wins: bool)
+        requires { FitOwn wins stretch.now self.old }
+        ensures { self.new ≡ gone_on_by stretch.now wins self.old }
+    {
+        if wins {
+            self.through = LoggedWay {
+                rows: stretch.through.rows,
+                own: self.along.own + stretch.through.own,
+            };
+        }
+        self.along = LoggedWay {
+            rows: stretch.along.rows,
+            own: self.along.own + stretch.along.own,
+        };
+    }
+
     /// A frame of that kind returns, the way through which ends with that row.
     #[inline(always)]
     fn come(&mut self, kind: FrameKind, wins: bool, rows: u32)
@@ -173,6 +235,54 @@ impl FrameWays {
         }
     }
 
+    /// The frame in which a stretch begins, by the ways of the stretch: they begin with the row that stands for the way into
+    /// that frame.
+    #[inline(always)]
+    fn outer() -> Self
+        ensures { result ≡ outer_frame }
+    {
+        let along = LoggedWay { rows: 1, own: 0 };
+        FrameWays {
+            plain: LoggedWays::going_on(along),
+            burdened: LoggedWays::going_on(along),
+            start: 1,
+            stored: 0,
+            limit: 0,
+        }
+    }
+
+    /// The frame of a stretch, in the log onto which the stretch is joined.
+    #[inline(always)]
+    fn joined(&self, links: Links, limit: u32) -> Self
+        requires few { FitFrame links self.now }
+        ensures { result ≡ joined_frame links limit self.now }
+    {
+        FrameWays {
+            plain: self.plain.joined(links.plain, links.rows),
+            burdened: self.burdened.joined(links.burdened, links.rows),
+            start: links.rows + self.start - 1,
+            stored: 0,
+            limit,
+        }
+    }
+
+    /// Goes on by the ways of a stretch that has this outer frame. `wins` tells on which paths the way through the child that
+    /// waits in the stretch is greater than that through the one that waits here, or none does.
+    #[inline(always)]
+    fn join(&mut self, outer: &FrameWays, wins: OnPaths, links: Links)
+        requires few { FitFrame links outer.now }
+        requires plain { FitOwn wins.plain outer.now.plain self.old.plain }
+        requires burdened { FitOwn wins.burdened outer.now.burdened self.old.burdened }
+        ensures { self.new ≡ gone_on links wins outer.now self.old }
+    {
+        self.plain
+            .join(&outer.plain.joined(links.plain, links.rows), wins.plain);
+        self.burdened.join(
+            &outer.burdened.joined(links.burdened, links.rows),
+            wins.burdened,
+        );
+    }
+
     /// The frame, where the rows of its ways have been merged into these two of the log, which store so many rows.
     fn merged(self, along: u32, through: u32, stored: u32) -> Self
         ensures ways { AreMerged along through self result }
@@ -208,6 +318,17 @@ impl FrameWays {
             self.plain.chosen(takes.plain)
         }
     }
+}
+
+/// The ways of a stretch: into the frame in which it begins, and into those that it leaves open.
+#[derive(Drop)]
+pub struct LoggedStretch {
+    /// Into the frame in which it begins.
+    outer: FrameWays,
+    /// Into those that it leaves open, behind one that isn't used; that one at most where there are none.
+    frames: Vec<FrameWays>,
+    /// The rows, the first of which stands for the way into the outer frame before the stretch; none where there is no other.
+    log: Log,
 }
 
 /// Whether the way through a frame of that kind, which returns, is kept on either path.
@@ -281,6 +402,8 @@ impl OpenWays {
         ensures ways { OnOk result ((on : Bool) (ways : List Ways) → AreWays on self.old ways → AreWays on self.new (no_ways ∷ ways)) }
         ensures rows { OnOk result (length self.new.log.rows.items ≤ length self.old.log.rows.items) }
         ensures limit { self.new.limit ≡ self.old.limit }
+        ensures stretch { OnOk result (IsStretch self.old.log.rows.items self.old.frames.items → IsStretch self.new.log.rows.items self.new.frames.items) }
+        ensures enclosed { OnOk result ((on : Bool) (e : Enclosure) (base : Box MergedValue) (ways : List Ways) → AreStretchWays on e base self.old ways → AreStretchWays on e base self.new (no_ways ∷ ways)) }
     {
         self.frames
             .push(FrameWays::opened(self.log.len(), self.limit))?;
@@ -291,11 +414,13 @@ impl OpenWays {
     #[inline(always)]
     pub fn strand(&mut self, count: u64)
         requires laid { IsLaid self.old }
-        requires fits { (on : Bool) → (ways : List Ways) × AreWays on self.old ways × FitStrand count ways }
+        requires fits { (on : Bool) → FitTopStrand on count (reverse self.old.frames.items) }
         ensures laid { IsLaid self.new }
         ensures ways { (on : Bool) (ways : List Ways) → AreWays on self.old ways → AreWays on self.new (strand_list count ways) }
         ensures rows { length self.new.log.rows.items ≤ length self.old.log.rows.items }
         ensures limit { self.new.limit ≡ self.old.limit }
+        ensures stretch { IsStretch self.old.log.rows.items self.old.frames.items → IsStretch self.new.log.rows.items self.new.frames.items }
+        ensures enclosed { (on : Bool) (e : Enclosure) (base : Box MergedValue) (ways : List Ways) → AreStretchWays on e base self.old ways → AreStretchWays on e base self.new (strand_list count ways) }
     {
         let last = self.frames.len() - 1;
         let frame = &mut self.frames[last];
@@ -307,11 +432,13 @@ impl OpenWays {
     #[inline(always)]
     pub fn wait(&mut self, takes: OnPaths)
         requires laid { IsLaid self.old }
-        requires some { (ways : List Ways) × AreWays false self.old ways × HasOne ways }
+        requires some { 0 < length self.old.frames.items }
         ensures laid { IsLaid self.new }
         ensures ways { (on : Bool) (ways : List Ways) → AreWays on self.old ways → AreWays on self.new (waited_list (on_path on takes) ways) }
         ensures rows { length self.new.log.rows.items ≤ length self.old.log.rows.items }
         ensures limit { self.new.limit ≡ self.old.limit }
+        ensures stretch { IsStretch self.old.log.rows.items self.old.frames.items → IsStretch self.new.log.rows.items self.new.frames.items }
+        ensures enclosed { (on : Bool) (e : Enclosure) (base : Box MergedValue) (ways : List Ways) → AreStretchWays on e base self.old ways → AreStretchWays on e base self.new (waited_list (on_path on takes) ways) }
     {
         let last = self.frames.len() - 1;
         let frame = &mut self.frames[last];
@@ -364,15 +491,14 @@ impl OpenWays {
         takes: OnPaths,
         wins: OnPaths,
         site: u32,
+        caller: u32,
         closed: &ClosedFrame,
     ) -> Result<bool, AllocError>
         requires laid { IsLaid self.old }
-        requires some { (ways : List Ways) × AreWays false self.old ways × HasTwo ways }
+        requires two { 1 < length self.old.frames.items }
         requires few { length self.old.log.rows.items + 1 < 2 ^ 32 }
         requires site { site < 65536 }
-        ensures laid { OnOk result (IsLaid self.new) }
-        ensures ways { OnOk result ((on : Bool) (ways : List Ways) → AreWays on self.old ways → AreWays on self.new (returned_list kind (on_path on takes) (on_path on wins) site (bare_row closed.now) ways)) }
-        ensures rows { OnOk result (length self.new.log.rows.items ≤ length self.old.log.rows.items + 1) }
+        ensures put { OnOk result (IsPut kind takes wins site caller closed.now self.old self.new) }
         ensures many { IfOk result (λ merges. merges ≡ true → HasRows self.new) }
         ensures limit { self.new.limit ≡ self.old.limit }
     {
@@ -400,7 +526,8 @@ impl OpenWays {
             within: plain.rows,
             burdened_before: parent.burdened.along.rows,
             burdened_within: burdened.rows,
-            site,
+            caller,
+            site: site as u16,
             top_site: closed.top_site,
             top_caller: closed.top_caller,
             merged: None,
@@ -431,7 +558,7 @@ impl OpenWays {
         closed: &ClosedFrame,
     ) -> Result<(), AllocError>
         requires laid { IsLaid self.old }
-        requires some { (ways : List Ways) × AreWays false self.old ways × HasTwo ways }
+        requires two { 1 < length self.old.frames.items }
         requires few { length self.old.log.rows.items + 1 < 2 ^ 32 }
         requires site { site < 65536 }
         requires fits { (on : Bool) → (ways : List Ways) × AreWays on self.old ways × FitTop (returned_list kind (on_path on takes) (on_path on wins) site (bare_row closed.now) ways) }
@@ -440,7 +567,154 @@ impl OpenWays {
         ensures rows { OnOk result (length self.new.log.rows.items ≤ length self.old.log.rows.items + 1) }
         ensures limit { self.new.limit ≡ self.old.limit }
     {
-        if self.put(kind, takes, wins, site, closed)? {
+        if self.put(kind, takes, wins, site, 0, closed)? {
+            self.merge(alloc)?;
+        }
+        Ok(())
+    }
+
+    /// The innermost frame of a stretch returns to the one below, as for [`OpenWays::ret`]; `caller` is the function of its
+    /// caller, or `OUTER_CALLER`, and `closed` the frame as a table of the stretch alone counts it. No rows are merged.
+    ///
+    /// # Errors
+    ///
+    /// Where an allocation failed.
+    #[inline(always)]
+    pub fn pop(
+        &mut self,
+        kind: FrameKind,
+        takes: OnPaths,
+        wins: OnPaths,
+        site: u32,
+        caller: u32,
+        closed: &ClosedFrame,
+    ) -> Result<(), AllocError>
+        requires stretch { IsStretch self.old.log.rows.items self.old.frames.items }
+        requires two { 1 < length self.old.frames.items }
+        requires few { length self.old.log.rows.items + 1 < 2 ^ 32 }
+        requires site { site < 65536 }
+        requires caller { caller < outer_way }
+        ensures stretch { OnOk result (IsStretch self.new.log.rows.items self.new.frames.items) }
+        ensures ways { OnOk result ((on : Bool) (e : Enclosure) (base : Box MergedValue) (ways : List Ways) → AreStretchWays on e base self.old ways → AreStretchWays on e base self.new (returned_list kind (on_path on takes) (on_path on wins) site (bare_row (enclosed e site caller closed.now)) ways)) }
+        ensures rows { OnOk result (length self.new.log.rows.items ≤ length self.old.log.rows.items + 1) }
+    {
+        self.put(kind, takes, wins, site, caller, closed)?;
+        Ok(())
+    }
+
+    /// The ways of a stretch before its first event, where it isn't known what encloses it.
+    ///
+    /// # Errors
+    ///
+    /// Where an allocation failed.
+    pub fn stretch(alloc: Global) -> Result<Self, AllocError>
+        ensures { IfOk result (λ w. (w.log.rows.items ≡ outer_row ∷ []) × (w.frames.items ≡ outer_frame ∷ [])) }
+    {
+        let mut log = Log::new(alloc);
+        log.push(LogRow::outer())?;
+        let mut frames = Vec::new(alloc);
+        frames.push(FrameWays::outer())?;
+        Ok(OpenWays {
+            frames,
+            log,
+            limit: 0,
+        })
+    }
+
+    /// The ways of a stretch that ends where its outer frame alone is open; goes on with a new one.
+    ///
+    /// # Errors
+    ///
+    /// Where an allocation failed.
+    pub fn next_stretch(&mut self, alloc: Global) -> Result<LoggedStretch, AllocError>
+        requires stretch { IsStretch self.old.log.rows.items self.old.frames.items }
+        requires one { length self.old.frames.items ≡ 1 }
+        requires few { length self.old.log.rows.items < 2 ^ 32 }
+        ensures rows { IfOk result (λ s. stretch_rows s ≡ self.old.log.rows.items) }
+        ensures frames { IfOk result (λ s. stretch_frames s ≡ self.old.frames.items) }
+        ensures begun { OnOk result ((self.new.log.rows.items ≡ outer_row ∷ []) × (self.new.frames.items ≡ outer_frame ∷ [])) }
+    {
+        let outer = self.frames[0];
+        let mut log = Log::new(alloc);
+        if self.log.len() > 1 {
+            log.push(LogRow::outer())?;
+            mem::swap(&mut self.log, &mut log);
+        }
+        self.frames[0] = FrameWays::outer();
+        Ok(LoggedStretch {
+            outer,
+            frames: Vec::new(alloc),
+            log,
+        })
+    }
+
+    /// The ways of a stretch, with those into the frames that it leaves open.
+    pub fn into_stretch(self) -> LoggedStretch
+        requires { IsStretch self.log.rows.items self.frames.items }
+        ensures rows { stretch_rows result ≡ self.log.rows.items }
+        ensures frames { stretch_frames result ≡ self.frames.items }
+    {
+        let OpenWays { frames, log, .. } = self;
+        LoggedStretch {
+            outer: frames[0],
+            frames,
+            log,
+        }
+    }
+
+    /// Opens the frames that a stretch leaves open, but for its outer one.
+    ///
+    /// # Errors
+    ///
+    /// Where an allocation failed.
+    fn open_inner(&mut self, stretch: &LoggedStretch, links: Links) -> Result<(), AllocError>
+        requires few { All (FitFrame links) (drop 1 stretch.now.frames.items) }
+        ensures frames { OnOk result (self.new.frames.items ≡ self.old.frames.items ++ map (joined_frame links self.old.limit) (drop 1 stretch.now.frames.items)) }
+        ensures log { self.new.log ≡ self.old.log }
+        ensures limit { self.new.limit ≡ self.old.limit }
+    {
+        for k in 1..stretch.frames.len() {
+            let frame = stretch.frames[k].joined(links, self.limit);
+            self.frames.push(frame)?;
+        }
+        Ok(())
+    }
+
+    /// Joins the ways of a stretch onto these, which stand before it. `wins` tells on which paths the way through the child
+    /// that waits in its outer frame is greater than that through the one that waits in the innermost frame here, or none
+    /// does; `enclosing` what encloses the stretch. It takes constant time for each row and each frame of the stretch; where
+    /// the outer frame has too many rows then, they are merged, which takes constant time for each, amortized over the run.
+    ///
+    /// # Errors
+    ///
+    /// Where an allocation failed.
+    pub fn join(
+        &mut self,
+        alloc: Global,
+        stretch: &LoggedStretch,
+        wins: OnPaths,
+        enclosing: &Enclosing<'_>,
+    ) -> Result<(), AllocError>
+        requires laid { IsLaid self.old }
+        requires stretch { IsStretch (stretch_rows stretch.now) (stretch_frames stretch.now) }
+        requires few { length self.old.log.rows.items + length (stretch_rows stretch.now) < 2 ^ 32 }
+        requires can { (on : Bool) → CanJoin on wins (enclosure_of enclosing.now) self.old stretch.now }
+        ensures laid { OnOk result (IsLaid self.new) }
+        ensures ways { OnOk result ((on : Bool) (base : Box MergedValue) (w : Ways) (ws us : List Ways) → AreWays on self.old (w ∷ ws) → IsBase on base w.along → AreEnclosed on (enclosure_of enclosing.now) base (stretch_rows stretch.now) (stretch_frames stretch.now) us → AreWays on self.new (joined_list (on_path on wins) us w ws)) }
+        ensures rows { OnOk result (length self.new.log.rows.items < length self.old.log.rows.items + length (stretch_rows stretch.now)) }
+        ensures limit { self.new.limit ≡ self.old.limit }
+    {
+        let last = self.frames.len() - 1;
+        let links = Links {
+            plain: self.frames[last].plain.along.rows,
+            burdened: self.frames[last].burdened.along.rows,
+            rows: self.log.len(),
+        };
+        self.log.join(&stretch.log, links, enclosing)?;
+        self.frames[last].join(&stretch.outer, wins, links);
+        self.open_inner(stretch, links)?;
+        let alone = stretch.frames.len() < 2;
+        if alone && self.frames[last].is_full(self.log.len()) {
             self.merge(alloc)?;
         }
         Ok(())

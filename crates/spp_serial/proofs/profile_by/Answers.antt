@@ -10,6 +10,7 @@ use Rattle.spp_site.proofs.WholeProfile.{whole}
 use Rattle.spp_ways.specs.declared.open_ways.OpenWays.{OpenWays}
 use Rattle.spp_ways.specs.Ways.{Ways, no_ways}
 use Rattle.spp_ways.specs.OpenWays.{IsLaid, HasOne, AreWays, on_path, bare_row, strand_list, waited_list, returned_list}
+use Rattle.spp_ways.proofs.Steps.{some_frame, two_frames, strand_fits}
 use Rattle.spp_pass.specs.declared.counted_frame.CountedFrame.{CountedFrame}
 use Rattle.spp_pass.specs.declared.counting.Counting.{Counting}
 use Rattle.spp_pass.specs.declared.counting.Closing.{Closing}
@@ -81,7 +82,7 @@ strand-requires-in-Strand-clause-fits g c =
     let read = λ (e : Event) (is : c.in-Ok.event ≡ e).
     is_read trace at c.read.result e c.read.ensures.said c.read.ensures.within (c.in-Ok.is ∙ ap (λ (e : Event). Ok e) is) in
     let small : c.in-Strand.count < 2 ^ 64 = (read (Strand c.in-Strand.count) c.in-Strand.is).1 in
-    λ on. (ways on, are on, fits trace b light short at lt s ways led c.in-Strand.count small on)
+    λ on. strand_fits on c.in-Strand.count c.loop-at.ways (ways on) (are on) (fits trace b light short at lt s ways led c.in-Strand.count small on)
 
 -- which choices a pass would have noted doesn't matter
 without_notes : (b : Burdens) (c : Counting) (n : Notes) (fs : List CountedFrame) → CanReturn b (seen_with c n) fs → CanReturn b (seen_with c no_notes) fs
@@ -125,8 +126,8 @@ returns-in-None-clause-fault g c =
     subst (λ (f : ProfileFault). IsFaultOf trace.records f) (sym c.bad-in-None.ensures)
     (kept_return trace.records b trace.root at s.work (leans s.frames) lt r.0 stop led.passed.reached)
 
-pub ret-requires-in-Some-clause-some : goal.ret-requires-in-Some-clause-some
-ret-requires-in-Some-clause-some g c =
+pub ret-requires-in-Some-clause-two : goal.ret-requires-in-Some-clause-two
+ret-requires-in-Some-clause-two g c =
     let trace : Recording = c.args.trace.now in
     let at : ℕ = c.loop-at.at in
     let s : Seen = seen_with c.loop-at.counting c.loop-at.invariant.led.0 in
@@ -139,7 +140,7 @@ ret-requires-in-Some-clause-some g c =
     let short = c.count-count.ensures.limits.events in
     let is : IsClosing b s.work s.frames (Some c.in-Some.closing) =
     subst (λ (o : Option Closing). IsClosing b s.work s.frames o) c.in-Some.is c.in_ok-ret-in-Ret.ensures.closing in
-    (ways false, are false, has_two trace b light short at lt s ways led c.in-Some.closing is)
+    two_frames false c.loop-at.ways (ways false) (are false) (has_two trace b light short at lt s ways led c.in-Some.closing is)
 
 pub ret-requires-in-Some-clause-fits : goal.ret-requires-in-Some-clause-fits
 ret-requires-in-Some-clause-fits g c on =
@@ -199,7 +200,7 @@ wait-requires-clause-some g c =
     let b : Burdens = c.args.burdens in
     let light = light_of b c.are_small.ensures.continuation c.are_small.ensures.join in
     let short = c.count-count.ensures.limits.events in
-    (ways false, are false, has_one trace b light short at lt s ways led false)
+    some_frame false c.loop-at.ways (ways false) (are false) (has_one trace b light short at lt s ways led false)
 
 pub loop-at-preserved : goal.loop-at-preserved
 loop-at-preserved g c =

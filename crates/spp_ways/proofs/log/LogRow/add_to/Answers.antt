@@ -1,4 +1,4 @@
-use Rattle.std.proofs.Common.{◌≡◌, true, cond, nat_eq, Some, None, refl, sym, ap, subst, ◌∙◌}
+use Rattle.std.proofs.Common.{◌≡◌, ℕ, true, cond, nat_eq, Some, None, refl, sym, ap, subst, ◌∙◌}
 use Rattle.std.proofs.lemmas.Bool.{eq-eqb}
 use Rattle.spp_dag.specs.declared.row.Row.{Row}
 use Rattle.spp_dag.specs.Shares.{plus, zero_row}
@@ -18,7 +18,8 @@ own_row on r e =
 pub close-requires-clause-fits : goal.close-requires-clause-fits
 close-requires-clause-fits c =
     let r : LogRow = c.args.self.now in
-    subst (λ (q : Row). Fits (plus (row_at c.args.table.now r.site) q)) (own_row c.args.burdened r c.in-None.is ∙ sym (ap frame_row c.closed.ensures)) (c.requires.fits (Some r.site))
+    subst (λ (k : ℕ). Fits (plus (row_at c.args.table.now k) (frame_row c.closed.result))) (sym c.from.ensures)
+    (subst (λ (q : Row). Fits (plus (row_at c.args.table.now r.site) q)) (own_row c.args.burdened r c.in-None.is ∙ sym (ap frame_row c.closed.ensures)) (c.requires.fits (Some r.site)))
 
 pub absorb-requires-clause-root_fits : goal.absorb-requires-clause-root_fits
 absorb-requires-clause-root_fits c =

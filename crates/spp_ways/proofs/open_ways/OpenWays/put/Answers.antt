@@ -1,5 +1,5 @@
-use Rattle.std.proofs.Common.{◌≡◌, ℕ, suc, ◌+◌, ◌-◌, ◌≤◌, max, false, None, List, [], ◌∷◌, ◌++◌, length, reverse, take, get_or, set, ap, ap₂, subst, sym, ◌∙◌, arith}
-use Rattle.std.proofs.lemmas.List.{length-take-le, length-reverse, length-append}
+use Rattle.std.proofs.Common.{◌≡◌, ℕ, suc, ◌+◌, ◌-◌, ◌≤◌, ◌<◌, max, false, true, None, List, [], ◌∷◌, ◌++◌, length, reverse, take, get_or, set, ap, ap₂, subst, sym, ◌∙◌, arith}
+use Rattle.std.proofs.lemmas.List.{length-take-le, length-append}
 use Rattle.spp_dag.specs.declared.stack.FrameKind.{FrameKind}
 use Rattle.spp_site.proofs.LastFirst.{topped}
 use Rattle.spp_site.specs.declared.closed_frame.ClosedFrame.{ClosedFrame}
@@ -9,40 +9,25 @@ use Rattle.spp_ways.specs.declared.open_ways.LoggedWay.{LoggedWay}
 use Rattle.spp_ways.specs.declared.open_ways.LoggedWays.{LoggedWays}
 use Rattle.spp_ways.specs.declared.open_ways.FrameWays.{FrameWays}
 use Rattle.spp_ways.specs.declared.open_ways.OpenWays.{OpenWays}
-use Rattle.spp_ways.specs.Logs.{AreLinked}
-use Rattle.spp_ways.specs.OpenWays.{AllWays, HasRowsOf, Laid, AreIn, StayIn, on_path, returned_list, bare_row, chosen, entered}
+use Rattle.spp_ways.specs.OpenWays.{HasRowsOf, Laid, AreIn, StayIn, IsLeft, chosen, entered, returned_row, come_frame}
 use Rattle.spp_ways.proofs.Staying.{in_more}
-use Rattle.spp_ways.proofs.Steps.{two_frames}
 use Rattle.spp_ways.proofs.Returning.{chosen_in, stay_more}
-use Rattle.spp_ways.proofs.Returns.{returned_row, come_frame, return_linked, gone_laid, gone_all, kept_linked, kept_laid, kept_all}
 use Rattle.spp_ways.proofs.open_ways.OpenWays.put.Goals as goal
 
 pub overflow_sub-last-2 : goal.overflow_sub-last-2
-overflow_sub-last-2 c =
-    let o : OpenWays = c.args.self.now in
-    let two = two_frames false o c.requires.some.0 c.requires.some.1 c.requires.some.2 in
-    omega (arith, c.len-last.ensures, o.frames.ok.0)
+overflow_sub-last-2 c = let two : 1 < length c.args.self.now.frames.items = c.requires.two in omega (arith, c.len-last.ensures, c.args.self.now.frames.ok.0)
 
 pub index_mut-parent-requires : goal.index_mut-parent-requires
-index_mut-parent-requires c =
-    let o : OpenWays = c.args.self.now in
-    let two = two_frames false o c.requires.some.0 c.requires.some.1 c.requires.some.2 in
-    omega (arith, c.len-last.ensures, c.truncate.ensures.len, o.frames.ok.0)
+index_mut-parent-requires c = let two : 1 < length c.args.self.now.frames.items = c.requires.two in omega (arith, c.len-last.ensures, c.truncate.ensures.len, c.args.self.now.frames.ok.0)
 
 pub index-requires-3 : goal.index-requires-3
-index-requires-3 c =
-    let o : OpenWays = c.args.self.now in
-    let two = two_frames false o c.requires.some.0 c.requires.some.1 c.requires.some.2 in
-    omega (arith, c.len-last.ensures, o.frames.ok.0)
+index-requires-3 c = let two : 1 < length c.args.self.now.frames.items = c.requires.two in omega (arith, c.len-last.ensures, c.args.self.now.frames.ok.0)
 
 pub index-requires-4 : goal.index-requires-4
-index-requires-4 c =
-    let o : OpenWays = c.args.self.now in
-    let two = two_frames false o c.requires.some.0 c.requires.some.1 c.requires.some.2 in
-    omega (arith, c.len-last.ensures, o.frames.ok.0)
+index-requires-4 c = let two : 1 < length c.args.self.now.frames.items = c.requires.two in omega (arith, c.len-last.ensures, c.args.self.now.frames.ok.0)
 
-pub returns-then-not-is_entered-clause-laid : goal.returns-then-not-is_entered-clause-laid
-returns-then-not-is_entered-clause-laid c =
+pub returns-then-not-is_entered-clause-put : goal.returns-then-not-is_entered-clause-put
+returns-then-not-is_entered-clause-put c =
     let o : OpenWays = c.args.self.now in
     let fs : List FrameWays = o.frames.items in
     let items : List LogRow = o.log.rows.items in
@@ -51,7 +36,8 @@ returns-then-not-is_entered-clause-laid c =
     let wins : OnPaths = c.args.wins in
     let site : ℕ = c.args.site in
     let closed : ClosedFrame = c.args.closed.now in
-    let two = two_frames false o c.requires.some.0 c.requires.some.1 c.requires.some.2 in
+    let caller : ℕ = c.args.caller in
+    let two : 1 < length fs = c.requires.two in
     let at : c.len-last.result - 1 ≡ length fs - 1 = omega (arith, c.len-last.ensures, o.frames.ok.0) in
     let t = topped fs (omega arith) in
     let rest : List FrameWays = c.truncate.new.self.items in
@@ -88,13 +74,20 @@ returns-then-not-is_entered-clause-laid c =
     let cut : c.cut.new.self.rows.items ≡ take n items = c.cut.ensures in
     let frames : reverse (set rest (c.len-last.result - 1 - 1) old) ≡ g ∷ u.below = ap₂ (λ (k : ℕ) (f : FrameWays). reverse (set rest k f)) next parent ∙ u.put g in
     record {
-      linked = subst (λ (l : List LogRow). AreLinked (reverse l)) (sym cut) (return_linked items v g u.below c.requires.laid.linked laid kind takes wins site closed n start sp sb short);
-      frames = subst (λ (l : List LogRow). Laid (length l) (reverse (set rest (c.len-last.result - 1 - 1) old))) (sym cut)
-          (subst (λ (l : List FrameWays). Laid (length (take n items)) l) (sym frames) (gone_laid items v g u.below c.requires.laid.linked laid kind takes wins site closed n start sp sb short off));
+      child = v;
+      parent = g;
+      below = u.below;
+      frames = all;
+      to = n;
+      start = start;
+      plain = sp;
+      burdened = sb;
+      short = short;
+      left = subst (λ b. IsLeft b kind takes wins site caller closed v g u.below n items c.cut.new.self.rows.items (reverse (set rest (c.len-last.result - 1 - 1) old))) (sym off) (cut, frames);
     }
 
-pub returns-then-not-is_entered-clause-ways : goal.returns-then-not-is_entered-clause-ways
-returns-then-not-is_entered-clause-ways c on ws h =
+pub returns-clause-put : goal.returns-clause-put
+returns-clause-put c =
     let o : OpenWays = c.args.self.now in
     let fs : List FrameWays = o.frames.items in
     let items : List LogRow = o.log.rows.items in
@@ -103,57 +96,8 @@ returns-then-not-is_entered-clause-ways c on ws h =
     let wins : OnPaths = c.args.wins in
     let site : ℕ = c.args.site in
     let closed : ClosedFrame = c.args.closed.now in
-    let two = two_frames false o c.requires.some.0 c.requires.some.1 c.requires.some.2 in
-    let at : c.len-last.result - 1 ≡ length fs - 1 = omega (arith, c.len-last.ensures, o.frames.ok.0) in
-    let t = topped fs (omega arith) in
-    let rest : List FrameWays = c.truncate.new.self.items in
-    let kept : rest ≡ take (length fs - 1) fs = c.truncate.ensures.items ∙ ap (λ k. take k fs) at in
-    let under : reverse rest ≡ t.below = ap reverse kept ∙ t.less in
-    let fewer : length rest ≡ length fs - 1 = ap (λ (l : List FrameWays). length l) kept ∙ length-take-le (length fs - 1) fs (omega arith) in
-    let u = topped rest (omega arith) in
-    let v : FrameWays = t.top in
-    let g : FrameWays = u.top in
-    let all : reverse fs ≡ v ∷ g ∷ u.below = t.is ∙ ap (λ (l : List FrameWays). v ∷ l) (sym under ∙ u.is) in
-    let laid : Laid (length items) (v ∷ g ∷ u.below) = subst (Laid (length items)) all c.requires.laid.frames in
-    let read1 : FrameWays = c.index.result.now in
-    let is1 : read1 ≡ v = c.index.ensures ∙ ap (λ k. get_or fs k read1) at ∙ t.get read1 in
-    let read2 : FrameWays = c.index-2.result.now in
-    let is2 : read2 ≡ v = c.index-2.ensures ∙ ap (λ k. get_or fs k read2) at ∙ t.get read2 in
-    let next : c.len-last.result - 1 - 1 ≡ length rest - 1 = omega arith in
-    let old : FrameWays = c.index_mut-parent.result.now in
-    let parent : old ≡ g = c.index_mut-parent.ensures.value ∙ ap (λ k. get_or rest k old) next ∙ u.get old in
-    let in_start : g.start ≤ length items = (let a : v.start ≤ length items = laid.0 in let b : g.start ≤ v.start = laid.3.0 in omega arith) in
-    let in_plain : AreIn (length items) g.plain = in_more v.start (length items) laid.0 g.plain laid.3.1 in
-    let in_burdened : AreIn (length items) g.burdened = in_more v.start (length items) laid.0 g.burdened laid.3.2 in
-    let begin : old.start ≡ g.start = ap (λ (f : FrameWays). f.start) parent in
-    let plain_stay : StayIn c.needed-plain_stays.result kind wins.plain g.plain = subst (λ (f : FrameWays). StayIn c.needed-plain_stays.result kind wins.plain f.plain) parent c.needed-plain_stays.ensures.stay in
-    let burdened_stay : StayIn c.needed-burdened_stays.result kind wins.burdened g.burdened = subst (λ (f : FrameWays). StayIn c.needed-burdened_stays.result kind wins.burdened f.burdened) parent c.needed-burdened_stays.ensures.stay in
-    let plain_most : c.needed-plain_stays.result ≤ length items = c.needed-plain_stays.ensures.most (length items) (subst (λ (f : FrameWays). AreIn (length items) f.plain) (sym parent) in_plain) in
-    let burdened_most : c.needed-burdened_stays.result ≤ length items = c.needed-burdened_stays.ensures.most (length items) (subst (λ (f : FrameWays). AreIn (length items) f.burdened) (sym parent) in_burdened) in
-    let stays : c.max-stays.result ≡ max (max old.start c.needed-plain_stays.result) c.needed-burdened_stays.result = c.max-stays.ensures ∙ ap (λ k. max k c.needed-burdened_stays.result) c.max.ensures in
-    let off : entered kind wins ≡ false = sym c.is_entered.ensures ∙ c.if-not-is_entered.true in
-    let n : ℕ = c.max-stays.result in
-    let start : g.start ≤ n = omega arith in
-    let sp : StayIn n kind wins.plain g.plain = stay_more c.needed-plain_stays.result n (omega arith) kind wins.plain g.plain plain_stay in
-    let sb : StayIn n kind wins.burdened g.burdened = stay_more c.needed-burdened_stays.result n (omega arith) kind wins.burdened g.burdened burdened_stay in
-    let short : n ≤ length items = omega arith in
-    let cut : c.cut.new.self.rows.items ≡ take n items = c.cut.ensures in
-    let frames : reverse (set rest (c.len-last.result - 1 - 1) old) ≡ g ∷ u.below = ap₂ (λ (k : ℕ) (f : FrameWays). reverse (set rest k f)) next parent ∙ u.put g in
-    subst (λ (l : List LogRow). AllWays on (reverse l) (reverse (set rest (c.len-last.result - 1 - 1) old)) (returned_list kind (on_path on takes) (on_path on wins) site (bare_row closed) ws)) (sym cut)
-    (subst (λ (l : List FrameWays). AllWays on (reverse (take n items)) l (returned_list kind (on_path on takes) (on_path on wins) site (bare_row closed) ws)) (sym frames)
-    (gone_all items v g u.below c.requires.laid.linked laid kind takes wins site closed n start sp sb short off on ws (subst (λ (l : List FrameWays). AllWays on (reverse items) l ws) all h)))
-
-pub returns-clause-laid : goal.returns-clause-laid
-returns-clause-laid c =
-    let o : OpenWays = c.args.self.now in
-    let fs : List FrameWays = o.frames.items in
-    let items : List LogRow = o.log.rows.items in
-    let kind : FrameKind = c.args.kind in
-    let takes : OnPaths = c.args.takes in
-    let wins : OnPaths = c.args.wins in
-    let site : ℕ = c.args.site in
-    let closed : ClosedFrame = c.args.closed.now in
-    let two = two_frames false o c.requires.some.0 c.requires.some.1 c.requires.some.2 in
+    let caller : ℕ = c.args.caller in
+    let two : 1 < length fs = c.requires.two in
     let at : c.len-last.result - 1 ≡ length fs - 1 = omega (arith, c.len-last.ensures, o.frames.ok.0) in
     let t = topped fs (omega arith) in
     let rest : List FrameWays = c.truncate.new.self.items in
@@ -205,113 +149,38 @@ returns-clause-laid c =
       within = p.rows;
       burdened_before = f.burdened.along.rows;
       burdened_within = b.rows;
+      caller = caller;
       site = site;
       top_site = closed.top_site;
       top_caller = closed.top_caller;
       merged = None;
     } in r in
-    let is_row : row c.chosen-plain.result c.chosen-burdened.result old ≡ returned_row takes site closed v g =
+    let is_row : row c.chosen-plain.result c.chosen-burdened.result old ≡ returned_row takes site caller closed v g =
     ap₂ (λ (x y : LoggedWay). row x y old) p b ∙ ap (row (chosen takes.plain v.plain) (chosen takes.burdened v.burdened)) parent in
-    let log : c.push.new.self.rows.items ≡ take n items ++ (returned_row takes site closed v g ∷ []) =
+    let log : c.push.new.self.rows.items ≡ take n items ++ (returned_row takes site caller closed v g ∷ []) =
     c.in_ok-rows.ensures.row ∙ ap₂ (λ (l : List LogRow) (r : LogRow). l ++ (r ∷ [])) cut is_row in
-    let count : c.in_ok-rows.rows ≡ suc (length (reverse (take n items))) =
-    (let x = c.in_ok-rows.ensures.count in let y : length c.cut-2.new.self.rows.items ≡ length (take n items) = ap (λ (l : List LogRow). length l) cut in let z = length-reverse (take n items) in omega arith) in
+    let count : c.in_ok-rows.rows ≡ suc n =
+    (let x = c.in_ok-rows.ensures.count in let y : length c.cut-2.new.self.rows.items ≡ length (take n items) = ap (λ (l : List LogRow). length l) cut in let z : length (take n items) ≡ n = length-take-le n items short in omega arith) in
     let stored : ℕ = c.saturating_add-parent.result in
     let limit : ℕ = c.max-parent.result in
     let frame = λ (x y : LoggedWays) (f : FrameWays). let w : FrameWays = record { plain = x; burdened = y; start = f.start; stored = stored; limit = limit } in w in
-    let is_frame : frame c.come.new.self c.come-2.new.self old ≡ come_frame kind wins (suc (length (reverse (take n items)))) stored limit g =
+    let is_frame : frame c.come.new.self c.come-2.new.self old ≡ come_frame kind wins (suc n) stored limit g =
     ap₂ (λ (x y : LoggedWays). frame x y old) c.come.ensures c.come-2.ensures ∙ ap₂ (λ (k : ℕ) (f : FrameWays). come_frame kind wins k stored limit f) count parent in
-    let frames : reverse (set rest (c.len-last.result - 1 - 1) (frame c.come.new.self c.come-2.new.self old)) ≡ come_frame kind wins (suc (length (reverse (take n items)))) stored limit g ∷ u.below =
-    ap₂ (λ (k : ℕ) (f : FrameWays). reverse (set rest k f)) next is_frame ∙ u.put (come_frame kind wins (suc (length (reverse (take n items)))) stored limit g) in
+    let frames : reverse (set rest (c.len-last.result - 1 - 1) (frame c.come.new.self c.come-2.new.self old)) ≡ come_frame kind wins (suc n) stored limit g ∷ u.below =
+    ap₂ (λ (k : ℕ) (f : FrameWays). reverse (set rest k f)) next is_frame ∙ u.put (come_frame kind wins (suc n) stored limit g) in
+    let on : entered kind wins ≡ true = sym c.is_entered.ensures ∙ c.if-not-is_entered.false in
     record {
-      linked = subst (λ (l : List LogRow). AreLinked (reverse l)) (sym log) (kept_linked items v g u.below c.requires.laid.linked laid kind takes wins site closed n start sp sb short np nb c.requires.site stored limit);
-      frames = subst (λ (l : List LogRow). Laid (length l) (reverse (set rest (c.len-last.result - 1 - 1) (frame c.come.new.self c.come-2.new.self old)))) (sym log)
-          (subst (λ (l : List FrameWays). Laid (length (take n items ++ (returned_row takes site closed v g ∷ []))) l) (sym frames) (kept_laid items v g u.below c.requires.laid.linked laid kind takes wins site closed n start sp sb short np nb c.requires.site stored limit));
+      child = v;
+      parent = g;
+      below = u.below;
+      frames = all;
+      to = n;
+      start = start;
+      plain = sp;
+      burdened = sb;
+      short = short;
+      left = subst (λ b. IsLeft b kind takes wins site caller closed v g u.below n items c.push.new.self.rows.items (reverse (set rest (c.len-last.result - 1 - 1) (frame c.come.new.self c.come-2.new.self old)))) (sym on) (stored, limit, np, nb, log, frames);
     }
-
-pub returns-clause-ways : goal.returns-clause-ways
-returns-clause-ways c on ws h =
-    let o : OpenWays = c.args.self.now in
-    let fs : List FrameWays = o.frames.items in
-    let items : List LogRow = o.log.rows.items in
-    let kind : FrameKind = c.args.kind in
-    let takes : OnPaths = c.args.takes in
-    let wins : OnPaths = c.args.wins in
-    let site : ℕ = c.args.site in
-    let closed : ClosedFrame = c.args.closed.now in
-    let two = two_frames false o c.requires.some.0 c.requires.some.1 c.requires.some.2 in
-    let at : c.len-last.result - 1 ≡ length fs - 1 = omega (arith, c.len-last.ensures, o.frames.ok.0) in
-    let t = topped fs (omega arith) in
-    let rest : List FrameWays = c.truncate.new.self.items in
-    let kept : rest ≡ take (length fs - 1) fs = c.truncate.ensures.items ∙ ap (λ k. take k fs) at in
-    let under : reverse rest ≡ t.below = ap reverse kept ∙ t.less in
-    let fewer : length rest ≡ length fs - 1 = ap (λ (l : List FrameWays). length l) kept ∙ length-take-le (length fs - 1) fs (omega arith) in
-    let u = topped rest (omega arith) in
-    let v : FrameWays = t.top in
-    let g : FrameWays = u.top in
-    let all : reverse fs ≡ v ∷ g ∷ u.below = t.is ∙ ap (λ (l : List FrameWays). v ∷ l) (sym under ∙ u.is) in
-    let laid : Laid (length items) (v ∷ g ∷ u.below) = subst (Laid (length items)) all c.requires.laid.frames in
-    let read1 : FrameWays = c.index.result.now in
-    let is1 : read1 ≡ v = c.index.ensures ∙ ap (λ k. get_or fs k read1) at ∙ t.get read1 in
-    let read2 : FrameWays = c.index-2.result.now in
-    let is2 : read2 ≡ v = c.index-2.ensures ∙ ap (λ k. get_or fs k read2) at ∙ t.get read2 in
-    let next : c.len-last.result - 1 - 1 ≡ length rest - 1 = omega arith in
-    let old : FrameWays = c.index_mut-parent.result.now in
-    let parent : old ≡ g = c.index_mut-parent.ensures.value ∙ ap (λ k. get_or rest k old) next ∙ u.get old in
-    let in_start : g.start ≤ length items = (let a : v.start ≤ length items = laid.0 in let b : g.start ≤ v.start = laid.3.0 in omega arith) in
-    let in_plain : AreIn (length items) g.plain = in_more v.start (length items) laid.0 g.plain laid.3.1 in
-    let in_burdened : AreIn (length items) g.burdened = in_more v.start (length items) laid.0 g.burdened laid.3.2 in
-    let begin : old.start ≡ g.start = ap (λ (f : FrameWays). f.start) parent in
-    let plain_stay : StayIn c.needed-plain_stays.result kind wins.plain g.plain = subst (λ (f : FrameWays). StayIn c.needed-plain_stays.result kind wins.plain f.plain) parent c.needed-plain_stays.ensures.stay in
-    let burdened_stay : StayIn c.needed-burdened_stays.result kind wins.burdened g.burdened = subst (λ (f : FrameWays). StayIn c.needed-burdened_stays.result kind wins.burdened f.burdened) parent c.needed-burdened_stays.ensures.stay in
-    let plain_most : c.needed-plain_stays.result ≤ length items = c.needed-plain_stays.ensures.most (length items) (subst (λ (f : FrameWays). AreIn (length items) f.plain) (sym parent) in_plain) in
-    let burdened_most : c.needed-burdened_stays.result ≤ length items = c.needed-burdened_stays.ensures.most (length items) (subst (λ (f : FrameWays). AreIn (length items) f.burdened) (sym parent) in_burdened) in
-    let stays : c.max-stays.result ≡ max (max old.start c.needed-plain_stays.result) c.needed-burdened_stays.result = c.max-stays.ensures ∙ ap (λ k. max k c.needed-burdened_stays.result) c.max.ensures in
-    let n : ℕ = c.max-3.result in
-    let p : c.chosen-plain.result ≡ chosen takes.plain v.plain = c.chosen-plain.ensures ∙ ap (λ (f : FrameWays). chosen takes.plain f.plain) is1 in
-    let b : c.chosen-burdened.result ≡ chosen takes.burdened v.burdened = c.chosen-burdened.ensures ∙ ap (λ (f : FrameWays). chosen takes.burdened f.burdened) is2 in
-    let pr : c.chosen-plain.result.rows ≡ (chosen takes.plain v.plain).rows = ap (λ (w : LoggedWay). w.rows) p in
-    let br : c.chosen-burdened.result.rows ≡ (chosen takes.burdened v.burdened).rows = ap (λ (w : LoggedWay). w.rows) b in
-    let pm = chosen_in (length items) takes.plain v.plain laid.1 in
-    let bm = chosen_in (length items) takes.burdened v.burdened laid.2 in
-    let needed : n ≡ max (max c.max-stays.result c.chosen-plain.result.rows) c.chosen-burdened.result.rows = c.max-3.ensures ∙ ap (λ k. max k c.chosen-burdened.result.rows) c.max-2.ensures in
-    let start : g.start ≤ n = omega arith in
-    let sp : StayIn n kind wins.plain g.plain = stay_more c.needed-plain_stays.result n (omega arith) kind wins.plain g.plain plain_stay in
-    let sb : StayIn n kind wins.burdened g.burdened = stay_more c.needed-burdened_stays.result n (omega arith) kind wins.burdened g.burdened burdened_stay in
-    let short : n ≤ length items = omega arith in
-    let np : (chosen takes.plain v.plain).rows ≤ n = omega arith in
-    let nb : (chosen takes.burdened v.burdened).rows ≤ n = omega arith in
-    let cut : c.cut-2.new.self.rows.items ≡ take n items = c.cut-2.ensures in
-    let row = λ (p b : LoggedWay) (f : FrameWays). let r : LogRow = record {
-      work = closed.work;
-      span = closed.span;
-      own = p.own;
-      burdened_own = b.own;
-      before = f.plain.along.rows;
-      within = p.rows;
-      burdened_before = f.burdened.along.rows;
-      burdened_within = b.rows;
-      site = site;
-      top_site = closed.top_site;
-      top_caller = closed.top_caller;
-      merged = None;
-    } in r in
-    let is_row : row c.chosen-plain.result c.chosen-burdened.result old ≡ returned_row takes site closed v g =
-    ap₂ (λ (x y : LoggedWay). row x y old) p b ∙ ap (row (chosen takes.plain v.plain) (chosen takes.burdened v.burdened)) parent in
-    let log : c.push.new.self.rows.items ≡ take n items ++ (returned_row takes site closed v g ∷ []) =
-    c.in_ok-rows.ensures.row ∙ ap₂ (λ (l : List LogRow) (r : LogRow). l ++ (r ∷ [])) cut is_row in
-    let count : c.in_ok-rows.rows ≡ suc (length (reverse (take n items))) =
-    (let x = c.in_ok-rows.ensures.count in let y : length c.cut-2.new.self.rows.items ≡ length (take n items) = ap (λ (l : List LogRow). length l) cut in let z = length-reverse (take n items) in omega arith) in
-    let stored : ℕ = c.saturating_add-parent.result in
-    let limit : ℕ = c.max-parent.result in
-    let frame = λ (x y : LoggedWays) (f : FrameWays). let w : FrameWays = record { plain = x; burdened = y; start = f.start; stored = stored; limit = limit } in w in
-    let is_frame : frame c.come.new.self c.come-2.new.self old ≡ come_frame kind wins (suc (length (reverse (take n items)))) stored limit g =
-    ap₂ (λ (x y : LoggedWays). frame x y old) c.come.ensures c.come-2.ensures ∙ ap₂ (λ (k : ℕ) (f : FrameWays). come_frame kind wins k stored limit f) count parent in
-    let frames : reverse (set rest (c.len-last.result - 1 - 1) (frame c.come.new.self c.come-2.new.self old)) ≡ come_frame kind wins (suc (length (reverse (take n items)))) stored limit g ∷ u.below =
-    ap₂ (λ (k : ℕ) (f : FrameWays). reverse (set rest k f)) next is_frame ∙ u.put (come_frame kind wins (suc (length (reverse (take n items)))) stored limit g) in
-    subst (λ (l : List LogRow). AllWays on (reverse l) (reverse (set rest (c.len-last.result - 1 - 1) (frame c.come.new.self c.come-2.new.self old))) (returned_list kind (on_path on takes) (on_path on wins) site (bare_row closed) ws)) (sym log)
-    (subst (λ (l : List FrameWays). AllWays on (reverse (take n items ++ (returned_row takes site closed v g ∷ []))) l (returned_list kind (on_path on takes) (on_path on wins) site (bare_row closed) ws)) (sym frames)
-    (kept_all items v g u.below c.requires.laid.linked laid kind takes wins site closed n start sp sb short np nb c.requires.site stored limit on ws (subst (λ (l : List FrameWays). AllWays on (reverse items) l ws) all h)))
 
 pub returns-clause-many : goal.returns-clause-many
 returns-clause-many c more =
@@ -323,7 +192,8 @@ returns-clause-many c more =
     let wins : OnPaths = c.args.wins in
     let site : ℕ = c.args.site in
     let closed : ClosedFrame = c.args.closed.now in
-    let two = two_frames false o c.requires.some.0 c.requires.some.1 c.requires.some.2 in
+    let caller : ℕ = c.args.caller in
+    let two : 1 < length fs = c.requires.two in
     let at : c.len-last.result - 1 ≡ length fs - 1 = omega (arith, c.len-last.ensures, o.frames.ok.0) in
     let t = topped fs (omega arith) in
     let rest : List FrameWays = c.truncate.new.self.items in
@@ -375,24 +245,25 @@ returns-clause-many c more =
       within = p.rows;
       burdened_before = f.burdened.along.rows;
       burdened_within = b.rows;
+      caller = caller;
       site = site;
       top_site = closed.top_site;
       top_caller = closed.top_caller;
       merged = None;
     } in r in
-    let is_row : row c.chosen-plain.result c.chosen-burdened.result old ≡ returned_row takes site closed v g =
+    let is_row : row c.chosen-plain.result c.chosen-burdened.result old ≡ returned_row takes site caller closed v g =
     ap₂ (λ (x y : LoggedWay). row x y old) p b ∙ ap (row (chosen takes.plain v.plain) (chosen takes.burdened v.burdened)) parent in
-    let log : c.push.new.self.rows.items ≡ take n items ++ (returned_row takes site closed v g ∷ []) =
+    let log : c.push.new.self.rows.items ≡ take n items ++ (returned_row takes site caller closed v g ∷ []) =
     c.in_ok-rows.ensures.row ∙ ap₂ (λ (l : List LogRow) (r : LogRow). l ++ (r ∷ [])) cut is_row in
-    let count : c.in_ok-rows.rows ≡ suc (length (reverse (take n items))) =
-    (let x = c.in_ok-rows.ensures.count in let y : length c.cut-2.new.self.rows.items ≡ length (take n items) = ap (λ (l : List LogRow). length l) cut in let z = length-reverse (take n items) in omega arith) in
+    let count : c.in_ok-rows.rows ≡ suc n =
+    (let x = c.in_ok-rows.ensures.count in let y : length c.cut-2.new.self.rows.items ≡ length (take n items) = ap (λ (l : List LogRow). length l) cut in let z : length (take n items) ≡ n = length-take-le n items short in omega arith) in
     let stored : ℕ = c.saturating_add-parent.result in
     let limit : ℕ = c.max-parent.result in
     let frame = λ (x y : LoggedWays) (f : FrameWays). let w : FrameWays = record { plain = x; burdened = y; start = f.start; stored = stored; limit = limit } in w in
-    let is_frame : frame c.come.new.self c.come-2.new.self old ≡ come_frame kind wins (suc (length (reverse (take n items)))) stored limit g =
+    let is_frame : frame c.come.new.self c.come-2.new.self old ≡ come_frame kind wins (suc n) stored limit g =
     ap₂ (λ (x y : LoggedWays). frame x y old) c.come.ensures c.come-2.ensures ∙ ap₂ (λ (k : ℕ) (f : FrameWays). come_frame kind wins k stored limit f) count parent in
-    let frames : reverse (set rest (c.len-last.result - 1 - 1) (frame c.come.new.self c.come-2.new.self old)) ≡ come_frame kind wins (suc (length (reverse (take n items)))) stored limit g ∷ u.below =
-    ap₂ (λ (k : ℕ) (f : FrameWays). reverse (set rest k f)) next is_frame ∙ u.put (come_frame kind wins (suc (length (reverse (take n items)))) stored limit g) in
+    let frames : reverse (set rest (c.len-last.result - 1 - 1) (frame c.come.new.self c.come-2.new.self old)) ≡ come_frame kind wins (suc n) stored limit g ∷ u.below =
+    ap₂ (λ (k : ℕ) (f : FrameWays). reverse (set rest k f)) next is_frame ∙ u.put (come_frame kind wins (suc n) stored limit g) in
     let rows : length c.push.new.self.rows.items ≡ c.in_ok-rows.rows =
     (let x = c.in_ok-rows.ensures.count in let y : length c.push.new.self.rows.items ≡ length (c.cut-2.new.self.rows.items ++ (row c.chosen-plain.result c.chosen-burdened.result old ∷ [])) = ap (λ (l : List LogRow). length l) c.in_ok-rows.ensures.row in
     let z = length-append c.cut-2.new.self.rows.items (row c.chosen-plain.result c.chosen-burdened.result old ∷ []) in omega arith) in

@@ -1,0 +1,169 @@
+-- What has come so far, where the innermost frame waits or returns.
+use Rattle.std.proofs.Common.{◌≡◌, ℕ, suc, ◌+◌, ◌≤◌, ◌<◌, Bool, true, false, cond, List, [], ◌∷◌, length, Option, Some, None, is_some, refl, sym, ap, ap₂, subst, ◌∙◌, arith}
+use Rattle.spp_event.specs.Recordings.{Recording}
+use Rattle.spp_event.specs.declared.records.Event.TheVariants.{Ret, Sync}
+use Rattle.spp_maxplus.specs.declared.state.Burdens.{Burdens}
+use Rattle.spp_dag.specs.declared.row.Row.{Row}
+use Rattle.spp_dag.specs.Shares.{plus, zero_row}
+use Rattle.spp_dag.specs.Steps.{same_key}
+use Rattle.spp_frame.specs.Answers.{IsFaultOf}
+use Rattle.spp_frame.specs.declared.profile_fault.ProfileFault.TheVariants.{Bad}
+use Rattle.spp_frame.specs.declared.Why.TheVariants.{RootReturn}
+use Rattle.spp_site.specs.Marks.{without}
+use Rattle.spp_site.specs.Table.{Sums, IsAdded}
+use Rattle.spp_site.specs.Profiles.{key_row}
+use Rattle.spp_ways.specs.declared.open_ways.OnPaths.{OnPaths}
+use Rattle.spp_ways.specs.declared.open_ways.OpenWays.{OpenWays}
+use Rattle.spp_ways.specs.Ways.{Ways}
+use Rattle.spp_ways.specs.OpenWays.{AreWays, IsLaid, FitTop, HasOne, on_path, bare_row, returned_list, waited_list}
+use Rattle.spp_ways.proofs.Steps.{some_frame, two_frames}
+use Rattle.spp_ways.proofs.Summing.{added_key}
+use Rattle.spp_pass.specs.declared.counted_frame.CountedFrame.{CountedFrame}
+use Rattle.spp_pass.specs.declared.counting.Counting.{Counting}
+use Rattle.spp_pass.specs.declared.counting.Closing.{Closing}
+use Rattle.spp_pass.specs.Passes.{Seen, Notes, no_notes, seen_with, noted_sync, noted_return, sync_seen, sync_frame, on_top, row_of, closing_of, OnTop, HasOpen, AreTakes, CanReturn, Returns, IsClosing, IsReturned}
+use Rattle.spp_pass.proofs.Keeping.{kept_return}
+use Rattle.spp_pass.proofs.Passed.{has_open, ready_return, root_stays, leans}
+use Rattle.spp_pass.proofs.RunReturns.{returned_seen, run_returns, with_row, is_added}
+use Rattle.spp_serial.proofs.Reading.{Led, has_one, has_two, site_in, returned_fits}
+use Rattle.spp_part.specs.States.{Both, IsEventAt}
+use Rattle.spp_part.specs.Parts.{HasNone, HasNoWay, IsSettled, Shows, Stands}
+use Rattle.spp_part.proofs.Standing.{noted, now_led}
+
+-- which choices are noted doesn't matter
+return_plain : (b : Burdens) (c : Counting) (s : Seen) (fs : List CountedFrame) → CanReturn b (noted c s) fs → CanReturn b (seen_with c no_notes) fs
+return_plain b c s [] h = absurd h
+return_plain b c s (f ∷ []) h = tt
+return_plain b c s (f ∷ g ∷ fs) h = record { fits = h.fits; before = h.before; site = h.site; row = h.row }
+
+-- two frames are open where the innermost returns
+record Two (b : Burdens) (work : ℕ) (fs : List CountedFrame) (closing : Closing) : Type 0 where
+  top : CountedFrame
+  next : CountedFrame
+  below : List CountedFrame
+  is : fs ≡ top ∷ next ∷ below
+  told : closing ≡ closing_of b work top next
+
+two_open : (b : Burdens) (work : ℕ) (fs : List CountedFrame) (closing : Closing) → IsClosing b work fs (Some closing) → Two b work fs closing
+two_open b work [] closing h = absurd h
+two_open b work (f ∷ []) closing h = let z : Some closing ≡ None = h in cc
+two_open b work (f ∷ g ∷ fs) closing h = record { top = f; next = g; below = fs; is = refl; told = (let z : Some closing ≡ Some (closing_of b work f g) = h in cc) }
+
+added_same : (a b x y : Sums) (site : ℕ) (r q : Row) → IsAdded a b site r → IsAdded x y site q → r ≡ q → ((key : Option ℕ) → key_row a key ≡ key_row x key) → (key : Option ℕ) → key_row b key ≡ key_row y key
+added_same a b x y site r q h k e same key =
+    added_key a b site r h key ∙ ap₂ plus (same key) (ap (λ (z : Row). cond (same_key (Some site) key) z zero_row) e) ∙ sym (added_key x y site q k key)
+
+module _ (trace : Recording) (burdens : Burdens) (i : ℕ) (c : Counting) (o : OpenWays) (st : Stands trace burdens i false c o) (lt : i < length trace.records) where
+  abbrev led : Led trace burdens i (noted c st.state) st.ways
+  led = now_led trace burdens i false c o st
+
+  abbrev now : Seen
+  now = seen_with c no_notes
+
+  pub opens : HasOpen now
+  opens = has_open trace burdens st.light st.limits.events 0 i (omega arith) lt (noted c st.state) led.passed
+
+  pub one : 0 < length o.frames.items
+  one = some_frame false o (st.ways false) (st.logged false) (has_one trace burdens st.light st.limits.events i lt (noted c st.state) st.ways led false)
+
+  pub can_return : CanReturn burdens now now.frames
+  can_return = return_plain burdens c st.state now.frames (ready_return trace burdens st.light st.limits.events 0 i (omega arith) lt st.limits.sites (noted c st.state) led.passed)
+
+  pub root_returns : IsEventAt trace i Ret → (d : Counting) → ((n : Notes) → Returns burdens i (seen_with c n) (seen_with c n).frames false (seen_with d (noted_return i (seen_with c n).frames n)))
+      → IsFaultOf trace.records (Bad (record { at = i; why = RootReturn }))
+  root_returns e d h =
+      let n : Notes = record { ends = st.state.ends; joins = st.state.joins; burdened_joins = st.state.burdened_joins } in
+      let stop = root_stays trace burdens st.light st.limits.events 0 i (omega arith) lt (noted c st.state) _ (h n) led.passed in
+      kept_return trace.records burdens trace.root i (noted c st.state).work (leans (noted c st.state).frames) lt e.0 stop led.passed.reached
+
+  -- ---- a wait
+
+  pub waits : IsEventAt trace i Sync → (answer : OnPaths) → AreTakes answer now.frames → (d : Counting) → ((at : ℕ) (n : Notes) → seen_with d (noted_sync at (seen_with c n).frames n) ≡ sync_seen at (seen_with c n))
+      → (p : OpenWays) → IsLaid p → ((on : Bool) (ways : List Ways) → AreWays on o ways → AreWays on p (waited_list (on_path on answer) ways)) → length p.log.rows.items ≤ length o.log.rows.items
+      → Stands trace burdens (suc i) true d p
+  waits e answer takes d is p laid ways rows =
+      record {
+        state = sync_seen i st.state;
+        ways = λ on. waited_list (on_path on answer) (st.ways on);
+        at = (Sync, e, (st.state, st.ways, st.at, (answer, refl, subst (AreTakes answer) st.counted.frames takes, λ on. refl)));
+        none = λ q. (none_waits st.state.frames (subst (OnTop (λ f. Unit {0})) st.counted.frames opens), λ on. no_way_waits on (st.ways on) (has_one trace burdens st.light st.limits.events i lt (noted c st.state) st.ways led on));
+        counted = record {
+          frames = ap (λ (s : Seen). s.frames) (is i no_notes) ∙ ap (on_top sync_frame) st.counted.frames;
+          open_sites = λ y. ap (λ (s : Seen). s.open_sites y) (is i no_notes) ∙ st.counted.open_sites y;
+          open_funcs = λ y. ap (λ (s : Seen). s.open_funcs y) (is i no_notes) ∙ st.counted.open_funcs y;
+          work = ap (λ (s : Seen). s.work) (is i no_notes) ∙ st.counted.work;
+          table = λ key. ap (λ (s : Seen). key_row s.table key) (is i no_notes) ∙ st.counted.table key;
+        };
+        logged = λ on. ways on (st.ways on) (st.logged on);
+        laid = laid;
+        rows = (let a = st.rows in omega arith);
+        within = lt;
+        limits = st.limits;
+        good = st.good;
+        light = st.light;
+      }
+    where
+      none_waits : (fs : List CountedFrame) → OnTop (λ f. Unit {0}) fs → HasNone (on_top sync_frame fs)
+      none_waits [] h = absurd h
+      none_waits (f ∷ fs) h = (refl, refl)
+
+      no_way_waits : (on : Bool) (ws : List Ways) → HasOne ws → HasNoWay (waited_list (on_path on answer) ws)
+      no_way_waits on [] h = absurd h
+      no_way_waits on (w ∷ ws) h = refl
+
+  -- ---- a return
+
+  module _ (closing : Closing) (is : IsClosing burdens now.work now.frames (Some closing)) where
+    pub two : 1 < length o.frames.items
+    two = two_frames false o (st.ways false) (st.logged false) (has_two trace burdens st.light st.limits.events i lt (noted c st.state) st.ways led closing is)
+
+    pub site : closing.site < 65536
+    site = site_in trace burdens st.light st.limits.events i lt (noted c st.state) st.ways led st.limits.sites closing is
+
+    pub fits : (on : Bool) → (ways : List Ways) × AreWays on o ways × FitTop (returned_list closing.kind (on_path on closing.takes) (on_path on closing.wins) closing.site (bare_row closing.closed) ways)
+    fits on = (st.ways on, st.logged on, returned_fits trace burdens st.light st.limits.events i lt (noted c st.state) st.ways led on closing is)
+
+    pub returns : IsEventAt trace i Ret → (d : Counting) → ((n : Notes) → Returns burdens i (seen_with c n) (seen_with c n).frames true (seen_with d (noted_return i (seen_with c n).frames n)))
+        → (p : OpenWays) → IsLaid p → ((on : Bool) (ways : List Ways) → AreWays on o ways → AreWays on p (returned_list closing.kind (on_path on closing.takes) (on_path on closing.wins) closing.site (bare_row closing.closed) ways))
+        → length p.log.rows.items ≤ length o.log.rows.items + 1 → Stands trace burdens (suc i) false d p
+    returns e d h p laid ways rows =
+        let t = two_open burdens now.work now.frames closing is in
+        let frames : st.state.frames ≡ t.top ∷ t.next ∷ t.below = sym st.counted.frames ∙ t.is in
+        let r : IsReturned burdens i t.top t.next t.below now (seen_with d (noted_return i now.frames no_notes)) =
+        (subst (λ (fs : List CountedFrame). Returns burdens i now fs true (seen_with d (noted_return i now.frames no_notes))) t.is (h no_notes)).1 in
+        let s : Seen = st.state in
+        record {
+          state = returned_seen burdens i t.top t.next t.below s;
+          ways = λ on. returned_list closing.kind (on_path on closing.takes) (on_path on closing.wins) closing.site (bare_row closing.closed) (st.ways on);
+          at = (
+            Ret,
+            e,
+            (
+              s,
+              st.ways,
+              st.at,
+              (
+                closing,
+                run_returns burdens i t.top t.next t.below s frames,
+                subst (λ (fs : List CountedFrame). IsClosing burdens s.work fs (Some closing)) st.counted.frames (subst (λ w. IsClosing burdens w now.frames (Some closing)) st.counted.work is),
+                λ on. refl,
+              ),
+            ),
+          );
+          none = λ q. cc;
+          counted = record {
+            frames = r.frames;
+            open_sites = λ y. ap (λ (m : ℕ → Bool). m y) r.open_sites ∙ ap (λ (m : ℕ → Bool). without t.top.top_site t.top.site m y) (λ k z. st.counted.open_sites z k);
+            open_funcs = λ y. ap (λ (m : ℕ → Bool). m y) r.open_funcs ∙ ap (λ (m : ℕ → Bool). without t.top.top_func t.top.func m y) (λ k z. st.counted.open_funcs z k);
+            work = r.work ∙ st.counted.work;
+            table = λ key. added_same now.table d.table s.table (with_row s.table t.top.site (row_of t.top s.work)) t.top.site (row_of t.top now.work) (row_of t.top s.work) r.table
+                (is_added s.table t.top.site (row_of t.top s.work)) (ap (row_of t.top) st.counted.work) st.counted.table key;
+          };
+          logged = λ on. ways on (st.ways on) (st.logged on);
+          laid = laid;
+          rows = (let a = st.rows in omega arith);
+          within = lt;
+          limits = st.limits;
+          good = st.good;
+          light = st.light;
+        }

@@ -1,0 +1,243 @@
+-- How a stretch takes on what has come so far.
+use Rattle.std.proofs.Common.{◌≡◌, ℕ, suc, ◌+◌, ◌-◌, ◌*◌, ◌≤◌, ◌<◌, ◌^◌, Bool, true, false, cond, List, [], ◌∷◌, ◌++◌, length, reverse, drop, Option, refl, sym, ap, ap₂, subst, ◌∙◌, arith}
+use Rattle.std.proofs.lemmas.List.{reverse-append}
+use Rattle.std.specs.Global.{Box}
+use Rattle.spp_event.specs.Recordings.{Recording}
+use Rattle.spp_maxplus.specs.declared.state.Burdens.{Burdens}
+use Rattle.spp_ways.specs.declared.log.Merged.{Merged}
+use Rattle.spp_ways.specs.declared.log.LogRow.{LogRow}
+use Rattle.spp_ways.specs.declared.open_ways.OnPaths.{OnPaths}
+use Rattle.spp_ways.specs.declared.open_ways.FrameWays.{FrameWays}
+use Rattle.spp_ways.specs.declared.open_ways.OpenWays.{OpenWays}
+use Rattle.spp_ways.specs.Enclosures.{Enclosure}
+use Rattle.spp_ways.specs.Ways.{Way, Ways}
+use Rattle.spp_ways.specs.OpenWays.{AllWays, AreWays, IsLaid, on_path, path_of}
+use Rattle.spp_ways.specs.Stretches as stretches
+use Rattle.spp_ways.specs.Stretches.{AreEnclosed, IsBase, FitOwn, FitLast, joined_way, joined_list, stretch_rows, stretch_frames}
+use Rattle.spp_ways.proofs.Bases.{base_of}
+use Rattle.spp_pass.specs.declared.counted_frame.CountedFrame.{CountedFrame}
+use Rattle.spp_pass.specs.declared.closed_call.ClosedCall.{ClosedCall}
+use Rattle.spp_pass.specs.declared.counting.Counting.{Counting}
+use Rattle.spp_pass.specs.Passes.{Seen, no_notes, seen_with, OnTop}
+use Rattle.spp_pass.specs.Stretches.{enclosure, frames_of, child_wins, FitsJoin, CanJoin, IsJoined}
+use Rattle.spp_pass.proofs.Alone.{Alone}
+use Rattle.spp_pass.proofs.Joinable.{IsLastOf, last_of_reverse, can_join}
+use Rattle.spp_pass.proofs.Stretching.{joined_as}
+use Rattle.spp_serial.proofs.Low.{AreLow, top_fits}
+use Rattle.spp_serial.proofs.Reading.{Led}
+use Rattle.spp_part.specs.declared.stretch.Stretch.{Stretch}
+use Rattle.spp_part.specs.States.{Both, IsAt}
+use Rattle.spp_part.specs.Parts.{outer_of, StretchOf, AreJoined, IsJoinedOnto, Shows, Stands, GoesOn, stretch_of}
+use Rattle.spp_part.proofs.Leading.{led_at}
+use Rattle.spp_part.proofs.Standing.{joined_on, noted, now_led, few}
+
+-- ---- the outer frame
+
+outer_last : (r : CountedFrame) (fs : List CountedFrame) → IsLastOf r fs → outer_of fs ≡ r
+outer_last r [] h = absurd h
+outer_last r (f ∷ []) h = h
+outer_last r (f ∷ g ∷ fs) h = outer_last r (g ∷ fs) h
+
+-- the last of these is r
+abbrev EndsWith : FrameWays → List FrameWays → Type 0
+EndsWith r [] = ⊥
+EndsWith r (f ∷ []) = f ≡ r
+EndsWith r (f ∷ g ∷ fs) = EndsWith r (g ∷ fs)
+
+ends_append : (r : FrameWays) (fs : List FrameWays) → EndsWith r (fs ++ (r ∷ []))
+ends_append r [] = refl
+ends_append r (f ∷ []) = refl
+ends_append r (f ∷ g ∷ fs) = ends_append r (g ∷ fs)
+
+ends_reverse : (r : FrameWays) (fs : List FrameWays) → EndsWith r (reverse (r ∷ fs))
+ends_reverse r fs = subst (EndsWith r) (sym (reverse-append (r ∷ []) fs)) (ends_append r (reverse fs))
+
+-- ---- sums
+
+-- the own strands of both on the ways that are kept
+abbrev OwnLow : ℕ → Bool → Ways → Ways → Type 0
+OwnLow t wins u w = (w.along.own + u.along.own ≤ t) × (wins ≡ true → w.along.own + u.through.own ≤ t)
+
+own_more : (t v : ℕ) (wins : Bool) (u w : Ways) → t ≤ v → OwnLow t wins u w → OwnLow v wins u w
+own_more t v wins u w l h = ((let a = h.0 in omega arith), λ e. let a = h.1 e in omega arith)
+
+way_low : (t o : ℕ) (wins : Bool) (u w : Ways) → o ≤ t → (joined_way wins u w).along.own ≤ o → (joined_way wins u w).through.own ≤ o → OwnLow t wins u w
+way_low t o false u w l a b = ((omega arith), λ e. cc)
+way_low t o true u w l a b = ((omega arith), λ e. omega arith)
+
+-- those of the outer frame of a stretch
+own_low : (i t : ℕ) (on wins : Bool) (log : List LogRow) (r : FrameWays) (fs : List FrameWays) (us : List Ways) (w : Ways) (ws : List Ways) → EndsWith r fs → AllWays on log fs us
+    → AreLow i t (joined_list wins us w ws) → (u : Ways) × OwnLow t wins u w × ((path_of on r).along.own ≡ u.along.own) × ((path_of on r).through.own ≡ u.through.own)
+own_low i t on wins log r [] us w ws e a h = absurd e
+own_low i t on wins log r (f ∷ []) [] w ws e a h = absurd a
+own_low i t on wins log r (f ∷ []) (u ∷ v ∷ us) w ws e a h = absurd a.1
+own_low i t on wins log r (f ∷ []) (u ∷ []) w ws e a h =
+    (u, way_low t h.2 wins u w (let z = h.6 in omega arith) h.7.0.own h.7.1.own, ap (λ (g : FrameWays). (path_of on g).along.own) (sym e) ∙ a.0.0.0, ap (λ (g : FrameWays). (path_of on g).through.own) (sym e) ∙ a.0.1.0)
+own_low i t on wins log r (f ∷ g ∷ fs) [] w ws e a h = absurd a
+own_low i t on wins log r (f ∷ g ∷ fs) (u ∷ []) w ws e a h = absurd a.1
+own_low i t on wins log r (f ∷ g ∷ fs) (u ∷ v ∷ us) w ws e a h =
+    let k = own_low h.3 h.4 on wins log r (g ∷ fs) (v ∷ us) w ws e a.1 h.8 in
+    (k.0, own_more h.4 t wins k.0 w (let z = h.6 in omega arith) k.1, k.2, k.3)
+
+last_fits : (i t : ℕ) → i ≤ 268435457 → t ≤ 4951760157141521099596496896 → (wins : Bool) (us : List Ways) (w : Ways) (ws : List Ways) → AreLow i t (joined_list wins us w ws) → FitLast us w ws wins
+last_fits i t a b wins [] w ws h = tt
+last_fits i t a b wins (u ∷ []) w ws h = top_fits i t a b (joined_way wins u w ∷ ws) h
+last_fits i t a b wins (u ∷ v ∷ us) w ws h = tt
+
+fit_own : (t : ℕ) → t < 2 ^ 128 → (on wins : Bool) (r f : FrameWays) (u w : Ways) → OwnLow t wins u w → (path_of on r).along.own ≡ u.along.own → (path_of on r).through.own ≡ u.through.own
+    → (path_of on f).along.own ≡ w.along.own → FitOwn wins (path_of on r) (path_of on f)
+fit_own t small on wins r f u w h a b e = record { along = (let z = h.0 in omega arith); through = λ q. let z = h.1 q in omega arith }
+
+-- choices don't matter
+
+noted_joined : (first : ℕ) (fs : List CountedFrame) (more : ℕ) (calls : List ClosedCall) (g : CountedFrame) (gs : List CountedFrame) (c : Counting) (s new : Seen)
+    → IsJoined first fs more calls g gs (seen_with c no_notes) new → IsJoined first fs more calls g gs (noted c s) new
+noted_joined first fs more calls g gs c s new h = record { frames = h.frames; open_sites = h.open_sites; open_funcs = h.open_funcs; work = h.work; table = h.table }
+
+plain_can : (first : ℕ) (fs : List CountedFrame) (outer : CountedFrame) (more : ℕ) (calls : List ClosedCall) (c : Counting) (s : Seen) → CanJoin first fs outer more calls (noted c s) → CanJoin first fs outer more calls (seen_with c no_notes)
+plain_can first fs outer more calls c s h = record { top = h.top; work = h.work; sites = h.sites; places = h.places }
+
+-- ---- the step
+
+module _ (trace : Recording) (burdens : Burdens) (first i j : ℕ) (settled : Bool) (c : Counting) (o : OpenWays) (x : Stretch) (st : Stands trace burdens i settled c o) (go : GoesOn trace burdens first i j settled x) where
+  abbrev now : Seen
+  now = seen_with c no_notes
+
+  abbrev whole : StretchOf
+  whole = stretch_of x
+
+  abbrev new : Seen
+  new = (go.0.on st.state st.ways st.at st.none).0
+
+  abbrev then : Both
+  then = (go.0.on st.state st.ways st.at st.none).1
+
+  pub at : IsAt trace burdens j new then
+  at = (go.0.on st.state st.ways st.at st.none).2
+
+  few_j : j ≤ 268435456
+  few_j = let a = go.2 in let b = st.limits.events in omega arith
+
+  new_led : Led trace burdens j new then
+  new_led = led_at trace burdens st.light st.limits.events j go.2 new then at
+
+  -- the innermost frame before it, and what the stretch makes of it
+  pub record Onto : Type 0 where
+    pub top : CountedFrame
+    pub below : List CountedFrame
+    pub is : now.frames ≡ top ∷ below
+    pub joined : IsJoined first whole.frames whole.work whole.calls top below now new
+    pub ways : (on : Bool) → AreJoined on whole top st.state (st.ways on) (then on)
+
+  pub onto : Onto
+  onto = by st.state.frames st.counted.frames (go.0.on st.state st.ways st.at st.none).3
+    where
+      by : (fs : List CountedFrame) → now.frames ≡ fs → IsJoinedOnto first whole st.state fs st.ways new then → Onto
+      by [] e h = absurd h
+      by (g ∷ gs) e h = record {
+        top = g;
+        below = gs;
+        is = e;
+        joined = joined_on first whole.frames whole.work whole.calls g gs now st.state new st.counted h.0;
+        ways = h.1;
+      }
+
+  abbrev g : CountedFrame
+  g = onto.top
+
+  pub last : IsLastOf x.counted.outer whole.frames
+  last = last_of_reverse x.counted.outer (drop 1 x.counted.frames.items)
+
+  pub outer_is : outer_of whole.frames ≡ x.counted.outer
+  outer_is = outer_last x.counted.outer whole.frames last
+
+  -- it can be joined
+  pub can : CanJoin first whole.frames x.counted.outer x.counted.work x.calls.items now
+  can =
+      let a = go.0.alone in
+      let k : first + (j - first) ≤ 268435456 = (let p = few_j in let q = go.1 in let r = go.0.forward in omega arith) in
+      let joined = joined_as first whole.frames a.0.frames whole.work whole.calls g onto.below now new (sym a.2) onto.joined in
+      let moved : IsJoined first a.0.frames a.0.work whole.calls g onto.below now new = subst (λ w. IsJoined first a.0.frames w whole.calls g onto.below now new) (sym a.3) joined in
+      let all = can_join trace burdens first (j - first) i j a.0 (noted c st.state) new x.calls.items g onto.below x.counted.outer (few trace burdens i settled c o st) few_j k go.0.calls onto.is (subst (IsLastOf x.counted.outer) (sym a.2) last)
+      (now_led trace burdens i settled c o st).passed new_led.passed a.1 (noted_joined first a.0.frames a.0.work whole.calls g onto.below c st.state new moved) in
+      plain_can first whole.frames x.counted.outer x.counted.work x.calls.items c st.state
+      (subst (λ (fs : List CountedFrame). CanJoin first fs x.counted.outer x.counted.work x.calls.items (noted c st.state)) a.2 (subst (λ w. CanJoin first a.0.frames x.counted.outer w x.calls.items (noted c st.state)) a.3 all))
+
+  pub fits : OnTop (FitsJoin x.counted.outer) now.frames
+  fits = subst (OnTop (FitsJoin x.counted.outer)) (sym onto.is) (subst (OnTop (λ (f : CountedFrame). FitsJoin x.counted.outer f × _)) onto.is can.top).0
+
+  -- and its ways
+  module _ (wins : OnPaths) (e : Enclosure) (wins_is : wins ≡ child_wins x.counted.outer g) (e_is : e ≡ enclosure g st.state) where
+    wins_on : (on : Bool) → on_path on (child_wins (outer_of whole.frames) g) ≡ on_path on wins
+    wins_on on = ap (λ (r : CountedFrame). on_path on (child_wins r g)) outer_is ∙ ap (on_path on) (sym wins_is)
+
+    abbrev Gone : Bool → Ways → List Ways → Type 0
+    Gone on w ws = (base : Box Merged) → IsBase on base w.along → (us : List Ways) × AreEnclosed on e base whole.rows whole.ways us × (then on ≡ joined_list (on_path on wins) us w ws)
+
+    pub gone : (on : Bool) (w : Ways) (ws : List Ways) → AreJoined on whole g st.state (w ∷ ws) (then on) → Gone on w ws
+    gone on w ws h base is =
+        let a = h base is in
+        (a.0, subst (λ (f : Enclosure). AreEnclosed on f base whole.rows whole.ways a.0) (sym e_is) a.1, a.2 ∙ ap (λ (b : Bool). joined_list b a.0 w ws) (wins_on on))
+
+    work_small : new.work ≤ 4951760157141521099596496896
+    work_small = let a : new.work ≤ 18446744073709551615 * j = new_led.passed.reached.small in let b = few_j in omega arith
+
+    can_on : (on : Bool) (ws : List Ways) → st.ways on ≡ ws → AreJoined on whole g st.state ws (then on) → stretches.CanJoin on wins e o x.logged
+    can_on on [] q h = absurd h
+    can_on on (w ∷ ws) q h =
+        let base = base_of o w.along in
+        let a = gone on w ws h base.0 (base.1 on) in
+        let low : AreLow j new.work (joined_list (on_path on wins) a.0 w ws) = subst (AreLow j new.work) a.2 (new_led.low on) in
+        let are : AreWays on o (w ∷ ws) = subst (AreWays on o) q (st.logged on) in
+        let owns = own_low j new.work on (on_path on wins) _ x.logged.outer (reverse (stretch_frames x.logged)) a.0 w ws (ends_reverse x.logged.outer (drop 1 x.logged.frames.items)) a.1 low in
+        record {
+          base = base.0;
+          way = w;
+          below = ws;
+          ways = a.0;
+          are = are;
+          is_base = base.1 on;
+          enclosed = a.1;
+          own = λ f fs is. let top = subst (λ (l : List FrameWays). AllWays on (reverse o.log.rows.items) l (w ∷ ws)) is are in
+              fit_own new.work (let z = work_small in omega arith) on (on_path on wins) x.logged.outer f owns.0 w owns.1 owns.2 owns.3 top.0.0.0;
+          fits = last_fits j new.work (let z = few_j in omega arith) work_small (on_path on wins) a.0 w ws low;
+        }
+
+    pub can_ways : (on : Bool) → stretches.CanJoin on wins e o x.logged
+    can_ways on = can_on on (st.ways on) refl (onto.ways on)
+
+    -- the ways behind it
+    abbrev Goes : OpenWays → Bool → Type 0
+    Goes p on = (base : Box Merged) (w : Ways) (ws us : List Ways) → AreWays on o (w ∷ ws) → IsBase on base w.along → AreEnclosed on e base whole.rows whole.ways us
+        → AreWays on p (joined_list (on_path on wins) us w ws)
+
+    went : (p : OpenWays) (on : Bool) (ws : List Ways) → st.ways on ≡ ws → AreJoined on whole g st.state ws (then on) → Goes p on → AreWays on p (then on)
+    went p on [] q h goes = absurd h
+    went p on (w ∷ ws) q h goes =
+        let base = base_of o w.along in
+        let a = gone on w ws h base.0 (base.1 on) in
+        subst (AreWays on p) (sym a.2) (goes base.0 w ws a.0 (subst (AreWays on o) q (st.logged on)) (base.1 on) a.1)
+
+    -- what has come so far then
+    pub stands : (d : Counting) (p : OpenWays) → IsJoined first whole.frames whole.work whole.calls g onto.below now (seen_with d no_notes) → IsLaid p → ((on : Bool) → Goes p on)
+        → length p.log.rows.items < length o.log.rows.items + length whole.rows → Stands trace burdens j false d p
+    stands d p is laid goes rows = record {
+      state = new;
+      ways = then;
+      at = at;
+      none = λ q. cc;
+      counted = record {
+        frames = is.frames ∙ sym onto.joined.frames;
+        open_sites = λ y. is.open_sites y ∙ sym (onto.joined.open_sites y);
+        open_funcs = λ y. is.open_funcs y ∙ sym (onto.joined.open_funcs y);
+        work = is.work ∙ sym onto.joined.work;
+        table = λ key. is.table key ∙ sym (onto.joined.table key);
+      };
+      logged = λ on. went p on (st.ways on) refl (onto.ways on) (goes on);
+      laid = laid;
+      rows = (let a = st.rows in let b = go.0.short in let f = go.0.forward in omega arith);
+      within = go.2;
+      limits = st.limits;
+      good = st.good;
+      light = st.light;
+    }

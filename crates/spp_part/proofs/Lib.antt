@@ -1,0 +1,10 @@
+pub mod Leading
+pub mod Standing
+pub mod GoingOn
+pub mod Ends
+pub mod Parting
+pub mod Finishing
+pub mod JoinedWays
+pub mod Taking
+pub mod Going
+pub mod Readings

@@ -1,0 +1,47 @@
+use Rattle.std.proofs.Common.{◌≡◌, ℕ, suc, List, [], ◌∷◌, ◌++◌, is_some, Option, Result, Ok, Err, OnOk, refl, sym, subst}
+use Rattle.spp_pass.specs.declared.counted_frame.CountedFrame.{CountedFrame}
+use Rattle.spp_pass.specs.declared.closed_call.ClosedCall.{ClosedCall}
+use Rattle.spp_pass.specs.declared.counting.Popped.{Popped}
+use Rattle.spp_pass.specs.Passes.{Seen, Notes, noted_return, seen_with, IsPopped, Pops}
+use Rattle.spp_pass.specs.Stretches.{call_of}
+use Rattle.spp_part.specs.declared.part_profile.Reading.{Reading}
+use Rattle.spp_event.specs.declared.records.Event.TheVariants.{Ret}
+use Rattle.spp_pass.specs.declared.counting.Counting.{Counting}
+use Rattle.spp_part.specs.Readings.{IsGoing, IsAhead}
+use Rattle.spp_part.proofs.Going.{pop_goes}
+use Rattle.spp_part.proofs.Readings.{is_out}
+use Rattle.spp_part.proofs.part_profile.Reading.ret.Goals as goal
+
+pub returns : goal.returns
+returns c trace first ahead =
+    let r : Reading = c.args.self.now in
+    let is = ahead.is in
+    let at : ℕ = c.args.at in
+    let a : Seen = seen_with r.counting is.notes in
+    let told : Popped = c.in-Some.popped in
+    let m : Notes = noted_return at a.frames is.notes in
+    let b : Seen = seen_with c.pop.new.self m in
+    let out = is_out c.args.burdens a.work a.frames told (subst (λ (o : Option Popped). IsPopped c.args.burdens a.work a.frames o) c.in-Some.is c.pop.ensures.popped) in
+    let went = subst (λ (l : List CountedFrame). Pops c.args.burdens at a l (is_some c.pop.result) b) out.frames (c.pop.ensures.pops at is.notes) in
+    let calls : c.push.new.self.items ≡ r.calls.items ++ call_of told ∷ [] = (let pushed : c.push.new.self.items ≡ r.calls.items ++ c.of.result ∷ [] = c.in_ok-push.ensures.items in let e : c.of.result ≡ call_of told = c.of.ensures in cc) in
+    let w = c.in_ok-pop.ensures in
+    record {
+      bounds = is.bounds;
+      to = is.to;
+      notes = m;
+      ended = is.ended;
+      going = subst (λ (l : List ClosedCall). IsGoing trace c.args.burdens first is.to (suc at) r.settled b l c.pop-2.new.self) (sym calls)
+          (pop_goes trace c.args.burdens is.bounds first is.to at ahead.within r.settled a r.calls.items r.ways is.going b c.pop-2.new.self
+          at out.frame out.parent out.below out.frames ahead.at went.1 told out.popped w.stretch w.rows w.ways);
+    }
+
+-- what holds where it went well
+ok_more : {X E : Type 0} (P Q : Type 0) → (P → Q) → (r : Result X E) → OnOk r P → OnOk r Q
+ok_more P Q f (Ok x) h = f h
+ok_more P Q f (Err e) h = h
+
+pub returns-in_default : goal.returns-in_default
+returns-in_default c =
+    let r : Reading = c.args.self.now in
+    let same : c.pop.new.self ≡ r.counting = c.in_default.ensures.stays refl in
+    ok_more _ _ (λ h trace first ahead. h trace c.args.burdens first (subst (λ (x : Counting). IsAhead trace c.args.burdens first c.args.at Ret (record r { counting = x })) (sym same) ahead)) c.end.result c.end.ensures

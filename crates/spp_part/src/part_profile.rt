@@ -1,0 +1,226 @@
+//! What a part of a run comes to.
+
+ghost use Rattle.std.specs.Prelude.{◌≡◌, ◌+◌, ◌≤◌, ◌<◌, ℕ, suc, length, IfOk, OnOk};
+ghost use Rattle.spp_event.specs.Recordings.{Recording};
+ghost use Rattle.spp_event.specs.declared.records.Event.{Event as EventValue};
+ghost use Rattle.spp_event.specs.declared.records.Event.TheVariants.{Ret as RetEvent, Sync as SyncEvent};
+ghost use Rattle.spp_maxplus.specs.declared.state.Burdens.{Burdens as BurdensValue};
+ghost use Rattle.spp_pass.specs.Passes.{seen_with, no_notes};
+ghost use Rattle.spp_part.specs.Parts.{IsCutOff, IsPartProfile, end_event};
+ghost use Rattle.spp_part.specs.Readings.{InBounds, Opens, IsReading, IsAhead};
+
+use crate::stretch::{End, EndedStretch, Stretch};
+use spp_cut::Part;
+use spp_dag::FrameKind;
+use spp_event::{Event, EventFault, Events, Reader};
+use spp_maxplus::Burdens;
+use spp_pass::{ClosedCall, Counting, Popped};
+use spp_ways::OpenWays;
+use std::alloc::{AllocError, Global};
+use std::mem;
+
+/// What a part of a run comes to, wherever it stands: what it makes of the profile so far.
+#[derive(Drop)]
+pub struct PartProfile {
+    /// The stretches that have ended, in order.
+    pub(crate) ended: Vec<EndedStretch>,
+    /// The last stretch, which the part's end or a bad event cuts off.
+    pub(crate) last: Stretch,
+    /// How many records are events, from the first on.
+    pub(crate) good: u32,
+    /// What is wrong with the next one, if it is bad.
+    pub(crate) fault: Option<EventFault>,
+}
+
+/// The reading of a part, between two events.
+#[derive(Drop)]
+struct Reading {
+    ended: Vec<EndedStretch>,
+    counting: Counting,
+    ways: OpenWays,
+    calls: Vec<ClosedCall>,
+    /// Whether it is known that no child that returned before the stretch waits in its outer frame.
+    settled: bool,
+}
+
+impl Reading {
+    /// Before the first event.
+    fn new(alloc: Global) -> Result<Self, AllocError>
+        ensures { IfOk result (λ r. (trace : Recording) (burdens : BurdensValue) (first : ℕ) → InBounds trace burdens → first ≤ length trace.records → IsReading trace burdens first 0 r) }
+    {
+        Ok(Reading {
+            ended: Vec::new(alloc),
+            counting: Counting::stretch(alloc)?,
+            ways: OpenWays::stretch(alloc)?,
+            calls: Vec::new(alloc),
+            settled: false,
+        })
+    }
+
+    /// The event at `at`, counted from the first of the part.
+    #[inline(always)]
+    fn read(
+        &mut self,
+        alloc: Global,
+        burdens: Burdens,
+        at: u32,
+        event: Event,
+    ) -> Result<(), AllocError>
+        requires { (trace : Recording) × (first : ℕ) × IsAhead trace burdens first at event self.old }
+        ensures { OnOk result ((trace : Recording) (first : ℕ) → IsAhead trace burdens first at event self.old → IsReading trace burdens first (suc at) self.new) }
+    {
+        match event {
+            Event::Strand { count } => {
+                self.counting.strand(count);
+                self.ways.strand(count);
+            }
+            Event::Call { site, func } => self.open(FrameKind::Called, at, site, func)?,
+            Event::Spawn { site, func } => self.open(FrameKind::Spawned, at, site, func)?,
+            Event::Ret => self.ret(alloc, burdens, at)?,
+            Event::Sync => self.sync(alloc, at)?,
+        }
+        Ok(())
+    }
+
+    /// A call or a spawn.
+    #[inline(always)]
+    fn open(&mut self, kind: FrameKind, at: u32, site: u32, func: u32) -> Result<(), AllocError>
+        requires { (trace : Recording) × (burdens : BurdensValue) × (first : ℕ) × (event : EventValue) × Opens kind site func event × IsAhead trace burdens first at event self.old }
+        ensures { OnOk result ((trace : Recording) (burdens : BurdensValue) (first : ℕ) (event : EventValue) → Opens kind site func event → IsAhead trace burdens first at event self.old → IsReading trace burdens first (suc at) self.new) }
+    {
+        self.counting.open(kind, at, site, func)?;
+        self.ways.open()?;
+        Ok(())
+    }
+
+    /// A return.
+    #[inline(always)]
+    fn ret(&mut self, alloc: Global, burdens: Burdens, at: u32) -> Result<(), AllocError>
+        requires { (trace : Recording) × (first : ℕ) × IsAhead trace burdens first at RetEvent self.old }
+        ensures { OnOk result ((trace : Recording) (first : ℕ) → IsAhead trace burdens first at RetEvent self.old → IsReading trace burdens first (suc at) self.new) }
+    {
+        let Some(popped) = self.counting.pop(burdens) else {
+            return self.end(alloc, at, End::Return);
+        };
+        let Popped { closing, caller } = popped;
+        self.calls.push(ClosedCall::of(&popped))?;
+        self.ways.pop(
+            closing.kind,
+            closing.takes,
+            closing.wins,
+            closing.site,
+            caller,
+            &closing.closed,
+        )?;
+        Ok(())
+    }
+
+    /// A sync.
+    #[inline(always)]
+    fn sync(&mut self, alloc: Global, at: u32) -> Result<(), AllocError>
+        requires { (trace : Recording) × (burdens : BurdensValue) × (first : ℕ) × IsAhead trace burdens first at SyncEvent self.old }
+        ensures { OnOk result ((trace : Recording) (burdens : BurdensValue) (first : ℕ) → IsAhead trace burdens first at SyncEvent self.old → IsReading trace burdens first (suc at) self.new) }
+    {
+        if self.counting.depth() == 0 && !self.settled {
+            return self.end(alloc, at, End::Sync);
+        }
+        self.ways.wait(self.counting.takes());
+        self.counting.sync();
+        Ok(())
+    }
+
+    /// The end of a stretch, and the next one's beginning.
+    #[inline(never)]
+    fn end(&mut self, alloc: Global, at: u32, end: End) -> Result<(), AllocError>
+        requires is { (trace : Recording) × (burdens : BurdensValue) × (first : ℕ) × IsAhead trace burdens first at (end_event end) self.old }
+        requires one { length (seen_with self.old.counting no_notes).frames ≡ 1 }
+        ensures { OnOk result ((trace : Recording) (burdens : BurdensValue) (first : ℕ) → IsAhead trace burdens first at (end_event end) self.old → IsReading trace burdens first (suc at) self.new) }
+    {
+        let counted = self.counting.next_stretch(alloc);
+        let logged = self.ways.next_stretch(alloc)?;
+        let mut calls = Vec::new(alloc);
+        mem::swap(&mut self.calls, &mut calls);
+        self.ended.push(EndedStretch {
+            stretch: Stretch {
+                counted,
+                calls,
+                logged,
+            },
+            at,
+            end,
+        })?;
+        self.settled = match end {
+            End::Return => false,
+            End::Sync => true,
+        };
+        Ok(())
+    }
+
+    /// What the part comes to of which so many events were good.
+    fn finish(self, good: u32, fault: Option<EventFault>) -> PartProfile
+        requires { (trace : Recording) × (burdens : BurdensValue) × (first : ℕ) × IsReading trace burdens first good self }
+        ensures { (trace : Recording) (burdens : BurdensValue) (first count : ℕ) → IsReading trace burdens first good self → IsCutOff trace first count good fault → first + count ≤ length trace.records → IsPartProfile trace burdens first count result }
+    {
+        let Reading {
+            ended,
+            counting,
+            ways,
+            calls,
+            ..
+        } = self;
+        PartProfile {
+            ended,
+            last: Stretch {
+                counted: counting.into_stretch(),
+                calls,
+                logged: ways.into_stretch(),
+            },
+            good,
+            fault,
+        }
+    }
+}
+
+impl PartProfile {
+    /// What a part comes to, by a reader that stands at its first event.
+    fn of_part_by<R: Reader>(
+        alloc: Global,
+        part: &Part<'_, '_>,
+        burdens: Burdens,
+        mut events: R,
+    ) -> Result<Self, AllocError>
+        requires { R.stands events part.now.trace part.now.first }
+        ensures { IfOk result (λ p. IsPartProfile part.now.trace burdens part.now.first part.now.count p) }
+    {
+        burdens.are_small();
+        part.keeps_limits();
+        let mut reading = Reading::new(alloc)?;
+        for at in 0..part.count() {
+            match part.read_at(&mut events, at) {
+                Ok(event) => reading.read(alloc, burdens, at, event)?,
+                Err(fault) => return Ok(reading.finish(at, Some(fault))),
+            }
+        }
+        Ok(reading.finish(part.count(), None))
+    }
+
+    /// What a part comes to under these burdens: its events are read once, up to the first record that is no event; a return of
+    /// the root frame shows where the part is joined. It takes constant time for each event, amortized, besides a step for each
+    /// number of a site and of a function up to the greatest in the part.
+    ///
+    /// It takes 64 bytes for each frame that closes in the part and was opened there, 96 more for each that was on a greatest
+    /// way, on either path, as it returned, some 280 for each that the part leaves open, and some 800 for each return of a
+    /// frame that was open before; up to twice that with spare room.
+    ///
+    /// # Errors
+    ///
+    /// Where an allocation failed.
+    pub fn of_part(alloc: Global, part: &Part<'_, '_>, burdens: Burdens) -> Result<Self, AllocError>
+        ensures { IfOk result (λ p. IsPartProfile part.now.trace burdens part.now.first part.now.count p) }
+    {
+        match part.events() {
+            Events::Records(events) => PartProfile::of_part_by(alloc, part, burdens, events),
+            Events::Items(events) => PartProfile::of_part_by(alloc, part, burdens, events),
+        }
+    }
+}

@@ -1,0 +1,176 @@
+//! The profile of a run so far.
+
+ghost use Rattle.std.specs.Prelude.{◌≡◌, suc, ◌+◌, ◌≤◌, ◌<◌, ◌^◌, ℕ, Bool, false, length, OnOk, IfOk, IfErr, OnErr};
+ghost use Rattle.spp_event.specs.Recordings.{Recording};
+ghost use Rattle.spp_maxplus.specs.declared.state.Burdens.{Burdens as BurdensValue};
+ghost use Rattle.spp_maxplus.specs.State.{unburdened};
+ghost use Rattle.spp_dag.specs.Figures.{AreFigures};
+ghost use Rattle.spp_frame.specs.Answers.{IsFaultOf};
+ghost use Rattle.spp_frame.specs.declared.profile_fault.ProfileFault.TheVariants.{Bad};
+ghost use Rattle.spp_site.specs.Profiles.{IsDagTable, IsPathTable, IsProfileOf};
+ghost use Rattle.spp_part.specs.States.{IsEventAt};
+ghost use Rattle.spp_part.specs.Parts.{IsPartProfile, IsSoFar, Stands, GoesOn, end_event, settles};
+
+use crate::part_profile::PartProfile;
+use crate::stretch::{End, Stretch};
+use spp_event::Trace;
+use spp_frame::{Fault, ProfileFault, Why};
+use spp_maxplus::Burdens;
+use spp_pass::Counting;
+use spp_site::Profile;
+use spp_ways::OpenWays;
+use std::alloc::{AllocError, Global};
+
+/// The profile of a run so far: what the events up to a position have come to.
+#[derive(Drop)]
+pub struct ProfileSoFar {
+    counting: Counting,
+    ways: OpenWays,
+    /// How many events have been read.
+    events: u32,
+}
+
+/// A bad event as what is wrong with a run.
+fn bad(at: u32, why: Why) -> ProfileFault
+    ensures { result ≡ Bad (record { at = at; why = why }) }
+{
+    ProfileFault::Bad(Fault { at, why })
+}
+
+impl ProfileSoFar {
+    /// Before the first event of a run. It takes constant time, besides a step for each number of a function up to the root's.
+    ///
+    /// # Errors
+    ///
+    /// Where an allocation failed.
+    pub fn new(alloc: Global, trace: &Trace<'_>) -> Result<Self, AllocError>
+        ensures { IfOk result (λ r. (burdens : BurdensValue) → burdens.continuation < 2 ^ 32 → burdens.join < 2 ^ 32 → IsSoFar trace.now burdens 0 r) }
+    {
+        trace.keeps_limits();
+        Ok(ProfileSoFar {
+            counting: Counting::new(alloc, trace.root())?,
+            ways: OpenWays::new(alloc, trace.sites())?,
+            events: 0,
+        })
+    }
+
+    /// Goes on by a stretch; positions in it count from `first`.
+    ///
+    /// # Errors
+    ///
+    /// Where an allocation failed.
+    fn go_on(&mut self, alloc: Global, stretch: &Stretch, first: u32) -> Result<(), AllocError>
+        requires { (trace : Recording) × (burdens : BurdensValue) × (i : ℕ) × (j : ℕ) × (settled : Bool) × Stands trace burdens i settled self.old.counting self.old.ways × GoesOn trace burdens first i j settled stretch.now }
+        ensures stands { OnOk result ((trace : Recording) (burdens : BurdensValue) (i j : ℕ) (settled : Bool) → Stands trace burdens i settled self.old.counting self.old.ways → GoesOn trace burdens first i j settled stretch.now → Stands trace burdens j false self.new.counting self.new.ways) }
+        ensures events { self.new.events ≡ self.old.events }
+    {
+        let wins = self.counting.wins_by(&stretch.counted);
+        self.ways
+            .join(alloc, &stretch.logged, wins, &self.counting.enclosing())?;
+        self.counting.join(&stretch.counted, &stretch.calls, first)?;
+        Ok(())
+    }
+
+    /// The innermost frame returns, or waits, at `at`.
+    ///
+    /// # Errors
+    ///
+    /// `RootReturn` where the root frame alone is open, or `Memory` where an allocation failed.
+    fn end(
+        &mut self,
+        alloc: Global,
+        burdens: Burdens,
+        at: u32,
+        end: End,
+    ) -> Result<(), ProfileFault>
+        requires { (trace : Recording) × Stands trace burdens at false self.old.counting self.old.ways × IsEventAt trace at (end_event end) × (at < length trace.records) }
+        ensures stands { OnOk result ((trace : Recording) → Stands trace burdens at false self.old.counting self.old.ways → IsEventAt trace at (end_event end) → at < length trace.records → Stands trace burdens (suc at) (settles end) self.new.counting self.new.ways) }
+        ensures fault { IfErr result (λ f. (trace : Recording) → Stands trace burdens at false self.old.counting self.old.ways → IsEventAt trace at (end_event end) → at < length trace.records → IsFaultOf trace.records f) }
+        ensures events { self.new.events ≡ self.old.events }
+    {
+        match end {
+            End::Sync => {
+                self.ways.wait(self.counting.takes());
+                self.counting.sync();
+            }
+            End::Return => {
+                let Some(closing) = self.counting.ret(burdens)? else {
+                    return Err(bad(at, Why::RootReturn));
+                };
+                self.ways.ret(
+                    alloc,
+                    closing.kind,
+                    closing.takes,
+                    closing.wins,
+                    closing.site,
+                    &closing.closed,
+                )?;
+            }
+        }
+        Ok(())
+    }
+
+    /// Goes on by the next part, read under these burdens. It takes constant time, amortized over the run, for each frame that
+    /// is opened in the part, and for each that closes there and was open before. After an error it is of no use.
+    ///
+    /// # Errors
+    ///
+    /// The first bad event of the run, if it is one of the part, or `Memory` where an allocation failed.
+    pub fn join(
+        &mut self,
+        alloc: Global,
+        part: &PartProfile,
+        burdens: Burdens,
+    ) -> Result<(), ProfileFault>
+        requires { (trace : Recording) × (i : ℕ) × (count : ℕ) × IsSoFar trace burdens i self.old × IsPartProfile trace burdens i count part.now }
+        ensures so_far { OnOk result ((trace : Recording) (i count : ℕ) → IsSoFar trace burdens i self.old → IsPartProfile trace burdens i count part.now → IsSoFar trace burdens (i + count) self.new) }
+        ensures fault { IfErr result (λ f. (trace : Recording) (i count : ℕ) → IsSoFar trace burdens i self.old → IsPartProfile trace burdens i count part.now → IsFaultOf trace.records f) }
+    {
+        let first = self.events;
+        for ended in &part.ended {
+            self.go_on(alloc, &ended.stretch, first)?;
+            match self.end(alloc, burdens, first + ended.at, ended.end) {
+                Ok(()) => {}
+                Err(fault) => return Err(fault),
+            }
+        }
+        self.go_on(alloc, &part.last, first)?;
+        if let Some(fault) = part.fault {
+            return Err(bad(first + part.good, Why::Event(fault)));
+        }
+        self.events += part.good;
+        Ok(())
+    }
+
+    /// The profile of the whole run, all of whose events have been read. It takes time linear in the numbers of rows that both
+    /// paths have in the log, of those that are stored for them, and of call sites.
+    ///
+    /// # Errors
+    ///
+    /// `Unclosed` where frames are open at the end, or `Memory` where an allocation failed.
+    pub fn finish(self, alloc: Global) -> Result<Profile, ProfileFault>
+        requires { (trace : Recording) × (burdens : BurdensValue) × IsSoFar trace burdens (length trace.records) self }
+        ensures figures { IfOk result (λ p. (trace : Recording) (burdens : BurdensValue) → IsSoFar trace burdens (length trace.records) self → AreFigures trace.records burdens p.figures) }
+        ensures small { IfOk result (λ p. p.figures.work < 2 ^ 92) }
+        ensures dag { IfOk result (λ p. (trace : Recording) (burdens : BurdensValue) → IsSoFar trace burdens (length trace.records) self → IsDagTable trace p.dag) }
+        ensures path { IfOk result (λ p. (trace : Recording) (burdens : BurdensValue) → IsSoFar trace burdens (length trace.records) self → IsPathTable trace unburdened p.path) }
+        ensures burdened_path { IfOk result (λ p. (trace : Recording) (burdens : BurdensValue) → IsSoFar trace burdens (length trace.records) self → IsPathTable trace burdens p.burdened_path) }
+        ensures profile { IfOk result (λ p. (trace : Recording) (burdens : BurdensValue) → IsSoFar trace burdens (length trace.records) self → IsProfileOf trace burdens p) }
+        ensures fault { IfErr result (λ f. (trace : Recording) (burdens : BurdensValue) → IsSoFar trace burdens (length trace.records) self → IsFaultOf trace.records f) }
+    {
+        let depth = self.counting.depth();
+        if depth > 0 {
+            return Err(bad(self.events, Why::Unclosed { depth }));
+        }
+        let ProfileSoFar { counting, ways, .. } = self;
+        let ended = counting.finish();
+        let path = ways.path_table(alloc, false, ended.takes, &ended.root)?;
+        let burdened_path = ways.path_table(alloc, true, ended.takes, &ended.root)?;
+        Ok(Profile {
+            figures: ended.figures,
+            dag: ended.dag,
+            path,
+            burdened_path,
+        })
+    }
+}
