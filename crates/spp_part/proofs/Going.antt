@@ -19,14 +19,16 @@ use Rattle.spp_ways.specs.OpenWays.{AllWays, FitTopStrand, on_path, bare_row, st
 use Rattle.spp_ways.specs.Enclosures.{Enclosure, enclosed}
 use Rattle.spp_ways.specs.Stretches.{IsStretch, AreStretchWays, joined_list}
 use Rattle.spp_pass.specs.declared.counted_frame.CountedFrame.{CountedFrame}
-use Rattle.spp_pass.specs.declared.closed_call.ClosedCall.{ClosedCall}
+use Rattle.spp_pass.specs.declared.calls.CallRow.{CallRow}
 use Rattle.spp_pass.specs.declared.counting.Closing.{Closing}
 use Rattle.spp_pass.specs.declared.counting.Popped.{Popped}
 use Rattle.spp_pass.specs.Passes.{Seen, on_top, strand_frame, sync_frame, returned_frame, open_frames, strand_seen, open_seen, sync_seen, popped_seen, closed_of, takes_of, wins_of, closing_of, caller_in, IsClosing, AreTakes}
-use Rattle.spp_pass.specs.Stretches.{enclosure, placed, joined, placed_frames, call_of, child_wins, IsJoined}
+use Rattle.spp_pass.specs.CallRows.{AreAdded, AreLight}
+use Rattle.spp_pass.specs.Stretches.{enclosure, placed, joined, placed_frames, child_wins, IsJoined}
 use Rattle.spp_pass.proofs.Projected.{IsNeat}
 use Rattle.spp_pass.proofs.Alone.{Alone, alone_as, alone_strand, alone_open, alone_sync, alone_pop}
-use Rattle.spp_pass.proofs.Stretching.{calls_below_more, follows_strand, follows_open, follows_sync_inner, follows_sync_outer, run_goes_on, follows_pop}
+use Rattle.spp_pass.proofs.CallRows.{all_light_as}
+use Rattle.spp_pass.proofs.Stretching.{follows_strand, follows_open, follows_sync_inner, follows_sync_outer, run_goes_on, follows_pop}
 use Rattle.spp_pass.proofs.PlacedFrames.{joined_takes, placed_takes, placed_closing}
 use Rattle.spp_pass.proofs.ChildWins.{placed_wins}
 use Rattle.spp_part.specs.States.{Both, Goes, IsEventAt}
@@ -114,7 +116,7 @@ placed_top e before first answer [] g gs neat none h = absurd h
 placed_top e before first answer (f ∷ []) g gs neat none h = let n = none refl in h ∙ sym (joined_takes first f g neat n.0 n.1)
 placed_top e before first answer (f ∷ h ∷ fs) g gs neat none is = is ∙ sym (placed_takes e before first (caller_in (h ∷ fs)) f)
 
-sync_follows : (first k : ℕ) (a old new : Seen) (calls : List ClosedCall) (g : CountedFrame) (gs : List CountedFrame) → Alone k a → IsJoined first a.frames a.work calls g gs old new → (at later : ℕ)
+sync_follows : (first k : ℕ) (a old new : Seen) (calls : List CallRow) (g : CountedFrame) (gs : List CountedFrame) → Alone k a → IsJoined first a.frames a.work calls g gs old new → (at later : ℕ)
     → IsNeat g → (length a.frames ≡ 1 → (g.child ≡ None) × (g.burdened_child ≡ None)) → IsJoined first (sync_seen at a).frames (sync_seen at a).work calls g gs old (sync_seen later new)
 sync_follows first k a old new calls g gs alone j at later neat none = by a.frames refl
   where
@@ -174,7 +176,7 @@ return_laws on burdens e before first f h (x ∷ fs) g inner nh ng takes row us 
 -- ---- the steps
 
 module _ (trace : Recording) (burdens : Burdens) (bounds : InBounds trace burdens) (first to k : ℕ) (lt : first + k < length trace.records) (settled : Bool)
-    (a : Seen) (calls : List ClosedCall) (o : OpenWays) (is : IsGoing trace burdens first to k settled a calls o) (b : Seen) (p : OpenWays) where
+    (a : Seen) (calls : List CallRow) (o : OpenWays) (is : IsGoing trace burdens first to k settled a calls o) (b : Seen) (p : OpenWays) where
   -- a strand
   pub strand_goes : (n : ℕ) → IsEventAt trace (first + k) (Strand n) → b ≡ strand_seen n a → IsStretch p.log.rows.items p.frames.items → length p.log.rows.items ≤ length o.log.rows.items
       → ((on : Bool) (e : Enclosure) (base : Box Merged) (us : List Ways) → AreStretchWays on e base o us → AreStretchWays on e base p (strand_list n us))
@@ -182,7 +184,7 @@ module _ (trace : Recording) (burdens : Burdens) (bounds : InBounds trace burden
   strand_goes n at then stretch rows enclosed =
       subst (λ (x : Seen). IsGoing trace burdens first to (suc k) settled x calls p) (sym then)
       (goes_on trace burdens bounds first to k lt settled a calls o is (Strand n) at (strand_seen n a) calls p (λ on e. strand_list n)
-      (alone_strand k n at.1 a is.alone) (let z = top_length (strand_frame n) a.frames in omega arith) is.last.calls keeps advances)
+      (alone_strand k n at.1 a is.alone) (let z = top_length (strand_frame n) a.frames in omega arith) is.last.calls (all_light_as k (suc k) calls (omega arith) is.light) keeps advances)
     where
       keeps : Keeps a (strand_seen n a) o p (λ on e. strand_list n)
       keeps = record {
@@ -213,7 +215,7 @@ module _ (trace : Recording) (burdens : Burdens) (bounds : InBounds trace burden
       let filled : 0 < length a.frames = some_frame k a is.alone in
       subst (λ (x : Seen). IsGoing trace burdens first to (suc k) settled x calls p) (sym then)
       (goes_on trace burdens bounds first to k lt settled a calls o is event at (open_seen kind k site func a) calls p (λ on e us. no_ways ∷ us)
-      (alone_open k kind inner site func few some a is.alone) (let z = open_length kind k site func a a.frames filled in omega arith) is.last.calls keeps advances)
+      (alone_open k kind inner site func few some a is.alone) (let z = open_length kind k site func a a.frames filled in omega arith) is.last.calls (all_light_as k (suc k) calls (omega arith) is.light) keeps advances)
     where
       keeps : Keeps a (open_seen kind k site func a) o p (λ on e us. no_ways ∷ us)
       keeps = record {
@@ -262,7 +264,7 @@ module _ (trace : Recording) (burdens : Burdens) (bounds : InBounds trace burden
   sync_goes at answer takes outer here then stretch rows enclosed =
       subst (λ (x : Seen). IsGoing trace burdens first to (suc k) settled x calls p) (sym then)
       (goes_on trace burdens bounds first to k lt settled a calls o is Sync here (sync_seen at a) calls p (λ on e. waited_list (on_path on answer))
-      (alone_sync k at a is.alone) (let z = top_length sync_frame a.frames in omega arith) is.last.calls keeps advances)
+      (alone_sync k at a is.alone) (let z = top_length sync_frame a.frames in omega arith) is.last.calls (all_light_as k (suc k) calls (omega arith) is.light) keeps advances)
     where
       keeps : Keeps a (sync_seen at a) o p (λ on e. waited_list (on_path on answer))
       keeps = record {
@@ -289,19 +291,16 @@ module _ (trace : Recording) (burdens : Burdens) (bounds : InBounds trace burden
   -- a return, of a frame that was opened in the stretch
   pub pop_goes : (at : ℕ) (f h : CountedFrame) (fs : List CountedFrame) → a.frames ≡ f ∷ h ∷ fs → IsEventAt trace (first + k) Ret → b ≡ popped_seen burdens at f h fs a
       → (told : Popped) → told ≡ record { closing = closing_of burdens a.work f h; caller = caller_in (h ∷ fs) }
+      → (more : List CallRow) → AreAdded f.site (caller_in (h ∷ fs)) (closed_of f a.work) calls more → AreLight (suc k) more
       → IsStretch p.log.rows.items p.frames.items → length p.log.rows.items ≤ length o.log.rows.items + 1
       → ((on : Bool) (e : Enclosure) (base : Box Merged) (us : List Ways) → AreStretchWays on e base o us
       → AreStretchWays on e base p (returned_list told.closing.kind (on_path on told.closing.takes) (on_path on told.closing.wins) told.closing.site (bare_row (enclosed e told.closing.site told.caller told.closing.closed)) us))
-      → IsGoing trace burdens first to (suc k) settled b (calls ++ call_of told ∷ []) p
-  pop_goes at f h fs frames here then told says stretch rows encloses =
-      subst (λ (x : Seen). IsGoing trace burdens first to (suc k) settled x (calls ++ call_of told ∷ []) p) (sym then)
-      (subst (λ (t : Popped). IsGoing trace burdens first to (suc k) settled (popped_seen burdens at f h fs a) (calls ++ call_of t ∷ []) p) (sym says)
-      (goes_on trace burdens bounds first to k lt settled a calls o is Ret here (popped_seen burdens at f h fs a) (calls ++ call_of tells ∷ []) p list
-      (alone_pop k burdens bounds.light at f h fs a frames is.alone) shorter (calls_below_more 65536 calls (call_of tells) is.last.calls al.nested.0.0) keeps advances))
+      → IsGoing trace burdens first to (suc k) settled b more p
+  pop_goes at f h fs frames here then told says more added light stretch rows encloses =
+      subst (λ (x : Seen). IsGoing trace burdens first to (suc k) settled x more p) (sym then)
+      (goes_on trace burdens bounds first to k lt settled a calls o is Ret here (popped_seen burdens at f h fs a) more p list
+      (alone_pop k burdens bounds.light at f h fs a frames is.alone) shorter (added.below 65536 is.last.calls al.nested.0.0) light keeps advances)
     where
-      tells : Popped
-      tells = record { closing = closing_of burdens a.work f h; caller = caller_in (h ∷ fs) }
-
       list : Bool → Enclosure → List Ways → List Ways
       list on e us = returned_list f.kind (on_path on (takes_of f)) (on_path on (wins_of burdens f h)) f.site (bare_row (enclosed e f.site (caller_in (h ∷ fs)) (closed_of f a.work))) us
 
@@ -324,7 +323,7 @@ module _ (trace : Recording) (burdens : Burdens) (bounds : InBounds trace burden
         owns = λ on us low. own_returned a.work f.kind (on_path on (takes_of f)) (on_path on (wins_of burdens f h)) f.site (bare_row (enclosed open_air f.site (caller_in (h ∷ fs)) (closed_of f a.work))) us low;
       }
 
-      advances : Advances burdens first k Ret settled a calls (popped_seen burdens at f h fs a) (calls ++ call_of tells ∷ []) list
+      advances : Advances burdens first k Ret settled a calls (popped_seen burdens at f h fs a) more list
       advances s ways g gs neat none new j =
           let went = run_goes_on first k a s new calls g gs is.alone j burdens neat f h fs frames (first + k) in
           let above : CountedFrame = placed (enclosure g s) s.work first (caller_in (h ∷ fs)) f in
@@ -336,7 +335,7 @@ module _ (trace : Recording) (burdens : Burdens) (bounds : InBounds trace burden
             went.0,
             λ on. returned_list f.kind (on_path on (takes_of f)) (on_path on (wins_of burdens above below)) f.site (bare_row told.closed),
             λ were. (told, went.1, closes, λ on. refl),
-            follows_pop first k a s new calls g gs is.alone j burdens neat f h fs frames at (first + k) went.0 went.1,
+            follows_pop first k a s new calls g gs is.alone j burdens neat f h fs frames at (first + k) went.0 more added went.1,
             λ on w vs e us len. ap (λ (l : List CountedFrame). returned_list f.kind (on_path on (takes_of f)) (on_path on (wins_of burdens above below)) f.site (bare_row told.closed) (joined_list (on_path on (child_wins (outer_of l) g)) us w vs)) frames
                 ∙ return_laws on burdens (enclosure g s) s.work first f h fs g al.nested.0.2 al.neat.1.0 neat (on_path on (takes_of f)) (bare_row told.closed) us (len ∙ many) w vs,
           )

@@ -16,7 +16,7 @@ use Rattle.spp_ways.specs.Stretches as stretches
 use Rattle.spp_ways.specs.Stretches.{AreEnclosed, IsBase, FitOwn, FitLast, joined_way, joined_list, stretch_rows, stretch_frames}
 use Rattle.spp_ways.proofs.Bases.{base_of}
 use Rattle.spp_pass.specs.declared.counted_frame.CountedFrame.{CountedFrame}
-use Rattle.spp_pass.specs.declared.closed_call.ClosedCall.{ClosedCall}
+use Rattle.spp_pass.specs.declared.calls.CallRow.{CallRow}
 use Rattle.spp_pass.specs.declared.counting.Counting.{Counting}
 use Rattle.spp_pass.specs.Passes.{Seen, no_notes, seen_with, OnTop}
 use Rattle.spp_pass.specs.Stretches.{enclosure, frames_of, child_wins, FitsJoin, CanJoin, IsJoined}
@@ -90,11 +90,11 @@ fit_own t small on wins r f u w h a b e = record { along = (let z = h.0 in omega
 
 -- choices don't matter
 
-noted_joined : (first : ℕ) (fs : List CountedFrame) (more : ℕ) (calls : List ClosedCall) (g : CountedFrame) (gs : List CountedFrame) (c : Counting) (s new : Seen)
+noted_joined : (first : ℕ) (fs : List CountedFrame) (more : ℕ) (calls : List CallRow) (g : CountedFrame) (gs : List CountedFrame) (c : Counting) (s new : Seen)
     → IsJoined first fs more calls g gs (seen_with c no_notes) new → IsJoined first fs more calls g gs (noted c s) new
 noted_joined first fs more calls g gs c s new h = record { frames = h.frames; open_sites = h.open_sites; open_funcs = h.open_funcs; work = h.work; table = h.table }
 
-plain_can : (first : ℕ) (fs : List CountedFrame) (outer : CountedFrame) (more : ℕ) (calls : List ClosedCall) (c : Counting) (s : Seen) → CanJoin first fs outer more calls (noted c s) → CanJoin first fs outer more calls (seen_with c no_notes)
+plain_can : (first : ℕ) (fs : List CountedFrame) (outer : CountedFrame) (more : ℕ) (calls : List CallRow) (c : Counting) (s : Seen) → CanJoin first fs outer more calls (noted c s) → CanJoin first fs outer more calls (seen_with c no_notes)
 plain_can first fs outer more calls c s h = record { top = h.top; work = h.work; sites = h.sites; places = h.places }
 
 -- ---- the step

@@ -6,10 +6,11 @@ use Rattle.spp_ways.specs.declared.open_ways.OpenWays.{OpenWays}
 use Rattle.spp_ways.specs.Enclosures.{Enclosure}
 use Rattle.spp_ways.specs.Ways.{Ways}
 use Rattle.spp_pass.specs.declared.counted_frame.CountedFrame.{CountedFrame}
-use Rattle.spp_pass.specs.declared.closed_call.ClosedCall.{ClosedCall}
+use Rattle.spp_pass.specs.declared.calls.CallRow.{CallRow}
 use Rattle.spp_pass.specs.declared.counting.Counting.{Counting}
 use Rattle.spp_pass.specs.Passes.{Seen, Notes, no_notes, seen_with}
-use Rattle.spp_pass.specs.Stretches.{enclosure, placed_frames, with_frames, calls_row, IsJoined}
+use Rattle.spp_pass.specs.CallRows.{calls_row}
+use Rattle.spp_pass.specs.Stretches.{enclosure, placed_frames, with_frames, IsJoined}
 use Rattle.spp_pass.proofs.Alike.{AreAlike, same_passed}
 use Rattle.spp_site.specs.Profiles.{key_row}
 use Rattle.spp_dag.specs.Shares.{plus}
@@ -24,7 +25,7 @@ pub same_enclosure : (g : CountedFrame) (now s : Seen) → Shows now s → enclo
 same_enclosure g now s h = λ j. record { sites = λ y. h.open_sites y j; funcs = λ y. h.open_funcs y j; direct = g.top_func }
 
 -- what is joined onto one is joined onto the other
-pub joined_on : (first : ℕ) (fs : List CountedFrame) (more : ℕ) (calls : List ClosedCall) (g : CountedFrame) (gs : List CountedFrame) (now s new : Seen) → Shows now s
+pub joined_on : (first : ℕ) (fs : List CountedFrame) (more : ℕ) (calls : List CallRow) (g : CountedFrame) (gs : List CountedFrame) (now s new : Seen) → Shows now s
     → IsJoined first fs more calls g gs s new → IsJoined first fs more calls g gs now new
 joined_on first fs more calls g gs now s new h j =
     let e : enclosure g now ≡ enclosure g s = same_enclosure g now s h in record {

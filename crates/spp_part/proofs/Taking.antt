@@ -17,9 +17,10 @@ use Rattle.spp_ways.specs.Stretches.{IsStretch, AreEnclosed, AreStretchWays, enc
 use Rattle.spp_ways.proofs.Bases.{base_of}
 use Rattle.spp_ways.proofs.Steps.{as_many}
 use Rattle.spp_pass.specs.declared.counted_frame.CountedFrame.{CountedFrame}
-use Rattle.spp_pass.specs.declared.closed_call.ClosedCall.{ClosedCall}
+use Rattle.spp_pass.specs.declared.calls.CallRow.{CallRow}
 use Rattle.spp_pass.specs.Passes.{Seen}
-use Rattle.spp_pass.specs.Stretches.{stretch_frame, enclosure, child_wins, AreCallsBelow, IsJoined}
+use Rattle.spp_pass.specs.CallRows.{AreCallsBelow, AreLight}
+use Rattle.spp_pass.specs.Stretches.{stretch_frame, enclosure, child_wins, IsJoined}
 use Rattle.spp_pass.proofs.Bounded.{entries}
 use Rattle.spp_pass.proofs.Projected.{counted, IsNeat, AllNeat}
 use Rattle.spp_pass.proofs.Alone.{Alone}
@@ -97,6 +98,7 @@ start_goes trace burdens bounds first k le settled a o alone frames work rows wa
           (omega arith, omega arith, tt),
         ),
       );
+      light = tt;
     }
 
 -- ---- an event
@@ -118,7 +120,7 @@ ways_follow on x y g s list run many goes (w ∷ vs) then laws h =
     (list u.0, goes base u.0 u.1, ap run u.2 ∙ laws w vs refl u.0 (ways_many on (enclosure g s) base x.rows x.ways u.0 u.1 ∙ many))
 
 -- what a run does besides, joined onto which the stretch takes it
-abbrev pub Advances : Burdens → ℕ → ℕ → Event → Bool → Seen → List ClosedCall → Seen → List ClosedCall → (Bool → Enclosure → List Ways → List Ways) → Type 0
+abbrev pub Advances : Burdens → ℕ → ℕ → Event → Bool → Seen → List CallRow → Seen → List CallRow → (Bool → Enclosure → List Ways → List Ways) → Type 0
 Advances burdens first k event settled a calls b then list =
     (s : Seen) (ways : Both) (g : CountedFrame) (gs : List CountedFrame) → IsNeat g
     → (settled ≡ true → (g.child ≡ None) × (g.burdened_child ≡ None) × ((on : Bool) → HasNoWay (ways on)))
@@ -137,11 +139,11 @@ pub record Keeps (a b : Seen) (o p : OpenWays) (list : Bool → Enclosure → Li
   pub owns : (on : Bool) (us : List Ways) → AreOwnBelow a.work us → AreOwnBelow b.work (list on open_air us)
 
 module _ (trace : Recording) (burdens : Burdens) (bounds : InBounds trace burdens) (first to k : ℕ) (lt : first + k < length trace.records) (settled : Bool)
-    (a : Seen) (calls : List ClosedCall) (o : OpenWays) (is : IsGoing trace burdens first to k settled a calls o) where
-  pub goes_on : (event : Event) → IsEventAt trace (first + k) event → (b : Seen) (then : List ClosedCall) (p : OpenWays) (list : Bool → Enclosure → List Ways → List Ways)
-      → Alone (suc k) b → length b.frames ≤ length a.frames + 1 → AreCallsBelow 65536 then → Keeps a b o p list → Advances burdens first k event settled a calls b then list
+    (a : Seen) (calls : List CallRow) (o : OpenWays) (is : IsGoing trace burdens first to k settled a calls o) where
+  pub goes_on : (event : Event) → IsEventAt trace (first + k) event → (b : Seen) (then : List CallRow) (p : OpenWays) (list : Bool → Enclosure → List Ways → List Ways)
+      → Alone (suc k) b → length b.frames ≤ length a.frames + 1 → AreCallsBelow 65536 then → AreLight (suc k) then → Keeps a b o p list → Advances burdens first k event settled a calls b then list
       → IsGoing trace burdens first to (suc k) settled b then p
-  goes_on event at b then p list alone deep below keeps advances =
+  goes_on event at b then p list alone deep below light keeps advances =
       let further : suc (first + k) ≡ first + suc k = omega arith in
       let since : to ≤ k = is.since in
       let many_now : length o.frames.items ≡ length a.frames = is.last.many in
@@ -166,6 +168,7 @@ module _ (trace : Recording) (burdens : Burdens) (bounds : InBounds trace burden
         alone = alone;
         deep = (let d = is.deep in omega arith);
         owned = (is.owned.0, λ on. let x = is.owned.1 on in (list on open_air x.0, keeps.enclosed on open_air is.owned.0 x.0 x.1, keeps.owns on x.0 x.2));
+        light = light;
       }
     where
       After : Seen → Both → List CountedFrame → Type 0

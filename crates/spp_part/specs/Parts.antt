@@ -15,10 +15,11 @@ use Rattle.spp_ways.specs.Ways.{Ways, no_way}
 use Rattle.spp_ways.specs.OpenWays.{AreWays, IsLaid, on_path}
 use Rattle.spp_ways.specs.Stretches.{AreEnclosed, IsBase, IsStretch, joined_list, stretch_rows, stretch_frames}
 use Rattle.spp_pass.specs.declared.counted_frame.CountedFrame.{CountedFrame}
-use Rattle.spp_pass.specs.declared.closed_call.ClosedCall.{ClosedCall}
+use Rattle.spp_pass.specs.declared.calls.CallRow.{CallRow}
 use Rattle.spp_pass.specs.declared.counting.Counting.{Counting}
 use Rattle.spp_pass.specs.Passes.{Seen, Notes, no_notes, seen_with}
-use Rattle.spp_pass.specs.Stretches.{stretch_frame, enclosure, frames_of, child_wins, AreCallsBelow, IsJoined}
+use Rattle.spp_pass.specs.CallRows.{AreCallsBelow}
+use Rattle.spp_pass.specs.Stretches.{stretch_frame, enclosure, frames_of, child_wins, IsJoined}
 use Rattle.spp_pass.proofs.Alone.{Alone}
 use Rattle.spp_part.specs.declared.stretch.End.{End}
 use Rattle.spp_part.specs.declared.stretch.End.TheVariants.{Return, Sync}
@@ -48,12 +49,12 @@ outer_of [] = stretch_frame
 outer_of (f ∷ []) = f
 outer_of (f ∷ g ∷ fs) = outer_of (g ∷ fs)
 
--- The frames of a stretch, the last of which is its outer one; the counts of its strands; the frames that have closed in
--- it; and the rows and the frames of its ways.
+-- The frames of a stretch, the last of which is its outer one; the counts of its strands; the rows of the frames that have
+-- closed in it; and the rows and the frames of its ways.
 pub record StretchOf : Type 0 where
   pub frames : List CountedFrame
   pub work : ℕ
-  pub calls : List ClosedCall
+  pub calls : List CallRow
   pub rows : List LogRow
   pub ways : List FrameWays
 

@@ -12,7 +12,8 @@ use Rattle.spp_ways.specs.declared.open_ways.OpenWays.{OpenWays}
 use Rattle.spp_ways.specs.Ways.{Ways}
 use Rattle.spp_ways.specs.Enclosures.{Enclosure}
 use Rattle.spp_ways.specs.Stretches.{AreStretchWays}
-use Rattle.spp_pass.specs.declared.closed_call.ClosedCall.{ClosedCall}
+use Rattle.spp_pass.specs.declared.calls.CallRow.{CallRow}
+use Rattle.spp_pass.specs.CallRows.{AreLight}
 use Rattle.spp_pass.specs.Passes.{Seen, Notes, seen_with}
 use Rattle.spp_pass.proofs.Alone.{Alone}
 use Rattle.spp_part.specs.declared.part_profile.Reading.{Reading}
@@ -22,7 +23,7 @@ use Rattle.spp_part.specs.Parts.{StretchOf, Takes, Lead}
 -- ---- a stretch
 
 -- what these have come to
-abbrev pub as_stretch : Seen → List ClosedCall → OpenWays → StretchOf
+abbrev pub as_stretch : Seen → List CallRow → OpenWays → StretchOf
 as_stretch a calls o = record { frames = a.frames; work = a.work; calls = calls; rows = o.log.rows.items; ways = o.frames.items }
 
 -- where nothing encloses the stretch
@@ -38,12 +39,13 @@ abbrev pub Owned : ℕ → OpenWays → Type 0
 Owned n o = (base : Box Merged) × ((on : Bool) → (us : List Ways) × AreStretchWays on open_air base o us × AreOwnBelow n us)
 
 -- the reading of a stretch from the event at first + to on, before that at first + k
-pub record IsGoing (trace : Recording) (burdens : Burdens) (first to k : ℕ) (settled : Bool) (a : Seen) (calls : List ClosedCall) (o : OpenWays) : Type 0 where
+pub record IsGoing (trace : Recording) (burdens : Burdens) (first to k : ℕ) (settled : Bool) (a : Seen) (calls : List CallRow) (o : OpenWays) : Type 0 where
   pub last : Takes trace burdens first (first + to) (first + k) settled (as_stretch a calls o)
   pub since : to ≤ k
   pub alone : Alone k a
   pub deep : length a.frames ≤ suc k
   pub owned : Owned a.work o
+  pub light : AreLight k calls
 
 -- the trace, and the burdens, are within their limits
 pub record InBounds (trace : Recording) (burdens : Burdens) : Type 0 where
@@ -66,7 +68,7 @@ pub record IsReading (trace : Recording) (burdens : Burdens) (first k : ℕ) (r 
   pub to : ℕ
   pub notes : Notes
   pub ended : Lead trace burdens first 0 false r.ended.items to r.settled
-  pub going : IsGoing trace burdens first to k r.settled (seen_with r.counting notes) r.calls.items r.ways
+  pub going : IsGoing trace burdens first to k r.settled (seen_with r.counting notes) r.calls.rows.items r.ways
 
 -- and that event is this one
 pub record IsAhead (trace : Recording) (burdens : Burdens) (first k : ℕ) (event : Event) (r : Reading) : Type 0 where

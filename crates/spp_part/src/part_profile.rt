@@ -14,10 +14,9 @@ use spp_cut::Part;
 use spp_dag::FrameKind;
 use spp_event::{Event, EventFault, Events, Reader};
 use spp_maxplus::Burdens;
-use spp_pass::{ClosedCall, Counting, Popped};
+use spp_pass::{Calls, Counting, Popped};
 use spp_ways::OpenWays;
 use std::alloc::{AllocError, Global};
-use std::mem;
 
 /// What a part of a run comes to, wherever it stands: what it makes of the profile so far.
 #[derive(Drop)]
@@ -38,7 +37,7 @@ struct Reading {
     ended: Vec<EndedStretch>,
     counting: Counting,
     ways: OpenWays,
-    calls: Vec<ClosedCall>,
+    calls: Calls,
     /// Whether it is known that no child that returned before the stretch waits in its outer frame.
     settled: bool,
 }
@@ -52,7 +51,7 @@ impl Reading {
             ended: Vec::new(alloc),
             counting: Counting::stretch(alloc)?,
             ways: OpenWays::stretch(alloc)?,
-            calls: Vec::new(alloc),
+            calls: Calls::new(alloc),
             settled: false,
         })
     }
@@ -103,7 +102,7 @@ impl Reading {
             return self.end(alloc, at, End::Return);
         };
         let Popped { closing, caller } = popped;
-        self.calls.push(ClosedCall::of(&popped))?;
+        self.calls.add(closing.site, caller, &closing.closed)?;
         self.ways.pop(
             closing.kind,
             closing.takes,
@@ -138,8 +137,7 @@ impl Reading {
     {
         let counted = self.counting.next_stretch(alloc);
         let logged = self.ways.next_stretch(alloc)?;
-        let mut calls = Vec::new(alloc);
-        mem::swap(&mut self.calls, &mut calls);
+        let calls = self.calls.take(alloc);
         self.ended.push(EndedStretch {
             stretch: Stretch {
                 counted,
@@ -172,7 +170,7 @@ impl Reading {
             ended,
             last: Stretch {
                 counted: counting.into_stretch(),
-                calls,
+                calls: calls.into_rows(),
                 logged: ways.into_stretch(),
             },
             good,
@@ -208,8 +206,8 @@ impl PartProfile {
     /// the root frame shows where the part is joined. It takes constant time for each event, amortized, besides a step for each
     /// number of a site and of a function up to the greatest in the part.
     ///
-    /// It takes 64 bytes for each frame that closes in the part and was opened there, 96 more for each that was on a greatest
-    /// way, on either path, as it returned, some 280 for each that the part leaves open, and some 800 for each return of a
+    /// It takes 128 bytes for each call site and each function that it was called from, and some 50 more; 96 for each frame that
+    /// closes in the part, was opened there, and was on a greatest way, on either path, as it returned, some 280 for each that the part leaves open, and some 800 for each return of a
     /// frame that was open before; up to twice that with spare room.
     ///
     /// # Errors

@@ -1,7 +1,7 @@
 //! Stretches of events.
 
 use spp_maxplus::Burdens;
-use spp_pass::{ClosedCall, CountedStretch, Counting};
+use spp_pass::{CallRow, CountedStretch, Counting};
 use spp_ways::{LoggedStretch, OpenWays};
 use std::alloc::{AllocError, Global};
 
@@ -11,8 +11,8 @@ use std::alloc::{AllocError, Global};
 pub(crate) struct Stretch {
     /// Its frames.
     pub(crate) counted: CountedStretch,
-    /// The frames that have closed in it.
-    pub(crate) calls: Vec<ClosedCall>,
+    /// The rows of the frames that have closed in it.
+    pub(crate) calls: Vec<CallRow>,
     /// Its ways.
     pub(crate) logged: LoggedStretch,
 }

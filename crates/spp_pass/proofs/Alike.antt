@@ -6,7 +6,7 @@ use Rattle.spp_dag.specs.Shares.{plus}
 use Rattle.spp_site.specs.Profiles.{key_row}
 use Rattle.spp_site.proofs.RowSums.{Low}
 use Rattle.spp_pass.specs.declared.counted_frame.CountedFrame.{CountedFrame}
-use Rattle.spp_pass.specs.declared.closed_call.ClosedCall.{ClosedCall}
+use Rattle.spp_pass.specs.declared.calls.CallRow.{CallRow}
 use Rattle.spp_pass.specs.Passes.{Seen}
 use Rattle.spp_pass.specs.Stretches.{IsJoined}
 use Rattle.spp_pass.proofs.Projected.{counted}
@@ -50,7 +50,7 @@ same_passed trace burdens from i s t h p =
     subst (Passed trace burdens from i) same is
 
 -- where the same stretch was joined onto the same
-pub joined_alike : (first : ℕ) (fs : List CountedFrame) (more : ℕ) (calls : List ClosedCall) (g : CountedFrame) (gs : List CountedFrame) (old s t : Seen)
+pub joined_alike : (first : ℕ) (fs : List CountedFrame) (more : ℕ) (calls : List CallRow) (g : CountedFrame) (gs : List CountedFrame) (old s t : Seen)
     → s.ends ≡ t.ends → s.joins ≡ t.joins → s.burdened_joins ≡ t.burdened_joins
     → IsJoined first fs more calls g gs old s → IsJoined first fs more calls g gs old t → AreAlike s t
 joined_alike first fs more calls g gs old s t ends joins burdened a b = record {

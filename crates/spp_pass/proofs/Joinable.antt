@@ -9,10 +9,11 @@ use Rattle.spp_site.specs.Rows.{Fits}
 use Rattle.spp_site.specs.Profiles.{key_row}
 use Rattle.spp_site.proofs.RowSums.{low_fits}
 use Rattle.spp_pass.specs.declared.counted_frame.CountedFrame.{CountedFrame}
-use Rattle.spp_pass.specs.declared.closed_call.ClosedCall.{ClosedCall}
+use Rattle.spp_pass.specs.declared.calls.CallRow.{CallRow}
 use Rattle.spp_pass.specs.LeanFrames.{plain_sum, burdened_sum}
 use Rattle.spp_pass.specs.Passes.{Seen, OnTop}
-use Rattle.spp_pass.specs.Stretches.{enclosure, calls_row, AreCallsBelow, FitsPlace, FitPlaces, FitsJoin, CanJoin, IsJoined}
+use Rattle.spp_pass.specs.CallRows.{calls_row, AreCallsBelow}
+use Rattle.spp_pass.specs.Stretches.{enclosure, FitsPlace, FitPlaces, FitsJoin, CanJoin, IsJoined}
 use Rattle.spp_pass.proofs.Projected.{lean, counted}
 use Rattle.spp_pass.proofs.Bounded.{owed, local_le}
 use Rattle.spp_pass.proofs.Passed.{Passed}
@@ -68,7 +69,7 @@ fit_places before first k w (f ∷ fs) fits few h = (
 
 -- ---- the whole
 
-pub can_join : (trace : Recording) (burdens : Burdens) (first k i j : ℕ) (a old new : Seen) (calls : List ClosedCall) (g : CountedFrame) (gs : List CountedFrame) (r : CountedFrame)
+pub can_join : (trace : Recording) (burdens : Burdens) (first k i j : ℕ) (a old new : Seen) (calls : List CallRow) (g : CountedFrame) (gs : List CountedFrame) (r : CountedFrame)
     → i ≤ 268435456 → j ≤ 268435456 → first + k ≤ 268435456 → AreCallsBelow 65536 calls → old.frames ≡ g ∷ gs → IsLastOf r a.frames
     → Passed trace burdens 0 i old → Passed trace burdens 0 j new → Alone k a → IsJoined first a.frames a.work calls g gs old new → CanJoin first a.frames r a.work calls old
 can_join trace burdens first k i j a old new calls g gs r few_before few short below frames last before after alone joined =

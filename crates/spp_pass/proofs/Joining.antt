@@ -8,17 +8,18 @@ use Rattle.std.proofs.Math.Seq.{drop-cons, take-suc}
 use Rattle.std.specs.List.{AllByRecursion}
 use Rattle.spp_dag.specs.declared.row.Row.{Row}
 use Rattle.spp_dag.specs.Shares.{plus, zero_row}
-use Rattle.spp_site.specs.Rows.{Fits, frame_row}
+use Rattle.spp_site.specs.Rows.{Fits}
 use Rattle.spp_site.specs.Table.{Sums, row_at, IsAdded}
 use Rattle.spp_site.specs.Profiles.{key_row}
 use Rattle.spp_site.specs.Marks.{with_mark}
 use Rattle.spp_site.proofs.Rows.{plus-zero, plus-assoc, plus-swap}
 use Rattle.spp_site.proofs.LastFirst.{topped}
-use Rattle.spp_ways.specs.Enclosures.{Enclosure, enclosed}
-use Rattle.spp_pass.specs.declared.closed_call.ClosedCall.{ClosedCall}
+use Rattle.spp_ways.specs.Enclosures.{Enclosure}
+use Rattle.spp_pass.specs.declared.calls.CallRow.{CallRow}
 use Rattle.spp_pass.specs.declared.counted_frame.CountedFrame.{CountedFrame}
 use Rattle.spp_pass.specs.Passes.{OnTop, caller_in}
-use Rattle.spp_pass.specs.Stretches.{stretch_frame, next_frames, closed_in, calls_row, placed, placed_frames, with_frames, FitsPlace, FitPlaces, AreCallsBelow}
+use Rattle.spp_pass.specs.Stretches.{stretch_frame, next_frames, placed, placed_frames, with_frames, FitsPlace, FitPlaces}
+use Rattle.spp_pass.specs.CallRows.{enclosed_sums, calls_row, AreCallsBelow}
 use Rattle.spp_pass.proofs.Bounded.{turned}
 use Rattle.spp_pass.proofs.Suspending.{row_fits}
 
@@ -36,42 +37,42 @@ first_next (r ∷ fs) some = reverse_onto fs stretch_frame [] ∙ sym (next_last
 -- ---- the calls
 
 -- the rows of a table, with those of calls that it lacks
-abbrev pub Rest : Sums → Enclosure → List ClosedCall → (Option ℕ → Row) → Type 0
+abbrev pub Rest : Sums → Enclosure → List CallRow → (Option ℕ → Row) → Type 0
 Rest t e cs whole = (key : Option ℕ) → plus (key_row t key) (calls_row e cs key) ≡ whole key
 
--- what a call adds to the row of its site
-abbrev pub call_row : Enclosure → ClosedCall → Row
-call_row e c = frame_row (enclosed e c.site c.caller (closed_in c))
+-- what one adds to that of its site
+abbrev pub row_within : Enclosure → CallRow → Row
+row_within e c = enclosed_sums e c.site c.caller c.row
 
-pub call_below : (n : ℕ) (cs : List ClosedCall) (k : ℕ) (d : ClosedCall) → k < length cs → AreCallsBelow n cs → (get_or cs k d).site < n
+pub call_below : (n : ℕ) (cs : List CallRow) (k : ℕ) (d : CallRow) → k < length cs → AreCallsBelow n cs → (get_or cs k d).site < n
 call_below n [] k d lt h = absurd (omega arith)
 call_below n (c ∷ cs) zero d lt h = h.0
 call_below n (c ∷ cs) (suc k) d lt h = call_below n cs k d (omega arith) h.1
 
-pub rest_at : (t : Sums) (e : Enclosure) (cs : List ClosedCall) (k : ℕ) (d : ClosedCall) (whole : Option ℕ → Row) → k < length cs → Rest t e (drop k cs) whole → Rest t e (get_or cs k d ∷ drop (k + 1) cs) whole
+pub rest_at : (t : Sums) (e : Enclosure) (cs : List CallRow) (k : ℕ) (d : CallRow) (whole : Option ℕ → Row) → k < length cs → Rest t e (drop k cs) whole → Rest t e (get_or cs k d ∷ drop (k + 1) cs) whole
 rest_at t e cs k d whole lt h =
     let next : suc k ≡ k + 1 = omega arith in
     subst (λ l. Rest t e l whole) (drop-cons cs k d lt ∙ ap (λ n. get_or cs k d ∷ drop n cs) next) h
 
-pub call_fits : (t : Sums) (e : Enclosure) (c : ClosedCall) (cs : List ClosedCall) (whole : Option ℕ → Row) → Rest t e (c ∷ cs) whole → ((key : Option ℕ) → Fits (whole key))
-    → Fits (plus (row_at t c.site) (call_row e c))
+pub call_fits : (t : Sums) (e : Enclosure) (c : CallRow) (cs : List CallRow) (whole : Option ℕ → Row) → Rest t e (c ∷ cs) whole → ((key : Option ℕ) → Fits (whole key))
+    → Fits (plus (row_at t c.site) (row_within e c))
 call_fits t e c cs whole h fits =
     let key : Option ℕ = Some c.site in
-    row_fits (plus (row_at t c.site) (call_row e c)) (calls_row e cs key) (whole key)
-    (plus-swap (row_at t c.site) (call_row e c) (calls_row e cs key) ∙ plus-assoc (row_at t c.site) (calls_row e cs key) (call_row e c)
-    ∙ ap (λ b. plus (row_at t c.site) (plus (calls_row e cs key) (cond b (call_row e c) zero_row))) (sym (eq-eqb c.site c.site refl)) ∙ h key) (fits key)
+    row_fits (plus (row_at t c.site) (row_within e c)) (calls_row e cs key) (whole key)
+    (plus-swap (row_at t c.site) (row_within e c) (calls_row e cs key) ∙ plus-assoc (row_at t c.site) (calls_row e cs key) (row_within e c)
+    ∙ ap (λ b. plus (row_at t c.site) (plus (calls_row e cs key) (cond b (row_within e c) zero_row))) (sym (eq-eqb c.site c.site refl)) ∙ h key) (fits key)
 
-pub call_added : (t u : Sums) (e : Enclosure) (c : ClosedCall) (cs : List ClosedCall) (whole : Option ℕ → Row) → Rest t e (c ∷ cs) whole → IsAdded t u c.site (call_row e c) → Rest u e cs whole
+pub call_added : (t u : Sums) (e : Enclosure) (c : CallRow) (cs : List CallRow) (whole : Option ℕ → Row) → Rest t e (c ∷ cs) whole → IsAdded t u c.site (row_within e c) → Rest u e cs whole
 call_added t u e c cs whole h added None = ap (λ r. plus r (calls_row e cs None)) added.root ∙ ap (λ r. plus t.root r) (sym (plus-zero (calls_row e cs None))) ∙ h None
 call_added t u e c cs whole h added (Some s) =
     let key : Option ℕ = Some s in
-    ap (λ r. plus r (calls_row e cs key)) (added.sites s ∙ ap (λ b. cond b (plus (row_at t s) (call_row e c)) (row_at t s)) (turned s c.site)) ∙ by (nat_eq c.site s) ∙ h key
+    ap (λ r. plus r (calls_row e cs key)) (added.sites s ∙ ap (λ b. cond b (plus (row_at t s) (row_within e c)) (row_at t s)) (turned s c.site)) ∙ by (nat_eq c.site s) ∙ h key
   where
-    by : (b : Bool) → plus (cond b (plus (row_at t s) (call_row e c)) (row_at t s)) (calls_row e cs (Some s)) ≡ plus (row_at t s) (plus (calls_row e cs (Some s)) (cond b (call_row e c) zero_row))
-    by true = plus-swap (row_at t s) (call_row e c) (calls_row e cs (Some s)) ∙ plus-assoc (row_at t s) (calls_row e cs (Some s)) (call_row e c)
+    by : (b : Bool) → plus (cond b (plus (row_at t s) (row_within e c)) (row_at t s)) (calls_row e cs (Some s)) ≡ plus (row_at t s) (plus (calls_row e cs (Some s)) (cond b (row_within e c) zero_row))
+    by true = plus-swap (row_at t s) (row_within e c) (calls_row e cs (Some s)) ∙ plus-assoc (row_at t s) (calls_row e cs (Some s)) (row_within e c)
     by false = ap (λ r. plus (row_at t s) r) (sym (plus-zero (calls_row e cs (Some s))))
 
-pub rest_none : (t : Sums) (e : Enclosure) (cs : List ClosedCall) (k : ℕ) (whole : Option ℕ → Row) → length cs ≤ k → Rest t e (drop k cs) whole → (key : Option ℕ) → key_row t key ≡ whole key
+pub rest_none : (t : Sums) (e : Enclosure) (cs : List CallRow) (k : ℕ) (whole : Option ℕ → Row) → length cs ≤ k → Rest t e (drop k cs) whole → (key : Option ℕ) → key_row t key ≡ whole key
 rest_none t e cs k whole le h key = sym (plus-zero (key_row t key)) ∙ ap (λ l. plus (key_row t key) (calls_row e l key)) (sym (drop_all k cs le)) ∙ h key
 
 -- ---- the frame in which it begins

@@ -14,6 +14,7 @@ pub mod Going
 pub mod Taking
 pub mod Joining
 pub mod Alone
+pub mod CallRows
 pub mod PlacedFrames
 pub mod ChildWins
 pub mod RunReturns

@@ -14,13 +14,12 @@ use Rattle.spp_site.proofs.Rows.{plus-zero, plus-assoc, plus-swap, plus-cond}
 use Rattle.spp_site.proofs.Marked.{marked_less}
 use Rattle.spp_ways.specs.Enclosures.{Enclosure, outer_caller, is_top_caller, enclosed}
 use Rattle.spp_pass.specs.declared.counted_frame.CountedFrame.{CountedFrame}
-use Rattle.spp_pass.specs.declared.closed_call.ClosedCall.{ClosedCall}
-use Rattle.spp_pass.specs.declared.counting.Popped.{Popped}
+use Rattle.spp_pass.specs.declared.calls.CallRow.{CallRow}
 use Rattle.spp_pass.specs.Passes.{Seen, strand_seen, sync_seen, open_seen, popped_seen, opened_frame, open_frames, on_top, strand_frame, sync_frame, returned_frame, closed_of, closing_of, caller_in, Returns, IsReturned}
-use Rattle.spp_pass.specs.Stretches.{stretch_frame, enclosure, placed, joined, placed_frames, with_frames, call_of, calls_row, AreCallsBelow, IsJoined}
+use Rattle.spp_pass.specs.Stretches.{stretch_frame, enclosure, placed, joined, placed_frames, with_frames, IsJoined}
+use Rattle.spp_pass.specs.CallRows.{calls_row, call_row, AreAdded}
 use Rattle.spp_pass.proofs.Bounded.{turned}
 use Rattle.spp_pass.proofs.Projected.{IsNeat}
-use Rattle.spp_pass.proofs.Joining.{call_row}
 use Rattle.spp_pass.proofs.RunReturns.{returned_seen, run_returns}
 use Rattle.spp_pass.proofs.Alone.{Alone, alone_as, same_top, sites_in, funcs_in}
 use Rattle.spp_pass.proofs.PlacedFrames.{joined_strand, joined_sync, joined_start, placed_returned, joined_returned, placed_closed}
@@ -49,16 +48,6 @@ added_row t u s r h None = h.root ∙ sym (plus-zero t.root)
 added_row t u s r h (Some q) =
     h.sites q ∙ ap (λ b. cond b (plus (row_at t q) r) (row_at t q)) (turned q s) ∙ sym (plus-cond (nat_eq s q) (row_at t q) r)
 
-pub calls_more : (e : Enclosure) (cs : List ClosedCall) (c : ClosedCall) (key : Option ℕ) → calls_row e (cs ++ c ∷ []) key ≡ plus (calls_row e cs key) (cond (same_key (Some c.site) key) (call_row e c) zero_row)
-calls_more e [] c key = refl
-calls_more e (d ∷ cs) c key =
-    ap (λ r. plus r (cond (same_key (Some d.site) key) (call_row e d) zero_row)) (calls_more e cs c key)
-    ∙ plus-swap (calls_row e cs key) (cond (same_key (Some c.site) key) (call_row e c) zero_row) (cond (same_key (Some d.site) key) (call_row e d) zero_row)
-
-pub calls_below_more : (n : ℕ) (cs : List ClosedCall) (c : ClosedCall) → AreCallsBelow n cs → c.site < n → AreCallsBelow n (cs ++ c ∷ [])
-calls_below_more n [] c h lt = (lt, tt)
-calls_below_more n (d ∷ cs) c h lt = (h.0, calls_below_more n cs c h.1 lt)
-
 -- ---- the frames
 
 -- the innermost frame changes
@@ -70,7 +59,7 @@ top_changes change e before first f [] g gs inner outer = ap (λ (x : CountedFra
 top_changes change e before first f (h ∷ fs) g gs inner outer = ap (λ (x : CountedFrame). x ∷ placed_frames e before first (h ∷ fs) g gs) (inner (caller_in (h ∷ fs)))
 
 -- the stretch, seen with its frames as they are told
-pub joined_as : (first : ℕ) (fs hs : List CountedFrame) (more : ℕ) (calls : List ClosedCall) (g : CountedFrame) (gs : List CountedFrame) (old new : Seen) → fs ≡ hs
+pub joined_as : (first : ℕ) (fs hs : List CountedFrame) (more : ℕ) (calls : List CallRow) (g : CountedFrame) (gs : List CountedFrame) (old new : Seen) → fs ≡ hs
     → IsJoined first fs more calls g gs old new → IsJoined first hs more calls g gs old new
 joined_as first fs hs more calls g gs old new e j = subst (λ (l : List CountedFrame). IsJoined first l more calls g gs old new) e j
 
@@ -106,7 +95,7 @@ next_two burdens e before first f h (x ∷ fs) g gs nh ng = record {
   after = ap (λ (y : CountedFrame). y ∷ placed_frames e before first (x ∷ fs) g gs) (placed_returned burdens e before first h.func (caller_in (x ∷ fs)) f h);
 }
 
-module _ (first k : ℕ) (a old new : Seen) (calls : List ClosedCall) (g : CountedFrame) (gs : List CountedFrame) (alone : Alone k a) (j : IsJoined first a.frames a.work calls g gs old new) where
+module _ (first k : ℕ) (a old new : Seen) (calls : List CallRow) (g : CountedFrame) (gs : List CountedFrame) (alone : Alone k a) (j : IsJoined first a.frames a.work calls g gs old new) where
   abbrev e : Enclosure
   e = enclosure g old
 
@@ -196,17 +185,14 @@ module _ (first k : ℕ) (a old new : Seen) (calls : List ClosedCall) (g : Count
 
   -- a return, of a frame that was opened in the stretch
   module _ (burdens : Burdens) (neat : IsNeat g) (f h : CountedFrame) (fs : List CountedFrame) (is : a.frames ≡ f ∷ h ∷ fs) where
-    abbrev told : Popped
-    told = record { closing = closing_of burdens a.work f h; caller = caller_in (h ∷ fs) }
-
     abbrev above : CountedFrame
     above = placed e old.work first (caller_in (h ∷ fs)) f
 
     -- from the run's frames, of which the upper two are these
-    popped_from : (at later : ℕ) (x : CountedFrame) (xs : List CountedFrame) (new2 : Seen) → IsReturned burdens later above x xs new new2
+    popped_from : (at later : ℕ) (x : CountedFrame) (xs : List CountedFrame) (new2 : Seen) (then : List CallRow) → AreAdded f.site (caller_in (h ∷ fs)) (closed_of f a.work) calls then → IsReturned burdens later above x xs new new2
         → returned_frame burdens above x ∷ xs ≡ placed_frames e old.work first (returned_frame burdens f h ∷ fs) g gs
-        → IsJoined first (popped_seen burdens at f h fs a).frames (popped_seen burdens at f h fs a).work (calls ++ call_of told ∷ []) g gs old new2
-    popped_from at later x xs new2 r frames =
+        → IsJoined first (popped_seen burdens at f h fs a).frames (popped_seen burdens at f h fs a).work then g gs old new2
+    popped_from at later x xs new2 then more r frames =
         let al = alone_as k a (f ∷ h ∷ fs) is alone in
         let jo = joined_as first a.frames (f ∷ h ∷ fs) a.work calls g gs old new is j in
         let site_top : above.top_site ≡ not (with_frames (λ (q : CountedFrame). q.site) (h ∷ fs) old.open_sites f.site) =
@@ -216,7 +202,7 @@ module _ (first k : ℕ) (a old new : Seen) (calls : List ClosedCall) (g : Count
         ap (λ b. b && not (old.open_funcs f.func)) al.nested.0.4 ∙ sym (not_or (funcs_in (h ∷ fs) f.func) (old.open_funcs f.func))
         ∙ ap not (sym (with_frames_or (λ (q : CountedFrame). q.func) (h ∷ fs) old.open_funcs f.func)) in
         let closes : closed_of above new.work ≡ enclosed e f.site (caller_in (h ∷ fs)) (closed_of f a.work) = ap (closed_of above) j.work ∙ placed_closed e old.work first (caller_in (h ∷ fs)) a.work f in
-        let added : IsAdded new.table new2.table f.site (call_row e (call_of told)) = subst (λ (c : ClosedFrame). IsAdded new.table new2.table f.site (frame_row c)) closes r.table in
+        let added : IsAdded new.table new2.table f.site (frame_row (enclosed e f.site (caller_in (h ∷ fs)) (closed_of f a.work))) = subst (λ (c : ClosedFrame). IsAdded new.table new2.table f.site (frame_row c)) closes r.table in
         record {
           frames = r.frames ∙ frames;
           open_sites = λ y. ap (λ (m : ℕ → Bool). m y) r.open_sites
@@ -226,10 +212,10 @@ module _ (first k : ℕ) (a old new : Seen) (calls : List ClosedCall) (g : Count
               ∙ marked_less above.top_func f.func new.open_funcs (with_frames (λ (q : CountedFrame). q.func) (h ∷ fs) old.open_funcs) func_top jo.open_funcs y
               ∙ same_top (λ (q : CountedFrame). q.func) h (returned_frame burdens f h) fs old.open_funcs y refl;
           work = r.work ∙ j.work;
-          table = λ key. added_row new.table new2.table f.site (call_row e (call_of told)) added key
-              ∙ ap (λ q. plus q (cond (same_key (Some f.site) key) (call_row e (call_of told)) zero_row)) (j.table key)
-              ∙ plus-assoc (key_row old.table key) (calls_row e calls key) (cond (same_key (Some f.site) key) (call_row e (call_of told)) zero_row)
-              ∙ ap (λ q. plus (key_row old.table key) q) (sym (calls_more e calls (call_of told) key));
+          table = λ key. added_row new.table new2.table f.site (frame_row (enclosed e f.site (caller_in (h ∷ fs)) (closed_of f a.work))) added key
+              ∙ ap (λ q. plus q (call_row e f.site (caller_in (h ∷ fs)) (closed_of f a.work) key)) (j.table key)
+              ∙ plus-assoc (key_row old.table key) (calls_row e calls key) (call_row e f.site (caller_in (h ∷ fs)) (closed_of f a.work) key)
+              ∙ ap (λ q. plus (key_row old.table key) q) (sym (more.rows e key));
         }
 
     -- the run's upper two frames
@@ -246,12 +232,12 @@ module _ (first k : ℕ) (a old new : Seen) (calls : List ClosedCall) (g : Count
         let two = follows_two in
         (returned_seen burdens later above two.0 two.1 new, run_returns burdens later above two.0 two.1 new two.2)
 
-    pub follows_pop : (at later : ℕ) (new2 : Seen) → Returns burdens later new new.frames true new2
-        → IsJoined first (popped_seen burdens at f h fs a).frames (popped_seen burdens at f h fs a).work (calls ++ call_of told ∷ []) g gs old new2
-    follows_pop at later new2 r =
+    pub follows_pop : (at later : ℕ) (new2 : Seen) (then : List CallRow) → AreAdded f.site (caller_in (h ∷ fs)) (closed_of f a.work) calls then → Returns burdens later new new.frames true new2
+        → IsJoined first (popped_seen burdens at f h fs a).frames (popped_seen burdens at f h fs a).work then g gs old new2
+    follows_pop at later new2 then more r =
         let al = alone_as k a (f ∷ h ∷ fs) is alone in
         let jo = joined_as first a.frames (f ∷ h ∷ fs) a.work calls g gs old new is j in
         let u = next_two burdens e old.work first f h fs g gs al.neat.1.0 neat in
         let frames : new.frames ≡ above ∷ u.frame ∷ u.below = jo.frames ∙ ap (λ (l : List CountedFrame). above ∷ l) u.is in
         let back : (true ≡ true) × IsReturned burdens later above u.frame u.below new new2 = subst (λ l. Returns burdens later new l true new2) frames r in
-        popped_from at later u.frame u.below new2 back.1 u.after
+        popped_from at later u.frame u.below new2 then more back.1 u.after

@@ -2,4 +2,5 @@ pub mod LeanFrames
 pub mod Passes
 pub mod Shares
 pub mod Outside
+pub mod CallRows
 pub mod Stretches

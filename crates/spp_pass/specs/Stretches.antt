@@ -5,20 +5,18 @@ use Rattle.spp_maxplus.specs.declared.weights.Weights.{Weights}
 use Rattle.spp_maxplus.specs.Weights.{close}
 use Rattle.spp_dag.specs.declared.row.Row.{Row}
 use Rattle.spp_dag.specs.declared.stack.FrameKind.TheVariants.{Root}
-use Rattle.spp_dag.specs.Shares.{plus, zero_row}
-use Rattle.spp_dag.specs.Steps.{same_key}
-use Rattle.spp_site.specs.Rows.{Fits, frame_row}
+use Rattle.spp_dag.specs.Shares.{plus}
+use Rattle.spp_site.specs.Rows.{Fits}
 use Rattle.spp_site.specs.Marks.{with_mark}
 use Rattle.spp_site.specs.Table.{empty}
 use Rattle.spp_site.specs.Profiles.{key_row}
-use Rattle.spp_site.specs.declared.closed_frame.ClosedFrame.{ClosedFrame}
-use Rattle.spp_ways.specs.Enclosures.{Enclosure, is_top_caller, enclosed}
+use Rattle.spp_ways.specs.Enclosures.{Enclosure, is_top_caller}
 use Rattle.spp_ways.specs.Ways.{outruns}
 use Rattle.spp_ways.specs.declared.open_ways.OnPaths.{OnPaths}
 use Rattle.spp_pass.specs.declared.counted_frame.CountedFrame.{CountedFrame}
-use Rattle.spp_pass.specs.declared.closed_call.ClosedCall.{ClosedCall}
-use Rattle.spp_pass.specs.declared.counting.Popped.{Popped}
+use Rattle.spp_pass.specs.declared.calls.CallRow.{CallRow}
 use Rattle.spp_pass.specs.declared.counting.CountedStretch.{CountedStretch}
+use Rattle.spp_pass.specs.CallRows.{calls_row, AreCallsBelow}
 use Rattle.spp_pass.specs.Passes.{Seen, opened_frame, greater_child, caller_in, state_of, burdened_state_of, OnTop}
 
 -- ---- a stretch alone
@@ -117,32 +115,6 @@ with_frames of [] marks = marks
 with_frames of (r ∷ []) marks = marks
 with_frames of (f ∷ h ∷ fs) marks = with_mark (of f) (with_frames of (h ∷ fs) marks)
 
--- ---- the frames that close in it
-
-abbrev pub closed_in : ClosedCall → ClosedFrame
-closed_in c = record { local = c.local; work = c.work; span = c.span; top_site = c.top_site; top_caller = c.top_caller }
-
-abbrev pub call_of : Popped → ClosedCall
-call_of p = record {
-  local = p.closing.closed.local;
-  work = p.closing.closed.work;
-  span = p.closing.closed.span;
-  site = p.closing.site;
-  caller = p.caller;
-  top_site = p.closing.closed.top_site;
-  top_caller = p.closing.closed.top_caller;
-}
-
--- what they add to the row of a key
-abbrev pub calls_row : Enclosure → List ClosedCall → Option ℕ → Row
-calls_row e [] key = zero_row
-calls_row e (c ∷ cs) key = plus (calls_row e cs key) (cond (same_key (Some c.site) key) (frame_row (enclosed e c.site c.caller (closed_in c))) zero_row)
-
--- each was entered by a site below that
-abbrev pub AreCallsBelow : ℕ → List ClosedCall → Type 0
-AreCallsBelow n [] = Unit {0}
-AreCallsBelow n (c ∷ cs) = (c.site < n) × AreCallsBelow n cs
-
 -- ---- what was counted before it, with it
 
 -- on which paths the way through the child that waits in the stretch's outer frame r is greater than that through the one
@@ -165,7 +137,7 @@ FitPlaces before first [] = Unit {0}
 FitPlaces before first (f ∷ fs) = (before + f.before < 2 ^ 128) × (first + f.at < 2 ^ 32) × FitsPlace first f.child × FitsPlace first f.burdened_child × FitPlaces before first fs
 
 -- the stretch can be joined
-pub record CanJoin (first : ℕ) (fs : List CountedFrame) (outer : CountedFrame) (more : ℕ) (calls : List ClosedCall) (s : Seen) : Type 0 where
+pub record CanJoin (first : ℕ) (fs : List CountedFrame) (outer : CountedFrame) (more : ℕ) (calls : List CallRow) (s : Seen) : Type 0 where
   pub top : OnTop (λ g. FitsJoin outer g × ((key : Option ℕ) → Fits (plus (key_row s.table key) (calls_row (enclosure g s) calls key)))) s.frames
   pub work : s.work + more < 2 ^ 128
   pub sites : AreCallsBelow 65536 calls
@@ -173,7 +145,7 @@ pub record CanJoin (first : ℕ) (fs : List CountedFrame) (outer : CountedFrame)
 
 -- The stretch, which begins at `first` and has these frames, is joined onto what was counted, where g ∷ gs are open. Choices
 -- aren't told.
-pub record IsJoined (first : ℕ) (fs : List CountedFrame) (more : ℕ) (calls : List ClosedCall) (g : CountedFrame) (gs : List CountedFrame) (old new : Seen) : Type 0 where
+pub record IsJoined (first : ℕ) (fs : List CountedFrame) (more : ℕ) (calls : List CallRow) (g : CountedFrame) (gs : List CountedFrame) (old new : Seen) : Type 0 where
   pub frames : new.frames ≡ placed_frames (enclosure g old) old.work first fs g gs
   pub open_sites : (y : ℕ) → new.open_sites y ≡ with_frames (λ (f : CountedFrame). f.site) fs old.open_sites y
   pub open_funcs : (y : ℕ) → new.open_funcs y ≡ with_frames (λ (f : CountedFrame). f.func) fs old.open_funcs y

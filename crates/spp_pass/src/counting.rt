@@ -50,7 +50,7 @@ ghost use Rattle.spp_pass.specs.Outside.{
   IsShareSuspended,
 };
 
-use crate::closed_call::ClosedCall;
+use crate::calls::CallRow;
 use crate::counted_frame::CountedFrame;
 use spp_dag::{Figures, FrameKind};
 use spp_maxplus::{Burdens, Weights};
@@ -426,8 +426,8 @@ impl Counting {
     }
 
     /// Joins a stretch onto what there is, which stands before it: its first event is at the position `first`, and `calls`
-    /// are the frames that have closed in it. It takes constant time for each call and each frame that the stretch leaves open,
-    /// amortized.
+    /// are the rows of the frames that have closed in it. It takes constant time for each of these and for each frame that the
+    /// stretch leaves open, amortized.
     ///
     /// # Errors
     ///
@@ -435,7 +435,7 @@ impl Counting {
     pub fn join(
         &mut self,
         stretch: &CountedStretch,
-        calls: &[ClosedCall],
+        calls: &[CallRow],
         first: u32,
     ) -> Result<(), AllocError>
         requires { CanJoin first (frames_of stretch.now) stretch.now.outer stretch.now.work calls.now (seen_with self.old no_notes) }
@@ -448,8 +448,7 @@ impl Counting {
             direct: self.frames[last].top_func,
         };
         for call in calls {
-            let closed = enclosing.closed(call.site, call.caller, &call.closed());
-            self.table.close(call.site, &closed)?;
+            self.table.add(call.site, &call.within(&enclosing))?;
         }
         let outer = &mut self.frames[last];
         outer.join(&stretch.outer, first);

@@ -12,12 +12,12 @@
 //! part's end.
 #![tactic(auto)]
 
-mod closed_call;
+mod calls;
 mod counted_frame;
 mod counting;
 mod part;
 mod summing;
 
-pub use closed_call::ClosedCall;
+pub use calls::{CallRow, Calls};
 pub use counting::{Closing, CountedStretch, Counting, Ended, Popped};
 pub use part::{PartResult, run_part};

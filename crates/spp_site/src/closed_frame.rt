@@ -41,7 +41,7 @@ impl ClosedFrame {
 
     /// Adds its row. Sums to which it adds nothing aren't touched: most frames of a recursion are no top frames.
     #[inline(always)]
-    pub(crate) fn add_to(&self, row: &mut Row)
+    pub fn add_to(&self, row: &mut Row)
         requires { Fits (plus row.old (frame_row self.now)) }
         ensures { row.new ≡ plus row.old (frame_row self.now) }
     {

@@ -1,7 +1,7 @@
 use Rattle.std.proofs.Common.{◌≡◌, ℕ, suc, ◌+◌, ◌≤◌, Bool, false, List, [], ◌∷◌, ◌++◌, length, sym, ap, subst, ◌∙◌, arith}
 use Rattle.std.proofs.Common.{Vec}
 use Rattle.std.specs.Global.{Global}
-use Rattle.spp_pass.specs.declared.closed_call.ClosedCall.{ClosedCall}
+use Rattle.spp_pass.specs.declared.calls.CallRow.{CallRow}
 use Rattle.spp_pass.specs.Passes.{Seen, seen_with}
 use Rattle.spp_pass.specs.Stretches.{next_seen, next_frames, IsStretchOf}
 use Rattle.spp_pass.proofs.Alone.{Alone, alone_next}
@@ -27,8 +27,8 @@ returns c trace burdens first ahead =
     let then : b ≡ next_seen a = c.next_stretch-counted.ensures.begun is.notes in
     let told : IsStretchOf a c.next_stretch-counted.result = c.next_stretch-counted.ensures.ended one.0 one.1 in
     let ways = c.in_ok-logged.ensures in
-    let x : Stretch = record { counted = c.next_stretch-counted.result; calls = c.swap.new.y; logged = c.in_ok-logged.logged } in
-    let same = told_stretch a r.calls.items r.ways x told.0 told.1 (ap (λ (v : Vec ClosedCall Global). v.items) c.swap.ensures.y_after) ways.rows ways.frames in
+    let x : Stretch = record { counted = c.next_stretch-counted.result; calls = c.take-calls.result; logged = c.in_ok-logged.logged } in
+    let same = told_stretch a r.calls.rows.items r.ways x told.0 told.1 c.take-calls.ensures.rows ways.rows ways.frames in
     let e : EndedStretch = record { stretch = x; at = at; end = c.args.end } in
     let settled : settles c.args.end ≡ c.match-end.self = elim c.match-end.branch [ in-Return w ↦ ap settles w.in-Return.is ∙ sym w.self-is | in-Sync w ↦ ap settles w.in-Sync.is ∙ sym w.self-is ] in
     let pushed : c.push.new.self.items ≡ r.ended.items ++ e ∷ [] = c.in_ok-push.ensures.items in
@@ -39,8 +39,8 @@ returns c trace burdens first ahead =
       notes = is.notes;
       ended = subst (λ (s : Bool). Lead trace burdens first 0 false c.push.new.self.items (suc at) s) settled
           (subst (λ (l : List EndedStretch). Lead trace burdens first 0 false l (suc at) (settles c.args.end)) (sym pushed) lead);
-      going = subst (λ (l : List ClosedCall). IsGoing trace burdens first (suc at) (suc at) c.match-end.self b l c.next_stretch.new.self)
-          (sym (ap (λ (v : Vec ClosedCall Global). v.items) c.swap.ensures.x_after ∙ c.new-calls.ensures.items))
+      going = subst (λ (l : List CallRow). IsGoing trace burdens first (suc at) (suc at) c.match-end.self b l c.next_stretch.new.self)
+          (sym c.take-calls.ensures.none)
           (start_goes trace burdens is.bounds first (suc at) (let z : first + suc at ≤ length trace.records = omega arith in z) c.match-end.self b c.next_stretch.new.self
           (subst (Alone (suc at)) (sym then) (alone_next at (suc at) a one.0 one.1 is.going.alone)) (ap (λ (s : Seen). s.frames) then ∙ ap next_frames one.1) (ap (λ (s : Seen). s.work) then)
           ways.begun.0 ways.begun.1);

@@ -1,5 +1,5 @@
 use Rattle.std.proofs.Common.{◌≡◌, ◌+◌, ◌≤◌, false, List, length, refl, sym, ap, subst, arith}
-use Rattle.spp_pass.specs.declared.closed_call.ClosedCall.{ClosedCall}
+use Rattle.spp_pass.specs.declared.calls.CallRow.{CallRow}
 use Rattle.spp_pass.specs.Passes.{Seen, no_notes, seen_with}
 use Rattle.spp_pass.specs.Stretches.{stretch_seen}
 use Rattle.spp_pass.proofs.Alone.{Alone, alone_start}
@@ -19,7 +19,7 @@ returns c trace burdens first bounds within =
       to = 0;
       notes = no_notes;
       ended = subst (λ (l : List EndedStretch). Lead trace burdens first 0 false l 0 false) (sym c.new.ensures.items) (refl, refl);
-      going = subst (λ (l : List ClosedCall). IsGoing trace burdens first 0 0 false a l c.in_ok-stretch-2.field-0) (sym c.new-2.ensures.items)
+      going = subst (λ (l : List CallRow). IsGoing trace burdens first 0 0 false a l c.in_ok-stretch-2.field-0) (sym c.new-2.ensures)
           (start_goes trace burdens bounds first 0 (let z : first + 0 ≤ length trace.records = omega arith in z) false a c.in_ok-stretch-2.field-0 (subst (Alone 0) (sym is) alone_start)
           (ap (λ (s : Seen). s.frames) is) (ap (λ (s : Seen). s.work) is) w.0 w.1);
     }

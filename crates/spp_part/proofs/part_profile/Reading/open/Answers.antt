@@ -13,6 +13,6 @@ returns c trace burdens first event opens ahead =
       to = is.to;
       notes = is.notes;
       ended = is.ended;
-      going = open_goes trace burdens is.bounds first is.to c.args.at ahead.within r.settled (seen_with r.counting is.notes) r.calls.items r.ways is.going
+      going = open_goes trace burdens is.bounds first is.to c.args.at ahead.within r.settled (seen_with r.counting is.notes) r.calls.rows.items r.ways is.going
           (seen_with c.open.new.self is.notes) c.open-2.new.self c.args.kind c.args.site c.args.func event opens ahead.at (c.in_ok-open.ensures is.notes) (w.stretch is.going.last.laid) w.rows w.enclosed;
     }

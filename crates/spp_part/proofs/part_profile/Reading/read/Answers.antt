@@ -27,6 +27,6 @@ returns-in-Strand c trace first ahead =
       to = is.to;
       notes = is.notes;
       ended = is.ended;
-      going = strand_goes trace c.args.burdens is.bounds first is.to c.args.at ahead.within r.settled (seen_with r.counting is.notes) r.calls.items r.ways is.going
+      going = strand_goes trace c.args.burdens is.bounds first is.to c.args.at ahead.within r.settled (seen_with r.counting is.notes) r.calls.rows.items r.ways is.going
           (seen_with c.strand.new.self is.notes) c.strand-in-Strand.new.self c.in-Strand.count at (c.strand.ensures is.notes) (w.stretch is.going.last.laid) w.rows w.enclosed;
     }

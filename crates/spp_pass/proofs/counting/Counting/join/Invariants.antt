@@ -5,7 +5,8 @@ use Rattle.spp_site.specs.Marks.{is_marked}
 use Rattle.spp_ways.specs.Enclosures.{enclosure_of}
 use Rattle.spp_pass.specs.declared.counted_frame.CountedFrame.{CountedFrame}
 use Rattle.spp_pass.specs.Passes.{caller_in}
-use Rattle.spp_pass.specs.Stretches.{calls_row, placed_frames, with_frames}
+use Rattle.spp_pass.specs.CallRows.{calls_row}
+use Rattle.spp_pass.specs.Stretches.{placed_frames, with_frames}
 use Rattle.spp_pass.proofs.Joining.{Rest, upto}
 use Rattle.spp_pass.proofs.counting.Counting.join.Given as goal
 

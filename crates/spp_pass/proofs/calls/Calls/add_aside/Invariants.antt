@@ -1,0 +1,6 @@
+use Rattle.std.proofs.Common.{◌≡◌}
+use Rattle.spp_pass.proofs.calls.Calls.add_aside.Given as goal
+
+-- nothing has changed
+abbrev pub invariant-loop-step : goal.invariant-loop-step
+invariant-loop-step l = l.self ≡ l.fn.self

@@ -1,0 +1,288 @@
+//! The frames that close in a stretch of events.
+
+ghost use Rattle.std.specs.Prelude.{◌≡◌, ◌+◌, ◌*◌, ◌<◌, ◌≤◌, ◌^◌, ◌++◌, ◌∷◌, [], ℕ, length, get_or, IfSome, OnOk};
+ghost use Rattle.spp_dag.specs.Shares.{plus};
+ghost use Rattle.spp_site.specs.Rows.{Fits, frame_row};
+ghost use Rattle.spp_ways.specs.Enclosures.{enclosure_of};
+ghost use Rattle.spp_pass.specs.CallRows.{enclosed_sums, no_calls, AreAdded, AreLight, IsLightFrame};
+
+use spp_dag::Row;
+use spp_site::ClosedFrame;
+use spp_ways::Enclosing;
+use std::alloc::{AllocError, Global};
+use std::mem;
+
+/// What frames come to that were opened and have closed in a stretch of events of which it isn't known what encloses it: such
+/// as were entered by one call site, by callers that run one function.
+#[derive(Clone, Copy)]
+pub struct CallRow {
+    /// Their row in a table of the stretch alone.
+    pub row: Row,
+    /// The call site.
+    pub site: u32,
+    /// The function of their callers, or `OUTER_CALLER`.
+    pub caller: u32,
+}
+
+impl CallRow {
+    /// Their row in the table of a run in which this encloses the stretch.
+    #[inline(always)]
+    pub(crate) fn within(&self, enclosing: &Enclosing<'_>) -> Row
+        ensures { result ≡ enclosed_sums (enclosure_of enclosing.now) self.now.site self.now.caller self.now.row }
+    {
+        let top_site = enclosing.is_top_site(self.site);
+        let top_caller = enclosing.is_top_caller(self.caller);
+        let row = &self.row;
+        Row {
+            count: row.count,
+            local: row.local,
+            site_count: if top_site { row.site_count } else { 0 },
+            site_work: if top_site { row.site_work } else { 0 },
+            site_span: if top_site { row.site_span } else { 0 },
+            caller_count: if top_caller { row.caller_count } else { 0 },
+            caller_work: if top_caller { row.caller_work } else { 0 },
+            caller_span: if top_caller { row.caller_span } else { 0 },
+        }
+    }
+}
+
+/// Where a row may be found.
+#[derive(Clone, Copy)]
+struct Place {
+    /// The row's site.
+    site: u32,
+    /// Its callers' function; `NO_CALLER` where the place is free.
+    caller: u32,
+    /// Its number.
+    number: usize,
+}
+
+/// No function, and not `OUTER_CALLER`.
+const NO_CALLER: u32 = u32::MAX;
+
+/// The fewest places, where there are any, and the most.
+const FEWEST_PLACES: usize = 64;
+const MOST_PLACES: usize = 131_072;
+
+/// How many places in a row are looked at for a row.
+const PROBES: usize = 4;
+
+/// A place that is free.
+const FREE: Place = Place {
+    site: 0,
+    caller: NO_CALLER,
+    number: 0,
+};
+
+/// What the frames come to that were opened and have closed in a stretch so far: rows, in each of which are some of those of a
+/// call site and a callers' function. Most have one row alone.
+#[derive(Drop)]
+pub struct Calls {
+    /// The rows.
+    rows: Vec<CallRow>,
+    /// Places of rows, by a number that site and caller give; half of them are free, or there are the most. No row is told by
+    /// its place alone: where another has come to it, or none of those is free that are looked at, its site gets another row.
+    places: Vec<Place>,
+}
+
+/// The first place of the row of a site and a caller, where there are so many, a power of two.
+#[inline(always)]
+fn first_place(site: u32, caller: u32, places: usize) -> usize {
+    let mixed = (site ^ caller.wrapping_mul(0x9e37_79b1)).wrapping_mul(0x85eb_ca6b);
+    (mixed >> 15) as usize & places.wrapping_sub(1)
+}
+
+impl Calls {
+    /// No frames. It takes no memory.
+    pub fn new(alloc: Global) -> Self
+        ensures { result.rows.items ≡ [] }
+    {
+        Calls {
+            rows: Vec::new(alloc),
+            places: Vec::new(alloc),
+        }
+    }
+
+    /// The number of the row of a site and a caller, if it is at that place.
+    #[inline(always)]
+    fn at(&self, place: usize, site: u32, caller: u32) -> Option<usize>
+        ensures { IfSome result (λ k. (k < length self.now.rows.items) × ((get_or self.now.rows.items k no_calls).site ≡ site) × ((get_or self.now.rows.items k no_calls).caller ≡ caller)) }
+    {
+        let place = self.places.get(place)?;
+        if place.site != site || place.caller != caller {
+            return None;
+        }
+        let number = place.number;
+        let row = self.rows.get(number)?;
+        if row.site == site && row.caller == caller {
+            Some(number)
+        } else {
+            None
+        }
+    }
+
+    /// Adds a frame to the row of that number, which is of its site and its caller's function.
+    #[inline(always)]
+    fn add_at(&mut self, k: usize, frame: &ClosedFrame)
+        requires row { k < length self.old.rows.items }
+        requires light { (n : ℕ) × (n < 2 ^ 32) × AreLight n self.old.rows.items × IsLightFrame frame.now }
+        ensures added { AreAdded (get_or self.old.rows.items k no_calls).site (get_or self.old.rows.items k no_calls).caller frame.now self.old.rows.items self.new.rows.items }
+        ensures light { (n : ℕ) → AreLight n self.old.rows.items → IsLightFrame frame.now → AreLight (n + 1) self.new.rows.items }
+    {
+        frame.add_to(&mut self.rows[k].row);
+    }
+
+    /// Adds a frame that has closed, which was entered by that site from a caller that runs that function, or is the
+    /// outermost frame of the stretch (`OUTER_CALLER`). It takes constant time, amortized.
+    ///
+    /// # Errors
+    ///
+    /// Where an allocation failed.
+    #[inline(always)]
+    pub fn add(&mut self, site: u32, caller: u32, frame: &ClosedFrame) -> Result<(), AllocError>
+        requires { (n : ℕ) × (n < 2 ^ 32) × AreLight n self.old.rows.items × IsLightFrame frame.now }
+        ensures added { OnOk result (AreAdded site caller frame.now self.old.rows.items self.new.rows.items) }
+        ensures light { OnOk result ((n : ℕ) → AreLight n self.old.rows.items → IsLightFrame frame.now → AreLight (n + 1) self.new.rows.items) }
+    {
+        let place = first_place(site, caller, self.places.len());
+        if let Some(k) = self.at(place, site, caller) {
+            self.add_at(k, frame);
+            return Ok(());
+        }
+        self.add_aside(place, site, caller, frame)
+    }
+
+    /// The same, where no row is at that place.
+    #[inline(never)]
+    fn add_aside(
+        &mut self,
+        place: usize,
+        site: u32,
+        caller: u32,
+        frame: &ClosedFrame,
+    ) -> Result<(), AllocError>
+        requires { (n : ℕ) × (n < 2 ^ 32) × AreLight n self.old.rows.items × IsLightFrame frame.now }
+        ensures added { OnOk result (AreAdded site caller frame.now self.old.rows.items self.new.rows.items) }
+        ensures light { OnOk result ((n : ℕ) → AreLight n self.old.rows.items → IsLightFrame frame.now → AreLight (n + 1) self.new.rows.items) }
+    {
+        for step in 1..PROBES {
+            if let Some(k) = self.at(self.next(place, step), site, caller) {
+                self.add_at(k, frame);
+                return Ok(());
+            }
+        }
+        self.push(site, caller, frame)
+    }
+
+    /// The place so many steps behind.
+    #[inline(always)]
+    fn next(&self, place: usize, step: usize) -> usize {
+        place.wrapping_add(step) & self.places.len().wrapping_sub(1)
+    }
+
+    /// Adds a frame as a row behind the others.
+    ///
+    /// # Errors
+    ///
+    /// Where an allocation failed.
+    fn push(&mut self, site: u32, caller: u32, frame: &ClosedFrame) -> Result<(), AllocError>
+        ensures added { OnOk result (AreAdded site caller frame.now self.old.rows.items self.new.rows.items) }
+        ensures light { OnOk result ((n : ℕ) → AreLight n self.old.rows.items → IsLightFrame frame.now → AreLight (n + 1) self.new.rows.items) }
+    {
+        self.make_places()?;
+        let number = self.rows.len();
+        self.put(site, caller, number);
+        self.rows.push(CallRow {
+            row: frame.row(),
+            site,
+            caller,
+        })?;
+        Ok(())
+    }
+
+    /// Makes twice as many places, where half of them are taken.
+    ///
+    /// # Errors
+    ///
+    /// Where an allocation failed.
+    fn make_places(&mut self) -> Result<(), AllocError>
+        ensures { self.new.rows ≡ self.old.rows }
+    {
+        let places = self.places.len();
+        if places >= MOST_PLACES || places > self.rows.len().saturating_mul(2) {
+            return Ok(());
+        }
+        let count = places.saturating_mul(2).max(FEWEST_PLACES);
+        self.places.clear();
+        self.places.resize(count, FREE)?;
+        for number in 0..self.rows.len() {
+            let CallRow { site, caller, .. } = self.rows[number];
+            self.put(site, caller, number);
+        }
+        Ok(())
+    }
+
+    /// Whether a place is there, and free.
+    fn is_free(&self, place: usize) -> bool {
+        match self.places.get(place) {
+            Some(there) => there.caller == NO_CALLER,
+            None => false,
+        }
+    }
+
+    /// Notes where the row of that number is: at the first of its places that is free, or else at the first of all.
+    fn put(&mut self, site: u32, caller: u32, number: usize)
+        ensures { self.new.rows ≡ self.old.rows }
+    {
+        let first = first_place(site, caller, self.places.len());
+        let mut place = first;
+        for step in 0..PROBES {
+            let next = self.next(first, step);
+            if self.is_free(next) {
+                place = next;
+                break;
+            }
+        }
+        if let Some(there) = self.places.get_mut(place) {
+            *there = Place {
+                site,
+                caller,
+                number,
+            };
+        }
+    }
+
+    /// Frees the places of a row.
+    fn free(&mut self, row: &CallRow)
+        ensures { self.new.rows ≡ self.old.rows }
+    {
+        let first = first_place(row.site, row.caller, self.places.len());
+        for step in 0..PROBES {
+            let place = self.next(first, step);
+            if let Some(there) = self.places.get_mut(place) {
+                *there = FREE;
+            }
+        }
+    }
+
+    /// The rows of a stretch that ends; goes on with none. It takes constant time for each.
+    pub fn take(&mut self, alloc: Global) -> Vec<CallRow>
+        ensures rows { result.items ≡ self.old.rows.items }
+        ensures none { self.new.rows.items ≡ [] }
+    {
+        let mut rows = Vec::new(alloc);
+        mem::swap(&mut self.rows, &mut rows);
+        for row in &rows {
+            self.free(row);
+        }
+        rows
+    }
+
+    /// The rows.
+    pub fn into_rows(self) -> Vec<CallRow>
+        ensures { result.items ≡ self.rows.items }
+    {
+        let Calls { rows, .. } = self;
+        rows
+    }
+}
