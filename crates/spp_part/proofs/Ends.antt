@@ -1,5 +1,5 @@
 -- What has come so far, where the innermost frame waits or returns.
-use Rattle.std.proofs.Common.{◌≡◌, ℕ, suc, ◌+◌, ◌≤◌, ◌<◌, Bool, true, false, cond, List, [], ◌∷◌, length, Option, Some, None, is_some, refl, sym, ap, ap₂, subst, ◌∙◌, arith}
+use Rattle.std.proofs.Common.{◌≡◌, ℕ, suc, ◌+◌, ◌≤◌, ◌<◌, Bool, true, false, cond, List, [], ◌∷◌, length, Option, Some, None, refl, sym, ap, ap₂, subst, ◌∙◌, arith}
 use Rattle.spp_event.specs.Recordings.{Recording}
 use Rattle.spp_event.specs.declared.records.Event.TheVariants.{Ret, Sync}
 use Rattle.spp_maxplus.specs.declared.state.Burdens.{Burdens}
@@ -26,8 +26,8 @@ use Rattle.spp_pass.proofs.Keeping.{kept_return}
 use Rattle.spp_pass.proofs.Passed.{has_open, ready_return, root_stays, leans}
 use Rattle.spp_pass.proofs.RunReturns.{returned_seen, run_returns, with_row, is_added}
 use Rattle.spp_serial.proofs.Reading.{Led, has_one, has_two, site_in, returned_fits}
-use Rattle.spp_part.specs.States.{Both, IsEventAt}
-use Rattle.spp_part.specs.Parts.{HasNone, HasNoWay, IsSettled, Shows, Stands}
+use Rattle.spp_part.specs.States.{IsEventAt}
+use Rattle.spp_part.specs.Parts.{HasNone, HasNoWay, Stands}
 use Rattle.spp_part.proofs.Standing.{noted, now_led}
 
 -- which choices are noted doesn't matter

@@ -1,9 +1,8 @@
 -- What has come of all events of a run: its profile, or that frames are open at the end.
-use Rattle.std.proofs.Common.{◌≡◌, ℕ, ◌+◌, ◌≤◌, ◌<◌, ◌^◌, Bool, true, false, List, [], ◌∷◌, length, map, Option, sym, ap, subst, ◌∙◌, arith}
+use Rattle.std.proofs.Common.{◌≡◌, ℕ, ◌+◌, ◌≤◌, ◌<◌, ◌^◌, Bool, true, false, List, [], ◌∷◌, length, map, Option, sym, ◌∙◌, arith}
 use Rattle.std.proofs.lemmas.List.{length-map}
 use Rattle.spp_event.specs.Recordings.{Recording}
 use Rattle.spp_maxplus.specs.declared.state.Burdens.{Burdens}
-use Rattle.spp_maxplus.specs.State.{unburdened}
 use Rattle.spp_dag.specs.Figures.{AreFigures}
 use Rattle.spp_dag.proofs.OpenEntries.{AreOpen}
 use Rattle.spp_frame.specs.Answers.{IsFaultOf}

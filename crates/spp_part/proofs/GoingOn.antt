@@ -1,5 +1,5 @@
 -- How a stretch takes on what has come so far.
-use Rattle.std.proofs.Common.{◌≡◌, ℕ, suc, ◌+◌, ◌-◌, ◌*◌, ◌≤◌, ◌<◌, ◌^◌, Bool, true, false, cond, List, [], ◌∷◌, ◌++◌, length, reverse, drop, Option, refl, sym, ap, ap₂, subst, ◌∙◌, arith}
+use Rattle.std.proofs.Common.{◌≡◌, ℕ, ◌+◌, ◌-◌, ◌*◌, ◌≤◌, ◌<◌, ◌^◌, Bool, true, false, List, [], ◌∷◌, ◌++◌, length, reverse, drop, refl, sym, ap, subst, ◌∙◌, arith}
 use Rattle.std.proofs.lemmas.List.{reverse-append}
 use Rattle.std.specs.Global.{Box}
 use Rattle.spp_event.specs.Recordings.{Recording}
@@ -10,7 +10,7 @@ use Rattle.spp_ways.specs.declared.open_ways.OnPaths.{OnPaths}
 use Rattle.spp_ways.specs.declared.open_ways.FrameWays.{FrameWays}
 use Rattle.spp_ways.specs.declared.open_ways.OpenWays.{OpenWays}
 use Rattle.spp_ways.specs.Enclosures.{Enclosure}
-use Rattle.spp_ways.specs.Ways.{Way, Ways}
+use Rattle.spp_ways.specs.Ways.{Ways}
 use Rattle.spp_ways.specs.OpenWays.{AllWays, AreWays, IsLaid, on_path, path_of}
 use Rattle.spp_ways.specs.Stretches as stretches
 use Rattle.spp_ways.specs.Stretches.{AreEnclosed, IsBase, FitOwn, FitLast, joined_way, joined_list, stretch_rows, stretch_frames}
@@ -19,15 +19,14 @@ use Rattle.spp_pass.specs.declared.counted_frame.CountedFrame.{CountedFrame}
 use Rattle.spp_pass.specs.declared.calls.CallRow.{CallRow}
 use Rattle.spp_pass.specs.declared.counting.Counting.{Counting}
 use Rattle.spp_pass.specs.Passes.{Seen, no_notes, seen_with, OnTop}
-use Rattle.spp_pass.specs.Stretches.{enclosure, frames_of, child_wins, FitsJoin, CanJoin, IsJoined}
-use Rattle.spp_pass.proofs.Alone.{Alone}
+use Rattle.spp_pass.specs.Stretches.{enclosure, child_wins, FitsJoin, CanJoin, IsJoined}
 use Rattle.spp_pass.proofs.Joinable.{IsLastOf, last_of_reverse, can_join}
 use Rattle.spp_pass.proofs.Stretching.{joined_as}
 use Rattle.spp_serial.proofs.Low.{AreLow, top_fits}
 use Rattle.spp_serial.proofs.Reading.{Led}
 use Rattle.spp_part.specs.declared.stretch.Stretch.{Stretch}
 use Rattle.spp_part.specs.States.{Both, IsAt}
-use Rattle.spp_part.specs.Parts.{outer_of, StretchOf, AreJoined, IsJoinedOnto, Shows, Stands, GoesOn, stretch_of}
+use Rattle.spp_part.specs.Parts.{outer_of, StretchOf, AreJoined, IsJoinedOnto, Stands, GoesOn, stretch_of}
 use Rattle.spp_part.proofs.Leading.{led_at}
 use Rattle.spp_part.proofs.Standing.{joined_on, noted, now_led, few}
 

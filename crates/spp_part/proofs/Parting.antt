@@ -1,7 +1,7 @@
 -- How far a part has been joined: what has come so far, and the stretches that are left.
-use Rattle.std.proofs.Common.{◌≡◌, ℕ, suc, ◌+◌, ◌≤◌, ◌<◌, Bool, true, false, List, [], ◌∷◌, length, drop, get_or, Option, Some, None, sym, ap, subst, ◌∙◌, arith}
+use Rattle.std.proofs.Common.{◌≡◌, ℕ, suc, ◌+◌, ◌≤◌, ◌<◌, Bool, false, List, [], ◌∷◌, length, drop, get_or, Option, Some, None, sym, ap, subst, ◌∙◌, arith}
 use Rattle.std.proofs.Math.Seq.{drop-cons}
-use Rattle.spp_event.specs.Recordings.{Recording, record_at}
+use Rattle.spp_event.specs.Recordings.{Recording}
 use Rattle.spp_event.specs.declared.records.EventFault.{EventFault}
 use Rattle.spp_maxplus.specs.declared.state.Burdens.{Burdens}
 use Rattle.spp_frame.specs.Answers.{IsFaultOf}
@@ -11,11 +11,10 @@ use Rattle.spp_ways.specs.declared.open_ways.OpenWays.{OpenWays}
 use Rattle.spp_pass.specs.declared.counting.Counting.{Counting}
 use Rattle.spp_pass.proofs.Keeping.{kept_bad}
 use Rattle.spp_pass.proofs.Passed.{leans}
-use Rattle.spp_part.specs.declared.stretch.Stretch.{Stretch}
 use Rattle.spp_part.specs.declared.stretch.EndedStretch.{EndedStretch}
 use Rattle.spp_part.specs.declared.part_profile.PartProfile.{PartProfile}
 use Rattle.spp_part.specs.States.{IsEventAt}
-use Rattle.spp_part.specs.Parts.{Takes, Lead, IsCutOff, IsPartProfile, Stands, GoesOn, stretch_of, end_event, settles}
+use Rattle.spp_part.specs.Parts.{Lead, IsCutOff, IsPartProfile, Stands, GoesOn, end_event, settles}
 use Rattle.spp_part.proofs.Standing.{noted, now_led}
 
 -- the stretches lead on

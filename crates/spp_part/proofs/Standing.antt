@@ -1,18 +1,16 @@
 -- What has come so far: it is what a reading of the run has, which keeps its sums within bounds.
-use Rattle.std.proofs.Common.{◌≡◌, ℕ, ◌+◌, ◌≤◌, Bool, List, [], ◌∷◌, length, sym, ap, ap₂, subst, ◌∙◌, arith}
+use Rattle.std.proofs.Common.{◌≡◌, ℕ, ◌+◌, ◌≤◌, Bool, List, length, sym, ap, ap₂, subst, ◌∙◌, arith}
 use Rattle.spp_event.specs.Recordings.{Recording}
 use Rattle.spp_maxplus.specs.declared.state.Burdens.{Burdens}
 use Rattle.spp_ways.specs.declared.open_ways.OpenWays.{OpenWays}
 use Rattle.spp_ways.specs.Enclosures.{Enclosure}
-use Rattle.spp_ways.specs.Ways.{Ways}
 use Rattle.spp_pass.specs.declared.counted_frame.CountedFrame.{CountedFrame}
 use Rattle.spp_pass.specs.declared.calls.CallRow.{CallRow}
 use Rattle.spp_pass.specs.declared.counting.Counting.{Counting}
-use Rattle.spp_pass.specs.Passes.{Seen, Notes, no_notes, seen_with}
+use Rattle.spp_pass.specs.Passes.{Seen, no_notes, seen_with}
 use Rattle.spp_pass.specs.CallRows.{calls_row}
 use Rattle.spp_pass.specs.Stretches.{enclosure, placed_frames, with_frames, IsJoined}
 use Rattle.spp_pass.proofs.Alike.{AreAlike, same_passed}
-use Rattle.spp_site.specs.Profiles.{key_row}
 use Rattle.spp_dag.specs.Shares.{plus}
 use Rattle.spp_serial.proofs.Low.{AreLow}
 use Rattle.spp_serial.proofs.Reading.{Led}

@@ -12,7 +12,7 @@ use Rattle.spp_ways.specs.declared.open_ways.FrameWays.{FrameWays}
 use Rattle.spp_ways.specs.declared.open_ways.OpenWays.{OpenWays}
 use Rattle.spp_ways.specs.Ways.{Ways, no_way}
 use Rattle.spp_ways.specs.OpenWays.{on_path}
-use Rattle.spp_ways.specs.Enclosures.{Enclosure, enclosed}
+use Rattle.spp_ways.specs.Enclosures.{Enclosure}
 use Rattle.spp_ways.specs.Stretches.{IsStretch, AreEnclosed, AreStretchWays, enclosed_row, outer_row, outer_frame, joined_list}
 use Rattle.spp_ways.proofs.Bases.{base_of}
 use Rattle.spp_ways.proofs.Steps.{as_many}

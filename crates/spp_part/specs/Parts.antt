@@ -1,5 +1,5 @@
 -- What a part of a run comes to, wherever it stands.
-use Rattle.std.specs.Prelude.{◌≡◌, ℕ, suc, ◌+◌, ◌-◌, ◌≤◌, ◌<◌, Bool, true, false, List, [], ◌∷◌, length, reverse, Option, Some, None, Err}
+use Rattle.std.specs.Prelude.{◌≡◌, ℕ, suc, ◌+◌, ◌-◌, ◌≤◌, ◌<◌, Bool, true, false, List, [], ◌∷◌, length, Option, Some, None, Err}
 use Rattle.std.specs.Global.{Box}
 use Rattle.spp_event.specs.declared.records.EventFault.{EventFault}
 use Rattle.spp_event.specs.declared.records.Event.{Event}
@@ -17,7 +17,7 @@ use Rattle.spp_ways.specs.Stretches.{AreEnclosed, IsBase, IsStretch, joined_list
 use Rattle.spp_pass.specs.declared.counted_frame.CountedFrame.{CountedFrame}
 use Rattle.spp_pass.specs.declared.calls.CallRow.{CallRow}
 use Rattle.spp_pass.specs.declared.counting.Counting.{Counting}
-use Rattle.spp_pass.specs.Passes.{Seen, Notes, no_notes, seen_with}
+use Rattle.spp_pass.specs.Passes.{Seen, no_notes, seen_with}
 use Rattle.spp_pass.specs.CallRows.{AreCallsBelow}
 use Rattle.spp_pass.specs.Stretches.{stretch_frame, enclosure, frames_of, child_wins, IsJoined}
 use Rattle.spp_pass.proofs.Alone.{Alone}

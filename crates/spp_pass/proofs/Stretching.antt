@@ -1,5 +1,5 @@
 -- What a stretch comes to, joined onto what was counted before it, is what the run has counted at its end, event by event.
-use Rattle.std.proofs.Common.{◌≡◌, ℕ, ◌+◌, ◌<◌, Bool, true, false, cond, not, ◌&&◌, ◌||◌, nat_eq, List, [], ◌∷◌, ◌++◌, Option, Some, None, refl, sym, ap, subst, ◌∙◌, arith}
+use Rattle.std.proofs.Common.{◌≡◌, ℕ, ◌+◌, ◌<◌, Bool, true, false, cond, not, ◌&&◌, ◌||◌, nat_eq, List, [], ◌∷◌, Option, Some, None, refl, sym, ap, subst, ◌∙◌, arith}
 use Rattle.std.proofs.lemmas.Bool.{ne_eqb}
 use Rattle.spp_maxplus.specs.declared.state.Burdens.{Burdens}
 use Rattle.spp_dag.specs.declared.row.Row.{Row}
@@ -10,12 +10,12 @@ use Rattle.spp_site.specs.Rows.{frame_row}
 use Rattle.spp_site.specs.Table.{Sums, row_at, IsAdded}
 use Rattle.spp_site.specs.Profiles.{key_row}
 use Rattle.spp_site.specs.declared.closed_frame.ClosedFrame.{ClosedFrame}
-use Rattle.spp_site.proofs.Rows.{plus-zero, plus-assoc, plus-swap, plus-cond}
+use Rattle.spp_site.proofs.Rows.{plus-zero, plus-assoc, plus-cond}
 use Rattle.spp_site.proofs.Marked.{marked_less}
 use Rattle.spp_ways.specs.Enclosures.{Enclosure, outer_caller, is_top_caller, enclosed}
 use Rattle.spp_pass.specs.declared.counted_frame.CountedFrame.{CountedFrame}
 use Rattle.spp_pass.specs.declared.calls.CallRow.{CallRow}
-use Rattle.spp_pass.specs.Passes.{Seen, strand_seen, sync_seen, open_seen, popped_seen, opened_frame, open_frames, on_top, strand_frame, sync_frame, returned_frame, closed_of, closing_of, caller_in, Returns, IsReturned}
+use Rattle.spp_pass.specs.Passes.{Seen, strand_seen, sync_seen, open_seen, popped_seen, opened_frame, open_frames, on_top, strand_frame, sync_frame, returned_frame, closed_of, caller_in, Returns, IsReturned}
 use Rattle.spp_pass.specs.Stretches.{stretch_frame, enclosure, placed, joined, placed_frames, with_frames, IsJoined}
 use Rattle.spp_pass.specs.CallRows.{calls_row, call_row, AreAdded}
 use Rattle.spp_pass.proofs.Bounded.{turned}

@@ -1,9 +1,8 @@
 -- What a stretch of events comes to that is read where it isn't known which frames are open before it, and how it is
 -- joined onto what was counted before it.
-use Rattle.std.specs.Prelude.{◌≡◌, ℕ, ◌+◌, ◌<◌, ◌^◌, Bool, cond, not, ◌&&◌, max, true, false, is_some, List, reverse, drop, [], ◌∷◌, Option, Some, None, option_map}
+use Rattle.std.specs.Prelude.{◌≡◌, ℕ, ◌+◌, ◌<◌, ◌^◌, Bool, not, ◌&&◌, max, true, false, is_some, List, reverse, drop, [], ◌∷◌, Option, Some, None, option_map}
 use Rattle.spp_maxplus.specs.declared.weights.Weights.{Weights}
 use Rattle.spp_maxplus.specs.Weights.{close}
-use Rattle.spp_dag.specs.declared.row.Row.{Row}
 use Rattle.spp_dag.specs.declared.stack.FrameKind.TheVariants.{Root}
 use Rattle.spp_dag.specs.Shares.{plus}
 use Rattle.spp_site.specs.Rows.{Fits}

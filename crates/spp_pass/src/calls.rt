@@ -62,6 +62,7 @@ const NO_CALLER: u32 = u32::MAX;
 
 /// The fewest places, where there are any, and the most.
 const FEWEST_PLACES: usize = 64;
+
 const MOST_PLACES: usize = 131_072;
 
 /// How many places in a row are looked at for a row.

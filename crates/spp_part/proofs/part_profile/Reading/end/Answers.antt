@@ -1,6 +1,4 @@
 use Rattle.std.proofs.Common.{◌≡◌, ℕ, suc, ◌+◌, ◌≤◌, Bool, false, List, [], ◌∷◌, ◌++◌, length, sym, ap, subst, ◌∙◌, arith}
-use Rattle.std.proofs.Common.{Vec}
-use Rattle.std.specs.Global.{Global}
 use Rattle.spp_pass.specs.declared.calls.CallRow.{CallRow}
 use Rattle.spp_pass.specs.Passes.{Seen, seen_with}
 use Rattle.spp_pass.specs.Stretches.{next_seen, next_frames, IsStretchOf}

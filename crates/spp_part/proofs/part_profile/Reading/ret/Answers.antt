@@ -1,6 +1,5 @@
-use Rattle.std.proofs.Common.{◌≡◌, ℕ, suc, ◌+◌, ◌≤◌, ◌<◌, length, arith, List, [], ◌∷◌, ◌++◌, is_some, Option, Result, Ok, Err, OnOk, refl, sym, subst}
+use Rattle.std.proofs.Common.{◌≡◌, ℕ, suc, ◌+◌, ◌≤◌, ◌<◌, length, arith, List, ◌∷◌, is_some, Option, Result, Ok, Err, OnOk, refl, sym, subst}
 use Rattle.spp_pass.specs.declared.counted_frame.CountedFrame.{CountedFrame}
-use Rattle.spp_pass.specs.declared.calls.CallRow.{CallRow}
 use Rattle.spp_pass.specs.declared.counting.Popped.{Popped}
 use Rattle.spp_pass.specs.CallRows.{AreAdded, AreLight, IsLightFrame}
 use Rattle.spp_pass.specs.Passes.{Seen, Notes, noted_return, seen_with, closing_of, closed_of, caller_in, IsPopped, Pops}
@@ -8,7 +7,7 @@ use Rattle.spp_pass.proofs.CallRows.{closed_light}
 use Rattle.spp_part.specs.declared.part_profile.Reading.{Reading}
 use Rattle.spp_event.specs.declared.records.Event.TheVariants.{Ret}
 use Rattle.spp_pass.specs.declared.counting.Counting.{Counting}
-use Rattle.spp_part.specs.Readings.{IsGoing, IsAhead}
+use Rattle.spp_part.specs.Readings.{IsAhead}
 use Rattle.spp_part.proofs.Going.{pop_goes}
 use Rattle.spp_part.proofs.Readings.{is_out}
 use Rattle.spp_part.proofs.part_profile.Reading.ret.Goals as goal
@@ -42,7 +41,7 @@ returns c trace first ahead =
     let same : told ≡ record { closing = closing_of c.args.burdens a.work out.frame out.parent; caller = caller_in (out.parent ∷ out.below) } = out.popped in
     let added = subst (λ (t : Popped). AreAdded t.closing.site t.caller t.closing.closed r.calls.rows.items c.add.new.self.rows.items) same c.in_ok-add.ensures.added in
     let light : AreLight (suc at) c.add.new.self.rows.items = subst (λ n. AreLight n c.add.new.self.rows.items) (let z : at + 1 ≡ suc at = omega arith in z)
-        (c.in_ok-add.ensures.light at is.going.light (subst (λ (t : Popped). IsLightFrame t.closing.closed) (sym same) closes)) in
+    (c.in_ok-add.ensures.light at is.going.light (subst (λ (t : Popped). IsLightFrame t.closing.closed) (sym same) closes)) in
     record {
       bounds = is.bounds;
       to = is.to;

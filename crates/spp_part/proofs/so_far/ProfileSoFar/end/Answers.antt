@@ -1,5 +1,4 @@
-use Rattle.std.proofs.Common.{◌≡◌, suc, true, false, Option, Some, is_some, sym, ap, subst, ◌∙◌}
-use Rattle.spp_event.specs.declared.records.Event.TheVariants.{Ret, Sync as SyncEvent}
+use Rattle.std.proofs.Common.{suc, Option, is_some, sym, ap, subst}
 use Rattle.spp_frame.specs.Answers.{IsFaultOf}
 use Rattle.spp_frame.specs.declared.profile_fault.ProfileFault.{ProfileFault}
 use Rattle.spp_pass.specs.declared.counting.Closing.{Closing}

@@ -1,4 +1,4 @@
-use Rattle.std.proofs.Common.{◌≡◌, ℕ, ◌+◌, ◌≤◌, ◌<◌, true, false, length, sym, subst, arith}
+use Rattle.std.proofs.Common.{◌≡◌, true, false, length, sym, subst, arith}
 use Rattle.spp_frame.specs.Answers.{IsFaultOf}
 use Rattle.spp_frame.specs.declared.profile_fault.ProfileFault.{ProfileFault}
 use Rattle.spp_frame.specs.declared.profile_fault.ProfileFault.TheVariants.{Bad}

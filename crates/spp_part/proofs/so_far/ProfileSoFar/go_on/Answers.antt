@@ -1,4 +1,4 @@
-use Rattle.std.proofs.Common.{◌≡◌, ◌∙◌, sym, subst}
+use Rattle.std.proofs.Common.{◌∙◌, sym, subst}
 use Rattle.spp_ways.specs.Enclosures.{enclosure_of}
 use Rattle.spp_pass.specs.Stretches.{frames_of, CanJoin, IsJoined}
 use Rattle.spp_pass.specs.Passes.{no_notes, seen_with}

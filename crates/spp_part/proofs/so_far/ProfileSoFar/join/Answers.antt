@@ -1,4 +1,4 @@
-use Rattle.std.proofs.Common.{◌≡◌, ℕ, suc, ◌+◌, ◌≤◌, ◌<◌, ◌^◌, false, None, Some, List, [], ◌∷◌, length, drop, OnOk, IfErr, sym, ap, subst, ◌∙◌, arith}
+use Rattle.std.proofs.Common.{◌≡◌, ℕ, suc, ◌+◌, ◌<◌, false, None, List, [], ◌∷◌, length, drop, OnOk, IfErr, sym, ap, subst, ◌∙◌, arith}
 use Rattle.std.proofs.Math.ListN.{drop_of_length-le}
 use Rattle.spp_event.specs.Recordings.{Recording}
 use Rattle.spp_frame.specs.Answers.{IsFaultOf}

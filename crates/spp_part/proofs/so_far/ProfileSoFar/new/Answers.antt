@@ -1,7 +1,7 @@
-use Rattle.std.proofs.Common.{◌≡◌, ℕ, Bool, List, [], ◌∷◌, ap, refl, ◌∙◌, arith}
+use Rattle.std.proofs.Common.{◌≡◌, [], ◌∷◌, ap, refl, ◌∙◌, arith}
 use Rattle.spp_event.specs.Recordings.{Recording}
 use Rattle.spp_site.specs.Profiles.{key_row}
-use Rattle.spp_ways.specs.Ways.{Ways, no_ways}
+use Rattle.spp_ways.specs.Ways.{no_ways}
 use Rattle.spp_pass.specs.Passes.{Seen, no_notes, seen_with, start_seen}
 use Rattle.spp_part.proofs.so_far.ProfileSoFar.new.Goals as goal
 

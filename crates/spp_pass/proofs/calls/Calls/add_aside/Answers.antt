@@ -1,6 +1,6 @@
-use Rattle.std.proofs.Common.{◌≡◌, ◌+◌, ℕ, List, OnOk, Ok, Err, Result, refl, sym, ap, subst}
+use Rattle.std.proofs.Common.{OnOk, Ok, Err, Result, sym, subst}
 use Rattle.spp_pass.specs.declared.calls.Calls.{Calls}
-use Rattle.spp_pass.specs.CallRows.{AreLight, IsLightFrame}
+use Rattle.spp_pass.specs.CallRows.{AreLight}
 use Rattle.spp_pass.proofs.calls.Calls.add_aside.Goals as goal
 
 pub returns-in-Some-clause-light : goal.returns-in-Some-clause-light

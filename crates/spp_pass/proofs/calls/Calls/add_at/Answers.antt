@@ -1,10 +1,9 @@
-use Rattle.std.proofs.Common.{◌≡◌, ◌+◌, ◌<◌, ◌^◌, ℕ, zero, suc, List, [], ◌∷◌, length, get_or, set, refl, sym, ap, subst, ◌∙◌, arith}
-use Rattle.spp_dag.specs.declared.row.Row.{Row}
+use Rattle.std.proofs.Common.{◌≡◌, ◌+◌, ◌<◌, ℕ, zero, suc, List, [], ◌∷◌, length, get_or, set, refl, sym, ap, subst, ◌∙◌, arith}
 use Rattle.spp_dag.specs.Shares.{plus}
-use Rattle.spp_site.specs.Rows.{Fits, frame_row}
+use Rattle.spp_site.specs.Rows.{frame_row}
 use Rattle.spp_site.specs.declared.closed_frame.ClosedFrame.{ClosedFrame}
 use Rattle.spp_pass.specs.declared.calls.CallRow.{CallRow}
-use Rattle.spp_pass.specs.CallRows.{no_calls, AreAdded, IsLight, AreLight, IsLightFrame}
+use Rattle.spp_pass.specs.CallRows.{no_calls, AreAdded, IsLight, AreLight}
 use Rattle.spp_pass.proofs.CallRows.{with_frame, set_added, set_light, light_at, light_more, light_fits}
 use Rattle.spp_pass.proofs.calls.Calls.add_at.Goals as goal
 

@@ -1,8 +1,8 @@
-use Rattle.std.proofs.Common.{◌≡◌, ◌+◌, ◌<◌, ◌++◌, ◌∷◌, [], ℕ, List, refl, sym, ap, ap₂, subst, ◌∙◌}
+use Rattle.std.proofs.Common.{◌≡◌, ◌+◌, ◌++◌, ◌∷◌, [], ℕ, List, sym, ap, ap₂, subst, ◌∙◌}
 use Rattle.spp_dag.specs.declared.row.Row.{Row}
 use Rattle.spp_site.specs.Rows.{frame_row}
 use Rattle.spp_pass.specs.declared.calls.CallRow.{CallRow}
-use Rattle.spp_pass.specs.CallRows.{AreAdded, AreLight, IsLightFrame}
+use Rattle.spp_pass.specs.CallRows.{AreAdded, AreLight}
 use Rattle.spp_pass.proofs.CallRows.{more_added, push_light}
 use Rattle.spp_pass.proofs.calls.Calls.push.Goals as goal
 
