@@ -16,7 +16,7 @@ use Rattle.spp_pass.specs.declared.counted_frame.CountedFrame.{CountedFrame}
 use Rattle.spp_pass.specs.declared.calls.CallRow.{CallRow}
 use Rattle.spp_pass.specs.declared.counting.CountedStretch.{CountedStretch}
 use Rattle.spp_pass.specs.CallRows.{calls_row, AreCallsBelow}
-use Rattle.spp_pass.specs.Passes.{Seen, opened_frame, greater_child, caller_in, state_of, burdened_state_of, OnTop}
+use Rattle.spp_pass.specs.Passes.{Seen, opened_frame, strand_frame, greater_child, caller_in, state_of, burdened_state_of, OnTop}
 
 -- ---- a stretch alone
 
@@ -44,6 +44,10 @@ frames_of s = reverse (s.outer ∷ drop 1 s.frames.items)
 -- where it ends and leaves these frames open
 abbrev pub IsStretchOf : Seen → CountedStretch → Type 0
 IsStretchOf s x = (frames_of x ≡ s.frames) × (x.work ≡ s.work)
+
+-- it is strands of so many instructions together, and nothing else
+abbrev pub IsStrand : ℕ → CountedStretch → Type 0
+IsStrand n x = (frames_of x ≡ strand_frame n stretch_frame ∷ []) × (x.work ≡ n)
 
 -- where it ends and leaves its outer frame alone open, and the next begins
 abbrev pub IsEndedStretch : Seen → CountedStretch → Type 0

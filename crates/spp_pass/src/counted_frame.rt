@@ -1,6 +1,6 @@
 //! An open frame as the pass has it, and what the events that belong to it do to it.
 
-ghost use Rattle.std.specs.Prelude.{◌≡◌, ◌+◌, ◌<◌, ◌≤◌, ◌^◌, OnOk};
+ghost use Rattle.std.specs.Prelude.{◌≡◌, ◌+◌, ◌<◌, ◌≤◌, ◌^◌, true, OnOk};
 ghost use Rattle.spp_dag.specs.Shares.{plus};
 ghost use Rattle.spp_dag.specs.Steps.{strand_row};
 ghost use Rattle.spp_site.specs.Rows.{Fits};
@@ -45,7 +45,7 @@ pub(crate) struct Returned {
 }
 
 /// An open frame.
-#[derive(Clone, Copy)]
+#[derive(Clone, Copy, PartialEq, Eq)]
 pub(crate) struct CountedFrame {
     /// Its weights without burdens; `plain.child` is 0 where no child waits.
     pub(crate) plain: Weights,
@@ -118,6 +118,16 @@ impl CountedFrame {
             top_caller: true,
             top_func: true,
         }
+    }
+
+    /// Whether it is the one that stands for the frame in which a stretch begins, behind strands of so many instructions and
+    /// nothing else.
+    pub(crate) fn is_strand(&self, count: u64) -> bool
+        ensures { result ≡ true → self.now ≡ strand_frame count stretch_frame }
+    {
+        let mut strand = CountedFrame::outer();
+        strand.strand(count);
+        *self == strand
     }
 
     /// A strand of that many instructions.

@@ -1,6 +1,6 @@
 //! The open frames of a run with their weights, and the frames that have closed by call site, as its events come.
 
-ghost use Rattle.std.specs.Prelude.{◌≡◌, ◌+◌, ◌<◌, ◌≤◌, ◌^◌, ◌∷◌, ℕ, List, length, None, is_some, OnOk, IfOk};
+ghost use Rattle.std.specs.Prelude.{◌≡◌, ◌+◌, ◌<◌, ◌≤◌, ◌^◌, ◌∷◌, ℕ, List, length, None, is_some, IfSome, OnOk, IfOk};
 ghost use Rattle.spp_dag.specs.declared.stack.EntryFrame.{EntryFrame as FrameValue};
 ghost use Rattle.spp_stack.specs.Chain.{HasFrames};
 ghost use Rattle.spp_pass.specs.Passes.{
@@ -37,6 +37,7 @@ ghost use Rattle.spp_pass.specs.Stretches.{
   enclosure,
   FitsJoin,
   IsStretchOf,
+  IsStrand,
   IsEndedStretch,
   CanJoin,
   IsJoined,
@@ -106,6 +107,22 @@ pub struct CountedStretch {
     frames: Vec<CountedFrame>,
     /// The counts of its strands.
     work: u128,
+}
+
+impl CountedStretch {
+    /// The instructions of its strands, if it is strands alone and they are fewer than 2^64.
+    pub fn strand(&self) -> Option<u64>
+        ensures { IfSome result (λ n. IsStrand n self.now) }
+    {
+        let Ok(count) = u64::try_from(self.work) else {
+            return None;
+        };
+        if self.frames.len() < 2 && self.outer.is_strand(count) {
+            Some(count)
+        } else {
+            None
+        }
+    }
 }
 
 /// The open frames of a run with their weights, and the rows of the frames that have closed, between two events.

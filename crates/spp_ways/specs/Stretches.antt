@@ -61,6 +61,13 @@ outer_ways = record { along = record { rows = 1; own = 0 }; through = nothing }
 abbrev pub outer_frame : FrameWays
 outer_frame = record { plain = outer_ways; burdened = outer_ways; start = 1; stored = 0; limit = 0 }
 
+-- and behind strands of so many instructions and nothing else
+abbrev pub strand_outer_ways : ℕ → LoggedWays
+strand_outer_ways n = record { along = record { rows = 1; own = n }; through = nothing }
+
+abbrev pub strand_outer_frame : ℕ → FrameWays
+strand_outer_frame n = record { plain = strand_outer_ways n; burdened = strand_outer_ways n; start = 1; stored = 0; limit = 0 }
+
 -- What the ways of a stretch with these rows and these frames, outermost first, are on one of both paths, the outermost
 -- beginning with those of the way into the outer frame before the stretch, which come to the sums of `base`.
 abbrev pub AreEnclosed : Bool → Enclosure → Box Merged → List LogRow → List FrameWays → List Ways → Type 0
@@ -75,6 +82,10 @@ stretch_rows s = outer_row ∷ drop 1 s.log.rows.items
 
 abbrev pub stretch_frames : LoggedStretch → List FrameWays
 stretch_frames s = s.outer ∷ drop 1 s.frames.items
+
+-- it is strands of so many instructions together, and nothing else
+abbrev pub IsStrand : ℕ → LoggedStretch → Type 0
+IsStrand n s = (stretch_rows s ≡ outer_row ∷ []) × (stretch_frames s ≡ strand_outer_frame n ∷ [])
 
 -- no row was merged, and none but the first stands for the way before the stretch
 abbrev pub ArePlain : List LogRow → Type 0

@@ -273,6 +273,13 @@ impl Log {
         self.rows.len() as u32
     }
 
+    /// Whether there is no row behind the first.
+    pub(crate) fn is_short(&self) -> bool
+        ensures { result ≡ true → length self.now.rows.items < 2 }
+    {
+        self.rows.len() < 2
+    }
+
     /// Keeps the first rows alone, so many.
     #[inline(always)]
     pub(crate) fn cut(&mut self, to: u32)

@@ -36,11 +36,13 @@ ghost use Rattle.spp_ways.specs.Stretches.{
   IsBase,
   outer_row,
   outer_frame,
+  strand_outer_frame,
   AreStretchWays,
   AreEnclosed,
   stretch_rows,
   stretch_frames,
   IsStretch,
+  IsStrand,
   joined_ways,
   joined_frame,
   joined_list,
@@ -68,7 +70,7 @@ pub struct OnPaths {
 }
 
 /// A way into an open frame.
-#[derive(Clone, Copy)]
+#[derive(Clone, Copy, PartialEq, Eq)]
 struct LoggedWay {
     /// Where it ends in the log.
     rows: u32,
@@ -87,7 +89,7 @@ impl LoggedWay {
 }
 
 /// The two ways into an open frame on one path.
-#[derive(Clone, Copy)]
+#[derive(Clone, Copy, PartialEq, Eq)]
 struct LoggedWays {
     /// Along the frame itself.
     along: LoggedWay,
@@ -206,7 +208,7 @@ impl LoggedWays {
 }
 
 /// An open frame as far as its ways go.
-#[derive(Clone, Copy)]
+#[derive(Clone, Copy, PartialEq, Eq)]
 struct FrameWays {
     /// On the path without burdens.
     plain: LoggedWays,
@@ -249,6 +251,16 @@ impl FrameWays {
             stored: 0,
             limit: 0,
         }
+    }
+
+    /// Whether it is that one behind strands of so many instructions and nothing else.
+    fn is_strand(&self, count: u64) -> bool
+        ensures { result ≡ true → self.now ≡ strand_outer_frame count }
+    {
+        let mut strand = FrameWays::outer();
+        strand.plain.along.own = u128::from(count);
+        strand.burdened.along.own = u128::from(count);
+        *self == strand
     }
 
     /// The frame of a stretch, in the log onto which the stretch is joined.
@@ -329,6 +341,15 @@ pub struct LoggedStretch {
     frames: Vec<FrameWays>,
     /// The rows, the first of which stands for the way into the outer frame before the stretch; none where there is no other.
     log: Log,
+}
+
+impl LoggedStretch {
+    /// Whether the stretch is strands of so many instructions alone, as far as its ways tell.
+    pub fn is_strand(&self, count: u64) -> bool
+        ensures { result ≡ true → IsStrand count self.now }
+    {
+        self.log.is_short() && self.frames.len() < 2 && self.outer.is_strand(count)
+    }
 }
 
 /// Whether the way through a frame of that kind, which returns, is kept on either path.
