@@ -1,34 +1,42 @@
 -- How a stretch takes on what has come so far.
-use Rattle.std.proofs.Common.{◌≡◌, ℕ, ◌+◌, ◌-◌, ◌*◌, ◌≤◌, ◌<◌, ◌^◌, Bool, true, false, List, [], ◌∷◌, ◌++◌, length, reverse, drop, refl, sym, ap, subst, ◌∙◌, arith}
+use Rattle.std.proofs.Common.{◌≡◌, ℕ, ◌+◌, ◌-◌, ◌*◌, ◌≤◌, ◌<◌, ◌^◌, max, Bool, true, false, Option, List, [], ◌∷◌, ◌++◌, length, reverse, drop, refl, sym, ap, subst, ◌∙◌, arith}
 use Rattle.std.proofs.lemmas.List.{reverse-append}
 use Rattle.std.specs.Global.{Box}
 use Rattle.spp_event.specs.Recordings.{Recording}
 use Rattle.spp_maxplus.specs.declared.state.Burdens.{Burdens}
+use Rattle.spp_maxplus.specs.Weights.{close}
+use Rattle.spp_dag.specs.Shares.{plus, zero_row}
+use Rattle.spp_site.specs.Profiles.{key_row}
+use Rattle.spp_site.proofs.Rows.{zero-plus}
 use Rattle.spp_ways.specs.declared.log.Merged.{Merged}
 use Rattle.spp_ways.specs.declared.log.LogRow.{LogRow}
 use Rattle.spp_ways.specs.declared.open_ways.OnPaths.{OnPaths}
 use Rattle.spp_ways.specs.declared.open_ways.FrameWays.{FrameWays}
 use Rattle.spp_ways.specs.declared.open_ways.OpenWays.{OpenWays}
 use Rattle.spp_ways.specs.Enclosures.{Enclosure}
-use Rattle.spp_ways.specs.Ways.{Ways}
-use Rattle.spp_ways.specs.OpenWays.{AllWays, AreWays, IsLaid, on_path, path_of}
+use Rattle.spp_ways.specs.Logs.{merged_on}
+use Rattle.spp_ways.specs.Ways.{Ways, rows_at, strand_ways}
+use Rattle.spp_ways.specs.OpenWays.{AllWays, AreWays, IsLaid, FitStrand, FitTopStrand, strand_list, on_path, path_of}
 use Rattle.spp_ways.specs.Stretches as stretches
-use Rattle.spp_ways.specs.Stretches.{AreEnclosed, IsBase, FitOwn, FitLast, joined_way, joined_list, stretch_rows, stretch_frames}
+use Rattle.spp_ways.specs.Stretches.{AreEnclosed, IsBase, FitOwn, FitLast, outer_row, strand_outer_frame, joined_way, joined_list, stretch_frames}
 use Rattle.spp_ways.proofs.Bases.{base_of}
+use Rattle.spp_ways.proofs.Steps.{strand_fits}
 use Rattle.spp_pass.specs.declared.counted_frame.CountedFrame.{CountedFrame}
 use Rattle.spp_pass.specs.declared.calls.CallRow.{CallRow}
 use Rattle.spp_pass.specs.declared.counting.Counting.{Counting}
-use Rattle.spp_pass.specs.Passes.{Seen, no_notes, seen_with, OnTop}
-use Rattle.spp_pass.specs.Stretches.{enclosure, child_wins, FitsJoin, CanJoin, IsJoined}
+use Rattle.spp_pass.specs.Passes.{Seen, no_notes, seen_with, strand_frame, strand_seen, OnTop, CanAdd, FitsStrand}
+use Rattle.spp_pass.specs.Stretches.{stretch_frame, stretch_seen, enclosure, child_wins, FitsJoin, CanJoin, IsJoined}
 use Rattle.spp_pass.proofs.Joinable.{IsLastOf, last_of_reverse, can_join}
-use Rattle.spp_pass.proofs.Stretching.{joined_as}
+use Rattle.spp_pass.proofs.Alone.{alone_start}
+use Rattle.spp_pass.proofs.Stretching.{joined_as, follows_start, follows_strand}
+use Rattle.spp_serial.proofs.Low as sums
 use Rattle.spp_serial.proofs.Low.{AreLow, top_fits}
 use Rattle.spp_serial.proofs.Reading.{Led}
 use Rattle.spp_part.specs.declared.stretch.Stretch.{Stretch}
 use Rattle.spp_part.specs.States.{Both, IsAt}
-use Rattle.spp_part.specs.Parts.{outer_of, StretchOf, AreJoined, IsJoinedOnto, Stands, GoesOn, stretch_of}
+use Rattle.spp_part.specs.Parts.{outer_of, StretchOf, AreJoined, IsJoinedOnto, Stands, GoesOn, stretch_of, strand_of}
 use Rattle.spp_part.proofs.Leading.{led_at}
-use Rattle.spp_part.proofs.Standing.{joined_on, noted, now_led, few}
+use Rattle.spp_part.proofs.Standing.{joined_on, noted, state_led, now_led, few}
 
 -- ---- the outer frame
 
@@ -98,12 +106,9 @@ plain_can first fs outer more calls c s h = record { top = h.top; work = h.work;
 
 -- ---- the step
 
-module _ (trace : Recording) (burdens : Burdens) (first i j : ℕ) (settled : Bool) (c : Counting) (o : OpenWays) (x : Stretch) (st : Stands trace burdens i settled c o) (go : GoesOn trace burdens first i j settled x) where
+module _ (trace : Recording) (burdens : Burdens) (first i j : ℕ) (settled : Bool) (c : Counting) (o : OpenWays) (whole : StretchOf) (st : Stands trace burdens i settled c o) (go : GoesOn trace burdens first i j settled whole) where
   abbrev now : Seen
   now = seen_with c no_notes
-
-  abbrev whole : StretchOf
-  whole = stretch_of x
 
   abbrev new : Seen
   new = (go.0.on st.state st.ways st.at st.none).0
@@ -114,11 +119,14 @@ module _ (trace : Recording) (burdens : Burdens) (first i j : ℕ) (settled : Bo
   pub at : IsAt trace burdens j new then
   at = (go.0.on st.state st.ways st.at st.none).2
 
-  few_j : j ≤ 268435456
+  pub few_j : j ≤ 268435456
   few_j = let a = go.2 in let b = st.limits.events in omega arith
 
-  new_led : Led trace burdens j new then
+  pub new_led : Led trace burdens j new then
   new_led = led_at trace burdens st.light st.limits.events j go.2 new then at
+
+  pub work_small : new.work ≤ 4951760157141521099596496896
+  work_small = let a : new.work ≤ 18446744073709551615 * j = new_led.passed.reached.small in let b = few_j in omega arith
 
   -- the innermost frame before it, and what the stretch makes of it
   pub record Onto : Type 0 where
@@ -144,33 +152,28 @@ module _ (trace : Recording) (burdens : Burdens) (first i j : ℕ) (settled : Bo
   abbrev g : CountedFrame
   g = onto.top
 
-  pub last : IsLastOf x.counted.outer whole.frames
-  last = last_of_reverse x.counted.outer (drop 1 x.counted.frames.items)
-
-  pub outer_is : outer_of whole.frames ≡ x.counted.outer
-  outer_is = outer_last x.counted.outer whole.frames last
-
   -- it can be joined
-  pub can : CanJoin first whole.frames x.counted.outer x.counted.work x.calls.items now
-  can =
-      let a = go.0.alone in
-      let k : first + (j - first) ≤ 268435456 = (let p = few_j in let q = go.1 in let r = go.0.forward in omega arith) in
-      let joined = joined_as first whole.frames a.0.frames whole.work whole.calls g onto.below now new (sym a.2) onto.joined in
-      let moved : IsJoined first a.0.frames a.0.work whole.calls g onto.below now new = subst (λ w. IsJoined first a.0.frames w whole.calls g onto.below now new) (sym a.3) joined in
-      let all = can_join trace burdens first (j - first) i j a.0 (noted c st.state) new x.calls.items g onto.below x.counted.outer (few trace burdens i settled c o st) few_j k go.0.calls onto.is (subst (IsLastOf x.counted.outer) (sym a.2) last)
-      (now_led trace burdens i settled c o st).passed new_led.passed a.1 (noted_joined first a.0.frames a.0.work whole.calls g onto.below c st.state new moved) in
-      plain_can first whole.frames x.counted.outer x.counted.work x.calls.items c st.state
-      (subst (λ (fs : List CountedFrame). CanJoin first fs x.counted.outer x.counted.work x.calls.items (noted c st.state)) a.2 (subst (λ w. CanJoin first a.0.frames x.counted.outer w x.calls.items (noted c st.state)) a.3 all))
+  module _ (outer : CountedFrame) (last : IsLastOf outer whole.frames) where
+    pub can_join_it : CanJoin first whole.frames outer whole.work whole.calls now
+    can_join_it =
+        let a = go.0.alone in
+        let k : first + (j - first) ≤ 268435456 = (let p = few_j in let q = go.1 in let r = go.0.forward in omega arith) in
+        let joined = joined_as first whole.frames a.0.frames whole.work whole.calls g onto.below now new (sym a.2) onto.joined in
+        let moved : IsJoined first a.0.frames a.0.work whole.calls g onto.below now new = subst (λ w. IsJoined first a.0.frames w whole.calls g onto.below now new) (sym a.3) joined in
+        let all = can_join trace burdens first (j - first) i j a.0 (noted c st.state) new whole.calls g onto.below outer (few trace burdens i settled c o st) few_j k go.0.calls onto.is (subst (IsLastOf outer) (sym a.2) last)
+        (now_led trace burdens i settled c o st).passed new_led.passed a.1 (noted_joined first a.0.frames a.0.work whole.calls g onto.below c st.state new moved) in
+        plain_can first whole.frames outer whole.work whole.calls c st.state
+        (subst (λ (fs : List CountedFrame). CanJoin first fs outer whole.work whole.calls (noted c st.state)) a.2 (subst (λ w. CanJoin first a.0.frames outer w whole.calls (noted c st.state)) a.3 all))
 
-  pub fits : OnTop (FitsJoin x.counted.outer) now.frames
-  fits = subst (OnTop (FitsJoin x.counted.outer)) (sym onto.is) (subst (OnTop (λ (f : CountedFrame). FitsJoin x.counted.outer f × _)) onto.is can.top).0
+    pub fits_it : OnTop (FitsJoin outer) now.frames
+    fits_it = subst (OnTop (FitsJoin outer)) (sym onto.is) (subst (OnTop (λ (f : CountedFrame). FitsJoin outer f × _)) onto.is can_join_it.top).0
 
   -- and its ways
-  module _ (wins : OnPaths) (e : Enclosure) (wins_is : wins ≡ child_wins x.counted.outer g) (e_is : e ≡ enclosure g st.state) where
+  module _ (wins : OnPaths) (e : Enclosure) (wins_is : wins ≡ child_wins (outer_of whole.frames) g) (e_is : e ≡ enclosure g st.state) where
     wins_on : (on : Bool) → on_path on (child_wins (outer_of whole.frames) g) ≡ on_path on wins
-    wins_on on = ap (λ (r : CountedFrame). on_path on (child_wins r g)) outer_is ∙ ap (on_path on) (sym wins_is)
+    wins_on on = ap (on_path on) (sym wins_is)
 
-    abbrev Gone : Bool → Ways → List Ways → Type 0
+    abbrev pub Gone : Bool → Ways → List Ways → Type 0
     Gone on w ws = (base : Box Merged) → IsBase on base w.along → (us : List Ways) × AreEnclosed on e base whole.rows whole.ways us × (then on ≡ joined_list (on_path on wins) us w ws)
 
     pub gone : (on : Bool) (w : Ways) (ws : List Ways) → AreJoined on whole g st.state (w ∷ ws) (then on) → Gone on w ws
@@ -178,35 +181,8 @@ module _ (trace : Recording) (burdens : Burdens) (first i j : ℕ) (settled : Bo
         let a = h base is in
         (a.0, subst (λ (f : Enclosure). AreEnclosed on f base whole.rows whole.ways a.0) (sym e_is) a.1, a.2 ∙ ap (λ (b : Bool). joined_list b a.0 w ws) (wins_on on))
 
-    work_small : new.work ≤ 4951760157141521099596496896
-    work_small = let a : new.work ≤ 18446744073709551615 * j = new_led.passed.reached.small in let b = few_j in omega arith
-
-    can_on : (on : Bool) (ws : List Ways) → st.ways on ≡ ws → AreJoined on whole g st.state ws (then on) → stretches.CanJoin on wins e o x.logged
-    can_on on [] q h = absurd h
-    can_on on (w ∷ ws) q h =
-        let base = base_of o w.along in
-        let a = gone on w ws h base.0 (base.1 on) in
-        let low : AreLow j new.work (joined_list (on_path on wins) a.0 w ws) = subst (AreLow j new.work) a.2 (new_led.low on) in
-        let are : AreWays on o (w ∷ ws) = subst (AreWays on o) q (st.logged on) in
-        let owns = own_low j new.work on (on_path on wins) _ x.logged.outer (reverse (stretch_frames x.logged)) a.0 w ws (ends_reverse x.logged.outer (drop 1 x.logged.frames.items)) a.1 low in
-        record {
-          base = base.0;
-          way = w;
-          below = ws;
-          ways = a.0;
-          are = are;
-          is_base = base.1 on;
-          enclosed = a.1;
-          own = λ f fs is. let top = subst (λ (l : List FrameWays). AllWays on (reverse o.log.rows.items) l (w ∷ ws)) is are in
-              fit_own new.work (let z = work_small in omega arith) on (on_path on wins) x.logged.outer f owns.0 w owns.1 owns.2 owns.3 top.0.0.0;
-          fits = last_fits j new.work (let z = few_j in omega arith) work_small (on_path on wins) a.0 w ws low;
-        }
-
-    pub can_ways : (on : Bool) → stretches.CanJoin on wins e o x.logged
-    can_ways on = can_on on (st.ways on) refl (onto.ways on)
-
     -- the ways behind it
-    abbrev Goes : OpenWays → Bool → Type 0
+    abbrev pub Goes : OpenWays → Bool → Type 0
     Goes p on = (base : Box Merged) (w : Ways) (ws us : List Ways) → AreWays on o (w ∷ ws) → IsBase on base w.along → AreEnclosed on e base whole.rows whole.ways us
         → AreWays on p (joined_list (on_path on wins) us w ws)
 
@@ -240,3 +216,148 @@ module _ (trace : Recording) (burdens : Burdens) (first i j : ℕ) (settled : Bo
       good = st.good;
       light = st.light;
     }
+
+-- ---- a stretch as it was read
+
+module _ (trace : Recording) (burdens : Burdens) (first i j : ℕ) (settled : Bool) (c : Counting) (o : OpenWays) (x : Stretch) (st : Stands trace burdens i settled c o)
+    (go : GoesOn trace burdens first i j settled (stretch_of x)) where
+  abbrev all : StretchOf
+  all = stretch_of x
+
+  abbrev from : Onto trace burdens first i j settled c o all st go
+  from = onto trace burdens first i j settled c o all st go
+
+  last : IsLastOf x.counted.outer all.frames
+  last = last_of_reverse x.counted.outer (drop 1 x.counted.frames.items)
+
+  pub outer_is : outer_of all.frames ≡ x.counted.outer
+  outer_is = outer_last x.counted.outer all.frames last
+
+  -- it can be joined
+  pub can : CanJoin first all.frames x.counted.outer x.counted.work x.calls.items (seen_with c no_notes)
+  can = can_join_it trace burdens first i j settled c o all st go x.counted.outer last
+
+  pub fits : OnTop (FitsJoin x.counted.outer) (seen_with c no_notes).frames
+  fits = fits_it trace burdens first i j settled c o all st go x.counted.outer last
+
+  -- and its ways
+  module _ (wins : OnPaths) (e : Enclosure) (wins_is : wins ≡ child_wins x.counted.outer from.top) (e_is : e ≡ enclosure from.top st.state) where
+    pub wins_of_outer : wins ≡ child_wins (outer_of all.frames) from.top
+    wins_of_outer = wins_is ∙ ap (λ (r : CountedFrame). child_wins r from.top) (sym outer_is)
+
+    can_on : (on : Bool) (ws : List Ways) → st.ways on ≡ ws → AreJoined on all from.top st.state ws (then trace burdens first i j settled c o all st go on) → stretches.CanJoin on wins e o x.logged
+    can_on on [] q h = absurd h
+    can_on on (w ∷ ws) q h =
+        let led = new_led trace burdens first i j settled c o all st go in
+        let work : ℕ = (new trace burdens first i j settled c o all st go).work in
+        let small : work ≤ 4951760157141521099596496896 = work_small trace burdens first i j settled c o all st go in
+        let base = base_of o w.along in
+        let a = gone trace burdens first i j settled c o all st go wins e wins_of_outer e_is on w ws h base.0 (base.1 on) in
+        let low : AreLow j work (joined_list (on_path on wins) a.0 w ws) = subst (AreLow j work) a.2 (led.low on) in
+        let are : AreWays on o (w ∷ ws) = subst (AreWays on o) q (st.logged on) in
+        let owns = own_low j work on (on_path on wins) _ x.logged.outer (reverse (stretch_frames x.logged)) a.0 w ws (ends_reverse x.logged.outer (drop 1 x.logged.frames.items)) a.1 low in
+        record {
+          base = base.0;
+          way = w;
+          below = ws;
+          ways = a.0;
+          are = are;
+          is_base = base.1 on;
+          enclosed = a.1;
+          own = λ f fs is. let top = subst (λ (l : List FrameWays). AllWays on (reverse o.log.rows.items) l (w ∷ ws)) is are in
+              fit_own work (omega arith) on (on_path on wins) x.logged.outer f owns.0 w owns.1 owns.2 owns.3 top.0.0.0;
+          fits = last_fits j work (let z = few_j trace burdens first i j settled c o all st go in omega arith) small (on_path on wins) a.0 w ws low;
+        }
+
+    pub can_ways : (on : Bool) → stretches.CanJoin on wins e o x.logged
+    can_ways on = can_on on (st.ways on) refl (from.ways on)
+
+-- ---- strands alone
+
+-- the weight of the outer frame
+max_zero : (n : ℕ) → max (0 + n) 0 ≡ n
+max_zero n = grind arith
+
+-- a way that has these sums
+same_sums : (on : Bool) (log : List LogRow) (fs : List FrameWays) (n : ℕ) (u w : Ways) (ws : List Ways) → n ≡ u.along.own → ((key : Option ℕ) → rows_at w.along.rows key ≡ rows_at u.along.rows key)
+    → AllWays on log fs (strand_ways n w ∷ ws) → AllWays on log fs (joined_way false u w ∷ ws)
+same_sums on log [] n u w ws own rows h = absurd h
+same_sums on log (f ∷ fs) n u w ws own rows h = (((h.0.0.0 ∙ ap (λ k. w.along.own + k) own, λ key. h.0.0.1 key ∙ rows key), h.0.1), h.1)
+
+-- the way of strands alone, where that is the way into the frame before
+strand_way : (on : Bool) (e : Enclosure) (base : Box Merged) (n : ℕ) (u w : Ways) → IsBase on base w.along → AreEnclosed on e base (outer_row ∷ []) (strand_outer_frame n ∷ []) (u ∷ [])
+    → (n ≡ u.along.own) × ((key : Option ℕ) → rows_at w.along.rows key ≡ rows_at u.along.rows key)
+strand_way on e base n u w is h = by on is h
+  where
+    from_base : (on : Bool) → IsBase on base w.along → (key : Option ℕ) → plus zero_row (plus zero_row (key_row (merged_on on base.value) key)) ≡ rows_at w.along.rows key
+    from_base on is key = zero-plus _ ∙ zero-plus (key_row (merged_on on base.value) key) ∙ is key
+
+    by : (on : Bool) → IsBase on base w.along → AreEnclosed on e base (outer_row ∷ []) (strand_outer_frame n ∷ []) (u ∷ [])
+        → (n ≡ u.along.own) × ((key : Option ℕ) → rows_at w.along.rows key ≡ rows_at u.along.rows key)
+    by false is h = (h.0.0.0, λ key. sym (from_base false is key) ∙ h.0.0.1 key)
+    by true is h = (h.0.0.0, λ key. sym (from_base true is key) ∙ h.0.0.1 key)
+
+no_win : (on : Bool) (n : ℕ) (g : CountedFrame) → on_path on (child_wins (strand_frame n stretch_frame) g) ≡ false
+no_win false n g = refl
+no_win true n g = refl
+
+module _ (trace : Recording) (burdens : Burdens) (first i j : ℕ) (settled : Bool) (c : Counting) (o : OpenWays) (n : ℕ) (st : Stands trace burdens i settled c o)
+    (go : GoesOn trace burdens first i j settled (strand_of n)) where
+  abbrev run : Onto trace burdens first i j settled c o (strand_of n) st go
+  run = onto trace burdens first i j settled c o (strand_of n) st go
+
+  abbrev outer : CountedFrame
+  outer = strand_frame n stretch_frame
+
+  can_strand : CanJoin first (outer ∷ []) outer n [] (seen_with c no_notes)
+  can_strand = can_join_it trace burdens first i j settled c o (strand_of n) st go outer refl
+
+  -- they can be counted
+  pub can_add : CanAdd n (seen_with c no_notes)
+  can_add =
+      let fits : FitsJoin outer run.top = subst (OnTop (FitsJoin outer)) run.is (fits_it trace burdens first i j settled c o (strand_of n) st go outer refl) in
+      let top : FitsStrand n run.top = record {
+        plain = subst (λ k. close run.top.plain + k < 2 ^ 128) (max_zero n) fits.plain;
+        burdened = subst (λ k. close run.top.burdened + k < 2 ^ 128) (max_zero n) fits.burdened;
+        local = (let z : run.top.local + (0 + n) < 2 ^ 128 = fits.local in omega arith);
+      } in
+      (subst (OnTop (FitsStrand n)) (sym run.is) top, can_strand.work)
+
+  -- in the ways too
+  pub fit_strand : (on : Bool) → FitTopStrand on n (reverse o.frames.items)
+  fit_strand on = strand_fits on n o (st.ways on) (st.logged on) (by (st.ways on) (led.many on) (led.low on))
+    where
+      led : Led trace burdens i st.state st.ways
+      led = state_led trace burdens i settled c o st
+
+      some : 0 < length st.state.frames
+      some = let z : length st.state.frames ≡ length (run.top ∷ run.below) = ap (λ (l : List CountedFrame). length l) (sym st.counted.frames ∙ run.is) in omega arith
+
+      by : (ws : List Ways) → length ws ≡ length st.state.frames → AreLow i st.state.work ws → FitStrand n ws
+      by [] e h = absurd (let z = some in omega arith)
+      by (w ∷ ws) e h =
+          let a : (seen_with c no_notes).work + n < 2 ^ 128 = can_strand.work in
+          let b : st.state.work + n < 2 ^ 128 = subst (λ k. k + n < 2 ^ 128) st.counted.work a in
+          sums.strand_fits i st.state.work n b w ws h
+
+  -- what has come so far then
+  pub strand_stands : (d : Counting) (p : OpenWays) → seen_with d no_notes ≡ strand_seen n (seen_with c no_notes) → IsLaid p → ((on : Bool) (ways : List Ways) → AreWays on o ways → AreWays on p (strand_list n ways))
+      → length p.log.rows.items ≤ length o.log.rows.items → Stands trace burdens j false d p
+  strand_stands d p counted laid ways rows =
+      let zero : 0 + n ≡ n = omega arith in
+      stands trace burdens first i j settled c o (strand_of n) st go (child_wins outer run.top) (enclosure run.top st.state) refl refl d p
+      (subst (λ (s : Seen). IsJoined first (outer ∷ []) n [] run.top run.below (seen_with c no_notes) s) (sym counted)
+      (subst (λ w. IsJoined first (outer ∷ []) w [] run.top run.below (seen_with c no_notes) (strand_seen n (seen_with c no_notes))) zero
+      (follows_strand first 0 stretch_seen (seen_with c no_notes) (seen_with c no_notes) [] run.top run.below alone_start (follows_start first run.top run.below (seen_with c no_notes) run.is) n)))
+      laid goes (omega arith)
+    where
+      one : (on : Bool) (base : Box Merged) (w : Ways) (ws us : List Ways) → AreWays on o (w ∷ ws) → IsBase on base w.along
+          → AreEnclosed on (enclosure run.top st.state) base (outer_row ∷ []) (strand_outer_frame n ∷ []) us → AreWays on p (joined_list false us w ws)
+      one on base w ws [] are is h = absurd h
+      one on base w ws (u ∷ v ∷ us) are is h = absurd h.1
+      one on base w ws (u ∷ []) are is h =
+          let same = strand_way on (enclosure run.top st.state) base n u w is h in
+          same_sums on (reverse p.log.rows.items) (reverse p.frames.items) n u w ws same.0 same.1 (ways on (w ∷ ws) are)
+
+      goes : (on : Bool) → Goes trace burdens first i j settled c o (strand_of n) st go (child_wins outer run.top) (enclosure run.top st.state) refl refl p on
+      goes on base w ws us are is h = subst (λ (b : Bool). AreWays on p (joined_list b us w ws)) (sym (no_win on n run.top)) (one on base w ws us are is h)

@@ -14,7 +14,7 @@ use Rattle.spp_pass.proofs.Passed.{leans}
 use Rattle.spp_part.specs.declared.stretch.EndedStretch.{EndedStretch}
 use Rattle.spp_part.specs.declared.part_profile.PartProfile.{PartProfile}
 use Rattle.spp_part.specs.States.{IsEventAt}
-use Rattle.spp_part.specs.Parts.{Lead, IsCutOff, IsPartProfile, Stands, GoesOn, end_event, settles}
+use Rattle.spp_part.specs.Parts.{Lead, IsCutOff, IsPartProfile, Stands, GoesOn, stretch_of, kept_of, end_event, settles}
 use Rattle.spp_part.proofs.Standing.{noted, now_led}
 
 -- the stretches lead on
@@ -48,7 +48,7 @@ module _ (trace : Recording) (burdens : Burdens) (i count : ℕ) (p : PartProfil
     pub inside : i + x.at < length trace.records
     inside = let a = lead_le trace burdens i (suc x.at) (settles x.end) xs h.to h.settled s.3.2 in let b = to_le in let d = good_le in let e = h.within in omega arith
 
-    pub goes : GoesOn trace burdens i (i + s.0) (i + x.at) s.1 x.stretch
+    pub goes : GoesOn trace burdens i (i + s.0) (i + x.at) s.1 (kept_of x.kept)
     goes = (s.3.0, (let z : i ≤ i + s.0 = omega arith in z), (let a = inside in omega arith))
 
     pub ends : IsEventAt trace (i + x.at) (end_event x.end)
@@ -62,7 +62,7 @@ module _ (trace : Recording) (burdens : Burdens) (i count : ℕ) (p : PartProfil
     pub stands_last : Stands trace burdens (i + h.to) h.settled c w
     stands_last = subst (λ b. Stands trace burdens (i + h.to) b c w) (sym s.3.1) (subst (λ n. Stands trace burdens (i + n) s.1 c w) (sym s.3.0) s.2)
 
-    pub goes_last : GoesOn trace burdens i (i + h.to) (i + p.good) h.settled p.last
+    pub goes_last : GoesOn trace burdens i (i + h.to) (i + p.good) h.settled (stretch_of p.last)
     goes_last = (h.last, (let z : i ≤ i + h.to = omega arith in z), (let b = good_le in let e = h.within in omega arith))
 
   -- the end of the part

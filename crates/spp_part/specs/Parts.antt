@@ -13,17 +13,19 @@ use Rattle.spp_ways.specs.declared.open_ways.FrameWays.{FrameWays}
 use Rattle.spp_ways.specs.declared.open_ways.OpenWays.{OpenWays}
 use Rattle.spp_ways.specs.Ways.{Ways, no_way}
 use Rattle.spp_ways.specs.OpenWays.{AreWays, IsLaid, on_path}
-use Rattle.spp_ways.specs.Stretches.{AreEnclosed, IsBase, IsStretch, joined_list, stretch_rows, stretch_frames}
+use Rattle.spp_ways.specs.Stretches.{AreEnclosed, IsBase, IsStretch, outer_row, strand_outer_frame, joined_list, stretch_rows, stretch_frames}
 use Rattle.spp_pass.specs.declared.counted_frame.CountedFrame.{CountedFrame}
 use Rattle.spp_pass.specs.declared.calls.CallRow.{CallRow}
 use Rattle.spp_pass.specs.declared.counting.Counting.{Counting}
-use Rattle.spp_pass.specs.Passes.{Seen, no_notes, seen_with}
+use Rattle.spp_pass.specs.Passes.{Seen, strand_frame, no_notes, seen_with}
 use Rattle.spp_pass.specs.CallRows.{AreCallsBelow}
 use Rattle.spp_pass.specs.Stretches.{stretch_frame, enclosure, frames_of, child_wins, IsJoined}
 use Rattle.spp_pass.proofs.Alone.{Alone}
 use Rattle.spp_part.specs.declared.stretch.End.{End}
 use Rattle.spp_part.specs.declared.stretch.End.TheVariants.{Return, Sync}
 use Rattle.spp_part.specs.declared.stretch.Stretch.{Stretch}
+use Rattle.spp_part.specs.declared.stretch.Kept.{Kept}
+use Rattle.spp_part.specs.declared.stretch.Kept.TheVariants.{Strand, Whole}
 use Rattle.spp_part.specs.declared.stretch.EndedStretch.{EndedStretch}
 use Rattle.spp_part.specs.declared.part_profile.PartProfile.{PartProfile}
 use Rattle.spp_part.specs.declared.so_far.ProfileSoFar.{ProfileSoFar}
@@ -92,6 +94,21 @@ stretch_of x = record {
   ways = stretch_frames x.logged;
 }
 
+-- what strands of so many instructions come to, and nothing else
+abbrev pub strand_of : ℕ → StretchOf
+strand_of n = record {
+  frames = strand_frame n stretch_frame ∷ [];
+  work = n;
+  calls = [];
+  rows = outer_row ∷ [];
+  ways = strand_outer_frame n ∷ [];
+}
+
+-- what a stretch that has ended comes to
+abbrev pub kept_of : Kept → StretchOf
+kept_of (Strand n) = strand_of n
+kept_of (Whole x) = stretch_of x.value
+
 -- the event that ends a stretch, and whether a child may wait behind it
 abbrev pub end_event : End → Event
 end_event Return = RetEvent
@@ -106,7 +123,7 @@ settles Sync = true
 abbrev pub Lead : Recording → Burdens → ℕ → ℕ → Bool → List EndedStretch → ℕ → Bool → Type 0
 Lead trace burdens first from settled [] to then = (to ≡ from) × (then ≡ settled)
 Lead trace burdens first from settled (x ∷ xs) to then =
-    Takes trace burdens first (first + from) (first + x.at) settled (stretch_of x.stretch) × IsEventAt trace (first + x.at) (end_event x.end)
+    Takes trace burdens first (first + from) (first + x.at) settled (kept_of x.kept) × IsEventAt trace (first + x.at) (end_event x.end)
     × Lead trace burdens first (suc x.at) (settles x.end) xs to then
 
 -- what is wrong with the event behind the good ones, if they aren't all
@@ -149,8 +166,8 @@ pub record Stands (trace : Recording) (burdens : Burdens) (i : ℕ) (settled : B
   pub light : burdens.continuation + burdens.join ≤ 8589934592
 
 -- the stretch takes a reading on that has come so far
-abbrev pub GoesOn : Recording → Burdens → ℕ → ℕ → ℕ → Bool → Stretch → Type 0
-GoesOn trace burdens first i j settled x = Takes trace burdens first i j settled (stretch_of x) × (first ≤ i) × (j ≤ length trace.records)
+abbrev pub GoesOn : Recording → Burdens → ℕ → ℕ → ℕ → Bool → StretchOf → Type 0
+GoesOn trace burdens first i j settled x = Takes trace burdens first i j settled x × (first ≤ i) × (j ≤ length trace.records)
 
 abbrev pub IsSoFar : Recording → Burdens → ℕ → ProfileSoFar → Type 0
 IsSoFar trace burdens i r = Stands trace burdens i false r.counting r.ways × (r.events ≡ i)

@@ -9,7 +9,7 @@ ghost use Rattle.spp_pass.specs.Passes.{seen_with, no_notes};
 ghost use Rattle.spp_part.specs.Parts.{IsCutOff, IsPartProfile, end_event};
 ghost use Rattle.spp_part.specs.Readings.{InBounds, Opens, IsReading, IsAhead};
 
-use crate::stretch::{End, EndedStretch, Stretch};
+use crate::stretch::{End, EndedStretch, Kept, Stretch};
 use spp_cut::Part;
 use spp_dag::FrameKind;
 use spp_event::{Event, EventFault, Events, Reader};
@@ -138,15 +138,15 @@ impl Reading {
         let counted = self.counting.next_stretch(alloc);
         let logged = self.ways.next_stretch(alloc)?;
         let calls = self.calls.take(alloc);
-        self.ended.push(EndedStretch {
-            stretch: Stretch {
+        let kept = Kept::of(
+            alloc,
+            Stretch {
                 counted,
                 calls,
                 logged,
             },
-            at,
-            end,
-        })?;
+        )?;
+        self.ended.push(EndedStretch { kept, at, end })?;
         self.settled = match end {
             End::Return => false,
             End::Sync => true,
@@ -207,8 +207,9 @@ impl PartProfile {
     /// number of a site and of a function up to the greatest in the part.
     ///
     /// It takes 128 bytes for each call site and each function that it was called from, and some 50 more; 96 for each frame that
-    /// closes in the part, was opened there, and was on a greatest way, on either path, as it returned, some 280 for each that the part leaves open, and some 800 for each return of a
-    /// frame that was open before; up to twice that with spare room.
+    /// closes in the part, was opened there, and was on a greatest way, on either path, as it returned, and some 280 for each
+    /// that the part leaves open. Each return of a frame that was open before takes 24 bytes where strands alone came since the
+    /// last such return, else some 500. All that is up to twice as much with spare room.
     ///
     /// # Errors
     ///

@@ -9,10 +9,10 @@ ghost use Rattle.spp_frame.specs.Answers.{IsFaultOf};
 ghost use Rattle.spp_frame.specs.declared.profile_fault.ProfileFault.TheVariants.{Bad};
 ghost use Rattle.spp_site.specs.Profiles.{IsDagTable, IsPathTable, IsProfileOf};
 ghost use Rattle.spp_part.specs.States.{IsEventAt};
-ghost use Rattle.spp_part.specs.Parts.{IsPartProfile, IsSoFar, Stands, GoesOn, end_event, settles};
+ghost use Rattle.spp_part.specs.Parts.{IsPartProfile, IsSoFar, Stands, GoesOn, stretch_of, kept_of, end_event, settles};
 
 use crate::part_profile::PartProfile;
-use crate::stretch::{End, Stretch};
+use crate::stretch::{End, Kept, Stretch};
 use spp_event::Trace;
 use spp_frame::{Fault, ProfileFault, Why};
 use spp_maxplus::Burdens;
@@ -60,14 +60,34 @@ impl ProfileSoFar {
     ///
     /// Where an allocation failed.
     fn go_on(&mut self, alloc: Global, stretch: &Stretch, first: u32) -> Result<(), AllocError>
-        requires { (trace : Recording) × (burdens : BurdensValue) × (i : ℕ) × (j : ℕ) × (settled : Bool) × Stands trace burdens i settled self.old.counting self.old.ways × GoesOn trace burdens first i j settled stretch.now }
-        ensures stands { OnOk result ((trace : Recording) (burdens : BurdensValue) (i j : ℕ) (settled : Bool) → Stands trace burdens i settled self.old.counting self.old.ways → GoesOn trace burdens first i j settled stretch.now → Stands trace burdens j false self.new.counting self.new.ways) }
+        requires { (trace : Recording) × (burdens : BurdensValue) × (i : ℕ) × (j : ℕ) × (settled : Bool) × Stands trace burdens i settled self.old.counting self.old.ways × GoesOn trace burdens first i j settled (stretch_of stretch.now) }
+        ensures stands { OnOk result ((trace : Recording) (burdens : BurdensValue) (i j : ℕ) (settled : Bool) → Stands trace burdens i settled self.old.counting self.old.ways → GoesOn trace burdens first i j settled (stretch_of stretch.now) → Stands trace burdens j false self.new.counting self.new.ways) }
         ensures events { self.new.events ≡ self.old.events }
     {
         let wins = self.counting.wins_by(&stretch.counted);
         self.ways
             .join(alloc, &stretch.logged, wins, &self.counting.enclosing())?;
         self.counting.join(&stretch.counted, &stretch.calls, first)?;
+        Ok(())
+    }
+
+    /// Goes on by a stretch that has ended; positions in it count from `first`.
+    ///
+    /// # Errors
+    ///
+    /// Where an allocation failed.
+    fn go_on_by(&mut self, alloc: Global, kept: &Kept, first: u32) -> Result<(), AllocError>
+        requires { (trace : Recording) × (burdens : BurdensValue) × (i : ℕ) × (j : ℕ) × (settled : Bool) × Stands trace burdens i settled self.old.counting self.old.ways × GoesOn trace burdens first i j settled (kept_of kept.now) }
+        ensures stands { OnOk result ((trace : Recording) (burdens : BurdensValue) (i j : ℕ) (settled : Bool) → Stands trace burdens i settled self.old.counting self.old.ways → GoesOn trace burdens first i j settled (kept_of kept.now) → Stands trace burdens j false self.new.counting self.new.ways) }
+        ensures events { self.new.events ≡ self.old.events }
+    {
+        match kept {
+            Kept::Strand(count) => {
+                self.counting.strand(*count);
+                self.ways.strand(*count);
+            }
+            Kept::Whole(stretch) => self.go_on(alloc, stretch, first)?,
+        }
         Ok(())
     }
 
@@ -128,7 +148,7 @@ impl ProfileSoFar {
     {
         let first = self.events;
         for ended in &part.ended {
-            self.go_on(alloc, &ended.stretch, first)?;
+            self.go_on_by(alloc, &ended.kept, first)?;
             match self.end(alloc, burdens, first + ended.at, ended.end) {
                 Ok(()) => {}
                 Err(fault) => return Err(fault),

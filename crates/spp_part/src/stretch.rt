@@ -1,8 +1,10 @@
 //! Stretches of events.
 
-use spp_maxplus::Burdens;
-use spp_pass::{CallRow, CountedStretch, Counting};
-use spp_ways::{LoggedStretch, OpenWays};
+ghost use Rattle.std.specs.Prelude.{◌≡◌, IfOk, IfSome};
+ghost use Rattle.spp_part.specs.Parts.{stretch_of, strand_of, kept_of};
+
+use spp_pass::{CallRow, CountedStretch};
+use spp_ways::LoggedStretch;
 use std::alloc::{AllocError, Global};
 
 /// What a stretch of events comes to: events of a part in which the frame in which they begin, its outer frame, neither returns
@@ -15,6 +17,46 @@ pub(crate) struct Stretch {
     pub(crate) calls: Vec<CallRow>,
     /// Its ways.
     pub(crate) logged: LoggedStretch,
+}
+
+impl Stretch {
+    /// The instructions of its strands, if it is strands alone.
+    fn strand(&self) -> Option<u64>
+        ensures { IfSome result (λ n. strand_of n ≡ stretch_of self.now) }
+    {
+        let count = self.counted.strand()?;
+        if self.calls.is_empty() && self.logged.is_strand(count) {
+            Some(count)
+        } else {
+            None
+        }
+    }
+}
+
+/// What a stretch that has ended comes to. Most are strands alone where many frames are open, and these take no memory of
+/// their own.
+#[derive(Drop)]
+pub(crate) enum Kept {
+    /// Strands alone, of so many instructions together.
+    Strand(u64),
+    /// Anything else.
+    Whole(Box<Stretch>),
+}
+
+impl Kept {
+    /// What that stretch comes to.
+    ///
+    /// # Errors
+    ///
+    /// Where an allocation failed.
+    pub(crate) fn of(alloc: Global, stretch: Stretch) -> Result<Self, AllocError>
+        ensures { IfOk result (λ k. kept_of k ≡ stretch_of stretch) }
+    {
+        match stretch.strand() {
+            Some(count) => Ok(Kept::Strand(count)),
+            None => Ok(Kept::Whole(Box::new(alloc, stretch)?)),
+        }
+    }
 }
 
 /// What the outer frame does where a stretch ends.
@@ -30,7 +72,7 @@ pub(crate) enum End {
 #[derive(Drop)]
 pub(crate) struct EndedStretch {
     /// What it comes to.
-    pub(crate) stretch: Stretch,
+    pub(crate) kept: Kept,
     /// How many events of the part come before the one that ends it.
     pub(crate) at: u32,
     /// What that is.

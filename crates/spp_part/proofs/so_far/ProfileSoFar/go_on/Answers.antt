@@ -2,8 +2,9 @@ use Rattle.std.proofs.Common.{◌∙◌, sym, subst}
 use Rattle.spp_ways.specs.Enclosures.{enclosure_of}
 use Rattle.spp_pass.specs.Stretches.{frames_of, CanJoin, IsJoined}
 use Rattle.spp_pass.specs.Passes.{no_notes, seen_with}
+use Rattle.spp_part.specs.Parts.{stretch_of}
 use Rattle.spp_part.proofs.Standing.{same_enclosure}
-use Rattle.spp_part.proofs.GoingOn.{onto, fits, can, can_ways, stands}
+use Rattle.spp_part.proofs.GoingOn.{onto, fits, can, can_ways, wins_of_outer, stands}
 use Rattle.spp_part.proofs.so_far.ProfileSoFar.go_on.Goals as goal
 
 pub wins_by-wins-requires : goal.wins_by-wins-requires
@@ -12,7 +13,7 @@ wins_by-wins-requires c = let q = c.requires in fits q.0 q.1 c.args.first q.2 q.
 pub join-requires-clause-can : goal.join-requires-clause-can
 join-requires-clause-can c on =
     let q = c.requires in
-    let o = onto q.0 q.1 c.args.first q.2 q.3 q.4 c.args.self.now.counting c.args.self.now.ways c.args.stretch.now q.5 q.6 in
+    let o = onto q.0 q.1 c.args.first q.2 q.3 q.4 c.args.self.now.counting c.args.self.now.ways (stretch_of c.args.stretch.now) q.5 q.6 in
     can_ways q.0 q.1 c.args.first q.2 q.3 q.4 c.args.self.now.counting c.args.self.now.ways c.args.stretch.now q.5 q.6 c.wins_by-wins.result (enclosure_of c.enclosing.result)
     (c.wins_by-wins.ensures o.top o.below o.is) (c.enclosing.ensures o.top o.below o.is ∙ same_enclosure o.top (seen_with c.args.self.now.counting no_notes) q.5.state q.5.counted) on
 
@@ -24,9 +25,11 @@ join-requires-2 c =
 
 pub returns-clause-stands : goal.returns-clause-stands
 returns-clause-stands c trace burdens i j settled st go =
-    let o = onto trace burdens c.args.first i j settled c.args.self.now.counting c.args.self.now.ways c.args.stretch.now st go in
-    stands trace burdens c.args.first i j settled c.args.self.now.counting c.args.self.now.ways c.args.stretch.now st go c.wins_by-wins.result (enclosure_of c.enclosing.result)
-    (c.wins_by-wins.ensures o.top o.below o.is) (c.enclosing.ensures o.top o.below o.is ∙ same_enclosure o.top (seen_with c.args.self.now.counting no_notes) st.state st.counted)
+    let o = onto trace burdens c.args.first i j settled c.args.self.now.counting c.args.self.now.ways (stretch_of c.args.stretch.now) st go in
+    let encloses = c.enclosing.ensures o.top o.below o.is ∙ same_enclosure o.top (seen_with c.args.self.now.counting no_notes) st.state st.counted in
+    stands trace burdens c.args.first i j settled c.args.self.now.counting c.args.self.now.ways (stretch_of c.args.stretch.now) st go c.wins_by-wins.result (enclosure_of c.enclosing.result)
+    (wins_of_outer trace burdens c.args.first i j settled c.args.self.now.counting c.args.self.now.ways c.args.stretch.now st go c.wins_by-wins.result (enclosure_of c.enclosing.result) (c.wins_by-wins.ensures o.top o.below o.is) encloses)
+    encloses
     c.join-2.new.self c.join.new.self
     (subst (λ (calls : _). IsJoined c.args.first (frames_of c.args.stretch.now.counted) c.args.stretch.now.counted.work calls o.top o.below (seen_with c.args.self.now.counting no_notes) (seen_with c.join-2.new.self no_notes)) c.deref.ensures.value
     (c.in_ok-join-2.ensures o.top o.below o.is no_notes no_notes))
