@@ -3,7 +3,7 @@
 use crate::calls::{CREWS, Call, Crew, EVERY_CALL, THREE, marks_of};
 use crate::traces::{evenly, singly, thousand};
 use crate::worked::{CALL, DEEP, GOOD, Good, Line, Lines, SPAWN};
-use spp_crew::{OpenGate, figures, profile, profile_once};
+use spp_crew::{OpenGate, figures, profile, profile_in_rounds};
 use spp_cut::Cut;
 use spp_dag::{Figures, Row};
 use spp_event::{Event, open_trace, trace_of};
@@ -69,15 +69,15 @@ fn has_profile<R: Threads + Wait + Sync>(
     is_profile(&told, run) && is_profile(&serial, run)
 }
 
-/// Whether workers who read each event once give a run its profile.
-fn has_profile_once<R: Threads + Wait + Sync>(
+/// Whether workers give a run its profile in three rounds.
+fn has_profile_in_rounds<R: Threads + Wait + Sync>(
     rt: &R,
     alloc: Global,
     cut: &Cut<'_, '_>,
     crew: Crew,
     run: &Good<'_>,
 ) -> bool {
-    match profile_once(rt, alloc, cut, crew.workers(), run.burdens, &OpenGate) {
+    match profile_in_rounds(rt, alloc, cut, crew.workers(), run.burdens, &OpenGate) {
         Ok(told) => is_profile(&told, run),
         Err(_) => false,
     }
@@ -109,7 +109,7 @@ pub(crate) fn all_answer<R: Threads + Wait + Sync>(
         let right = match call {
             Call::Figures => has_figures(rt, alloc, cut, crew, run),
             Call::Profile => has_profile(rt, alloc, cut, crew, run),
-            Call::ProfileOnce => has_profile_once(rt, alloc, cut, crew, run),
+            Call::ProfileInRounds => has_profile_in_rounds(rt, alloc, cut, crew, run),
             Call::Marks => has_marks(rt, alloc, cut, crew, run),
         };
         if !right {
@@ -156,9 +156,9 @@ fn runs_have_their_profiles(rt: HostRuntime) -> Result<(), Fail> {
 }
 
 #[test]
-fn runs_have_their_profiles_by_one_round(rt: HostRuntime) -> Result<(), Fail> {
+fn runs_have_their_profiles_in_three_rounds(rt: HostRuntime) -> Result<(), Fail> {
     for (i, run) in GOOD.iter().enumerate() {
-        let right = is_answered(&rt, rt.alloc(), run, Call::ProfileOnce);
+        let right = is_answered(&rt, rt.alloc(), run, Call::ProfileInRounds);
         assert_eq!(rt; right, Some(true), "run {i}");
     }
     Ok(())

@@ -3,7 +3,7 @@
 ghost use Rattle.std.specs.Prelude.{◌<◌, ◌≤◌, IfOk};
 ghost use Rattle.spp_stack.specs.Parts.{AreEntriesOf};
 
-use spp_crew::{Gate, OpenGate, Round, figures, marks, profile, profile_once, survey};
+use spp_crew::{Gate, OpenGate, Round, figures, marks, profile, profile_in_rounds, survey};
 use spp_cut::Cut;
 use spp_frame::ProfileFault;
 use spp_jobs::entries_of;
@@ -53,7 +53,7 @@ pub(crate) const THREE: Burdens = Burdens {
 pub(crate) enum Call {
     Figures,
     Profile,
-    ProfileOnce,
+    ProfileInRounds,
     Marks,
 }
 
@@ -61,7 +61,7 @@ pub(crate) enum Call {
 pub(crate) const EVERY_CALL: [Call; 4] = [
     Call::Figures,
     Call::Profile,
-    Call::ProfileOnce,
+    Call::ProfileInRounds,
     Call::Marks,
 ];
 
@@ -70,8 +70,8 @@ impl Call {
     pub(crate) fn rounds(self) -> &'static [Round] {
         match self {
             Call::Figures => &[Round::Summaries],
-            Call::Profile => &[Round::Summaries, Round::Tables, Round::Paths],
-            Call::ProfileOnce => &[Round::Profile],
+            Call::Profile => &[Round::Profile],
+            Call::ProfileInRounds => &[Round::Summaries, Round::Tables, Round::Paths],
             Call::Marks => &[Round::Summaries, Round::Tables, Round::Marks],
         }
     }
@@ -79,8 +79,8 @@ impl Call {
     /// The round in which a bad event is found.
     pub(crate) fn first_round(self) -> &'static [Round] {
         match self {
-            Call::ProfileOnce => &[Round::Profile],
-            Call::Figures | Call::Profile | Call::Marks => &[Round::Summaries],
+            Call::Profile => &[Round::Profile],
+            Call::Figures | Call::ProfileInRounds | Call::Marks => &[Round::Summaries],
         }
     }
 }
@@ -108,8 +108,8 @@ pub(crate) fn ask<R: Threads + Wait + Sync, G: Gate>(
             profile(rt, alloc, cut, workers, THREE, gate)?;
             Ok(())
         }
-        Call::ProfileOnce => {
-            profile_once(rt, alloc, cut, workers, THREE, gate)?;
+        Call::ProfileInRounds => {
+            profile_in_rounds(rt, alloc, cut, workers, THREE, gate)?;
             Ok(())
         }
         Call::Marks => {

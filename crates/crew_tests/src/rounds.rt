@@ -74,7 +74,7 @@ fn others_go_on<R: Threads + Wait + Sync>(
 
 #[test]
 fn a_held_worker_holds_no_other(rt: HostRuntime) -> Result<(), Fail> {
-    for call in [Call::Figures, Call::Profile, Call::ProfileOnce] {
+    for call in [Call::Figures, Call::Profile, Call::ProfileInRounds] {
         for crew in THREADED {
             let go_on = others_go_on(&rt, rt.alloc(), call, crew);
             assert_eq!(rt; go_on, Some(true), "{call:?} by {crew:?}");

@@ -1,7 +1,7 @@
 //! The calls of a crew: two workers share the parts of a trace.
 
 use super::{Answer, of_fault, trace_in};
-use spp_crew::{OpenGate, figures, marks, profile, profile_once};
+use spp_crew::{OpenGate, figures, marks, profile, profile_in_rounds};
 use spp_cut::{Cut, Parts, cut_even};
 use spp_dag::Figures;
 use spp_event::{Event, trace_of};
@@ -43,7 +43,7 @@ const WORKERS: u32 = 2;
 pub enum Task {
     Figures,
     Profile,
-    ProfileOnce,
+    ProfileInRounds,
     Marks,
 }
 
@@ -80,8 +80,12 @@ fn profiled<R: Threads + Wait + Sync>(rt: &R, alloc: Global, cut: &Cut<'_, '_>) 
     of_profile(profile(rt, alloc, cut, WORKERS, Burdens::equal(3), &OpenGate))
 }
 
-fn profiled_once<R: Threads + Wait + Sync>(rt: &R, alloc: Global, cut: &Cut<'_, '_>) -> Answer {
-    of_profile(profile_once(rt, alloc, cut, WORKERS, Burdens::equal(3), &OpenGate))
+fn profiled_in_rounds<R: Threads + Wait + Sync>(
+    rt: &R,
+    alloc: Global,
+    cut: &Cut<'_, '_>,
+) -> Answer {
+    of_profile(profile_in_rounds(rt, alloc, cut, WORKERS, Burdens::equal(3), &OpenGate))
 }
 
 fn marked<R: Threads + Wait + Sync>(rt: &R, alloc: Global, cut: &Cut<'_, '_>) -> Answer {
@@ -109,7 +113,7 @@ pub fn asked<R: Threads + Wait + Sync>(rt: &R, alloc: Global, task: Task) -> Ans
     match task {
         Task::Figures => measured(rt, alloc, &cut),
         Task::Profile => profiled(rt, alloc, &cut),
-        Task::ProfileOnce => profiled_once(rt, alloc, &cut),
+        Task::ProfileInRounds => profiled_in_rounds(rt, alloc, &cut),
         Task::Marks => marked(rt, alloc, &cut),
     }
 }

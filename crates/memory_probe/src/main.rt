@@ -333,8 +333,8 @@ fn print_crews<R: Print + Threads + Wait + Sync>(rt: &R, alloc: Global) -> io::R
     print(rt, "figures by workers", figures)?;
     let profile = crew::asked(rt, alloc, Task::Profile);
     print(rt, "profile by workers", profile)?;
-    let once = crew::asked(rt, alloc, Task::ProfileOnce);
-    print(rt, "profile in one round", once)?;
+    let in_rounds = crew::asked(rt, alloc, Task::ProfileInRounds);
+    print(rt, "profile in three rounds", in_rounds)?;
     let marks = crew::asked(rt, alloc, Task::Marks);
     print(rt, "marks by workers", marks)
 }

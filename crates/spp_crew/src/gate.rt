@@ -3,7 +3,7 @@
 use std::sync::Wait;
 
 /// A round of the crew: what its workers do with each part. Figures take the round `Summaries` alone; a profile takes
-/// `Summaries`, `Tables` and `Paths`, or `Profile` alone where each event is read once; marks take `Summaries`, `Tables` and
+/// `Profile` alone, or `Summaries`, `Tables` and `Paths` where there are many call sites; marks take `Summaries`, `Tables` and
 /// `Marks`, in this order.
 #[derive(Clone, Copy, Debug, PartialEq, Eq)]
 pub enum Round {

@@ -2,11 +2,11 @@
 //!
 //! A crew of workers goes through the parts of a cut trace in rounds. In each round the workers draw the numbers of the
 //! parts, each once, do the round's job on them, and put what came of it at one desk, whose book joins the pieces in
-//! whatever order they come. Figures take one round, a profile three ([`profile_once`] makes it in one, which reads each
-//! event once), and marks three: two like these, and the marking of events, which has no desk: each worker is given
+//! whatever order they come. Figures take one round. So does a profile, which reads each event once, but three where there are
+//! many call sites. Marks take three: two like these, and the marking of events, which has no desk: each worker is given
 //! neighbouring parts and the bytes of their events.
 //!
-//! Between the rounds little is done, and that by one thread or two: after the first it finds the frames that are open where
+//! Between three rounds little is done, and that by one thread or two: after the first it finds the frames that are open where
 //! each part begins, and before the last it settles the paths.
 #![tactic(auto)]
 
@@ -16,10 +16,12 @@ mod once;
 mod profiling;
 mod round;
 mod surveying;
+mod whole_profile;
 
 pub use gate::{Gate, OpenGate, Round};
 pub use marking::marks;
 pub use once::profile_once;
-pub use profiling::{profile, tabled};
+pub use profiling::{profile_in_rounds, tabled};
 pub use round::run_round;
 pub use surveying::{Surveyed, figures, survey};
+pub use whole_profile::profile;

@@ -1,4 +1,4 @@
-//! The whole profile of a run, made by workers.
+//! The whole profile of a run, made by workers in three rounds.
 
 ghost use Rattle.std.specs.Prelude.{◌≡◌, ◌+◌, ◌<◌, ◌≤◌, ◌^◌, List, length, true, IfOk, IfErr};
 ghost use Rattle.spp_dag.specs.Figures.{AreFigures};
@@ -137,10 +137,9 @@ fn pathed<R: Threads + Wait + Sync, G: Gate>(
     run_round(rt, alloc, &job, workers, Round::Paths, gate)
 }
 
-/// The profile of a run: its figures under these burdens, and its tables on the whole dag, on the first greatest path (the
-/// critical path), and on the first path that is greatest under the burdens. No row bears burdens. It is made by so many
-/// workers, 1 to 64, each on a thread of its own but one, who draw the parts of the cut trace in three rounds. How many
-/// workers there are, which of them draws which part, and in which order the parts are done doesn't show in the profile.
+/// The profile of a run, as [`profile`] gives it, in three rounds: it is made by so many workers, 1 to 64, each on a thread of
+/// its own but one, who draw the parts of the cut trace. How many workers there are, which of them draws which part, and in
+/// which order the parts are done doesn't show in the profile.
 ///
 /// Each event is read four times: for the summaries, for the table of the dag, and for that of each path, or once for both
 /// paths where they go alike in its part. To find out whether a path comes to the part at all, it may be read once more
@@ -150,11 +149,13 @@ fn pathed<R: Threads + Wait + Sync, G: Gate>(
 /// open, and of spawned children, in the most frames that are open at a time within a part, and, for each worker, in the
 /// numbers of sites and of functions; a thread has a stack of its own besides. The work is below 2^92.
 ///
+/// [`profile`]: crate::profile
+///
 /// # Errors
 ///
 /// The first bad event, or `Memory` where an allocation failed. A thread that can't be started is no error: the thread
 /// that was to start it does its share.
-pub fn profile<R: Threads + Wait + Sync, G: Gate>(
+pub fn profile_in_rounds<R: Threads + Wait + Sync, G: Gate>(
     rt: &R,
     alloc: Global,
     cut: &Cut<'_, '_>,

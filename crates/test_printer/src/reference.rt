@@ -3,7 +3,7 @@
 //! Where the profiler on one thread says anything else, or workers do by way of parts, that is told.
 
 use crate::marks::marked;
-use spp_crew::{OpenGate, figures};
+use spp_crew::{OpenGate, figures, profile_in_rounds};
 use spp_cut::{Cut, Parts, cut_even};
 use spp_dag::{Figures, Row};
 use spp_event::{Trace, open_trace};
@@ -100,8 +100,10 @@ fn is_told_by_workers<R: Threads + Wait + Sync>(
     let number = workers.number();
     let whole = figures(rt, alloc, cut, number, burdens, &OpenGate).ok()?;
     let shared = spp_crew::profile(rt, alloc, cut, number, burdens, &OpenGate).ok()?;
+    let in_rounds = profile_in_rounds(rt, alloc, cut, number, burdens, &OpenGate).ok()?;
+    let profiled = is_told(&shared, told, sites) && is_told(&in_rounds, told, sites);
     let marks = marked(rt, alloc, cut, workers)?;
-    Some(whole == figures_in(told) && is_told(&shared, told, sites) && are_marks(&marks, told))
+    Some(whole == figures_in(told) && profiled && are_marks(&marks, told))
 }
 
 /// The same where the trace is cut into so many parts.

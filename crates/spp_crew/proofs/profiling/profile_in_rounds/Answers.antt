@@ -15,7 +15,7 @@ use Rattle.spp_jobs.proofs.Shares.{Everywhere, OnPath, root_fits, path_of, dag_i
 use Rattle.spp_jobs.proofs.Tables.{tabled_fits}
 use Rattle.spp_jobs.proofs.Paths.{path_fits, burdened_path_fits}
 use Rattle.spp_crew.proofs.Profiled.{table_of, path_of_job, dag_rows, path_rows, burdened_rows, rows_again, all_choices}
-use Rattle.spp_crew.proofs.profiling.profile.Goals as goal
+use Rattle.spp_crew.proofs.profiling.profile_in_rounds.Goals as goal
 
 pub pathed-requires-clause-choices : goal.pathed-requires-clause-choices
 pathed-requires-clause-choices g c = λ κs lives es are.
