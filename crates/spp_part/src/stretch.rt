@@ -78,3 +78,6 @@ pub(crate) struct EndedStretch {
     /// What that is.
     pub(crate) end: End,
 }
+
+// A part has one of them for each return of a frame that was open before.
+const _: () = prove!(size_of::<EndedStretch>() == 24);
