@@ -207,9 +207,10 @@ impl PartProfile {
     /// number of a site and of a function up to the greatest in the part.
     ///
     /// It takes 128 bytes for each call site and each function that it was called from, and some 50 more; 96 for each frame that
-    /// closes in the part, was opened there, and was on a greatest way, on either path, as it returned, and some 280 for each
-    /// that the part leaves open. Each return of a frame that was open before takes 24 bytes where strands alone came since the
-    /// last such return, else some 500. All that is up to twice as much with spare room.
+    /// closes in the part, was opened there, and was on a greatest way, on either path, as it returned; and some 280 for each
+    /// that the part leaves open. Each return of a frame that was open before takes 24, and so does the first sync of the frame
+    /// to which it returns; either takes some 450 more where anything but strands came since the last of these. All that is up
+    /// to twice as much with spare room.
     ///
     /// # Errors
     ///
