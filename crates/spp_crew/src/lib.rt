@@ -2,11 +2,11 @@
 //!
 //! A crew of workers goes through the parts of a cut trace in rounds. In each round the workers draw the numbers of the
 //! parts, each once, do the round's job on them, and put what came of it at one desk, whose book joins the pieces in
-//! whatever order they come. Figures take one round. So does a profile, which reads each event once, but three where there are
-//! many call sites. Marks take three: two like these, and the marking of events, which has no desk: each worker is given
-//! neighbouring parts and the bytes of their events.
+//! whatever order they come. Figures take one round. A profile takes one, which reads each event once, or three where the
+//! trace names more than 1,024 call sites. Marks take three: two of those, and the marking of events, which has no desk: each
+//! worker is given neighbouring parts and the bytes of their events.
 //!
-//! Between three rounds little is done, and that by one thread or two: after the first it finds the frames that are open where
+//! Where there are three, little is done between them, and that by one thread or two: after the first it finds the frames that are open where
 //! each part begins, and before the last it settles the paths.
 #![tactic(auto)]
 

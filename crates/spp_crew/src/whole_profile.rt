@@ -17,8 +17,8 @@ use std::alloc::Global;
 use std::sync::Wait;
 use std::thread::Threads;
 
-/// Up to how many call sites a profile is made in one round. The joins of that round are made one at a time, and go through the
-/// rows of the sites at random: where these don't fit into a processor's caches, three rounds are done sooner.
+/// Up to how many call sites a profile is made in one round. Its joins are made one at a time: they copy the rows of ways and
+/// add them up by site. Where the rows of all sites don't fit into a processor's caches, three rounds are done sooner.
 const FEW_SITES: u32 = 1024;
 
 /// The profile of a run: its figures under these burdens, and its tables on the whole dag, on the first greatest path (the

@@ -34,7 +34,7 @@ use Rattle.spp_serial.proofs.Low.{AreLow, top_fits}
 use Rattle.spp_serial.proofs.Reading.{Led}
 use Rattle.spp_part.specs.declared.stretch.Stretch.{Stretch}
 use Rattle.spp_part.specs.States.{Both, IsAt}
-use Rattle.spp_part.specs.Parts.{outer_of, StretchOf, AreJoined, IsJoinedOnto, Stands, GoesOn, stretch_of, strand_of}
+use Rattle.spp_part.specs.Parts.{outer_of, StretchOf, AreJoined, IsJoinedOnto, Stands, GoesOn, stretch_of, strands_alone}
 use Rattle.spp_part.proofs.Leading.{led_at}
 use Rattle.spp_part.proofs.Standing.{joined_on, noted, state_led, now_led, few}
 
@@ -302,20 +302,20 @@ no_win false n g = refl
 no_win true n g = refl
 
 module _ (trace : Recording) (burdens : Burdens) (first i j : ℕ) (settled : Bool) (c : Counting) (o : OpenWays) (n : ℕ) (st : Stands trace burdens i settled c o)
-    (go : GoesOn trace burdens first i j settled (strand_of n)) where
-  abbrev run : Onto trace burdens first i j settled c o (strand_of n) st go
-  run = onto trace burdens first i j settled c o (strand_of n) st go
+    (go : GoesOn trace burdens first i j settled (strands_alone n)) where
+  abbrev run : Onto trace burdens first i j settled c o (strands_alone n) st go
+  run = onto trace burdens first i j settled c o (strands_alone n) st go
 
   abbrev outer : CountedFrame
   outer = strand_frame n stretch_frame
 
   can_strand : CanJoin first (outer ∷ []) outer n [] (seen_with c no_notes)
-  can_strand = can_join_it trace burdens first i j settled c o (strand_of n) st go outer refl
+  can_strand = can_join_it trace burdens first i j settled c o (strands_alone n) st go outer refl
 
   -- they can be counted
   pub can_add : CanAdd n (seen_with c no_notes)
   can_add =
-      let fits : FitsJoin outer run.top = subst (OnTop (FitsJoin outer)) run.is (fits_it trace burdens first i j settled c o (strand_of n) st go outer refl) in
+      let fits : FitsJoin outer run.top = subst (OnTop (FitsJoin outer)) run.is (fits_it trace burdens first i j settled c o (strands_alone n) st go outer refl) in
       let top : FitsStrand n run.top = record {
         plain = subst (λ k. close run.top.plain + k < 2 ^ 128) (max_zero n) fits.plain;
         burdened = subst (λ k. close run.top.burdened + k < 2 ^ 128) (max_zero n) fits.burdened;
@@ -345,7 +345,7 @@ module _ (trace : Recording) (burdens : Burdens) (first i j : ℕ) (settled : Bo
       → length p.log.rows.items ≤ length o.log.rows.items → Stands trace burdens j false d p
   strand_stands d p counted laid ways rows =
       let zero : 0 + n ≡ n = omega arith in
-      stands trace burdens first i j settled c o (strand_of n) st go (child_wins outer run.top) (enclosure run.top st.state) refl refl d p
+      stands trace burdens first i j settled c o (strands_alone n) st go (child_wins outer run.top) (enclosure run.top st.state) refl refl d p
       (subst (λ (s : Seen). IsJoined first (outer ∷ []) n [] run.top run.below (seen_with c no_notes) s) (sym counted)
       (subst (λ w. IsJoined first (outer ∷ []) w [] run.top run.below (seen_with c no_notes) (strand_seen n (seen_with c no_notes))) zero
       (follows_strand first 0 stretch_seen (seen_with c no_notes) (seen_with c no_notes) [] run.top run.below alone_start (follows_start first run.top run.below (seen_with c no_notes) run.is) n)))
@@ -359,5 +359,5 @@ module _ (trace : Recording) (burdens : Burdens) (first i j : ℕ) (settled : Bo
           let same = strand_way on (enclosure run.top st.state) base n u w is h in
           same_sums on (reverse p.log.rows.items) (reverse p.frames.items) n u w ws same.0 same.1 (ways on (w ∷ ws) are)
 
-      goes : (on : Bool) → Goes trace burdens first i j settled c o (strand_of n) st go (child_wins outer run.top) (enclosure run.top st.state) refl refl p on
+      goes : (on : Bool) → Goes trace burdens first i j settled c o (strands_alone n) st go (child_wins outer run.top) (enclosure run.top st.state) refl refl p on
       goes on base w ws us are is h = subst (λ (b : Bool). AreWays on p (joined_list b us w ws)) (sym (no_win on n run.top)) (one on base w ws us are is h)

@@ -14,7 +14,7 @@ use Rattle.spp_pass.proofs.Passed.{leans}
 use Rattle.spp_part.specs.declared.stretch.EndedStretch.{EndedStretch}
 use Rattle.spp_part.specs.declared.part_profile.PartProfile.{PartProfile}
 use Rattle.spp_part.specs.States.{IsEventAt}
-use Rattle.spp_part.specs.Parts.{Lead, IsCutOff, IsPartProfile, Stands, GoesOn, stretch_of, kept_of, end_event, settles}
+use Rattle.spp_part.specs.Parts.{Lead, IsCutOff, IsPartProfile, Stands, GoesOn, stretch_of, stored_of, end_event, settles}
 use Rattle.spp_part.proofs.Standing.{noted, now_led}
 
 -- the stretches lead on
@@ -48,7 +48,7 @@ module _ (trace : Recording) (burdens : Burdens) (i count : ℕ) (p : PartProfil
     pub inside : i + x.at < length trace.records
     inside = let a = lead_le trace burdens i (suc x.at) (settles x.end) xs h.to h.settled s.3.2 in let b = to_le in let d = good_le in let e = h.within in omega arith
 
-    pub goes : GoesOn trace burdens i (i + s.0) (i + x.at) s.1 (kept_of x.kept)
+    pub goes : GoesOn trace burdens i (i + s.0) (i + x.at) s.1 (stored_of x.stored)
     goes = (s.3.0, (let z : i ≤ i + s.0 = omega arith in z), (let a = inside in omega arith))
 
     pub ends : IsEventAt trace (i + x.at) (end_event x.end)

@@ -17,17 +17,17 @@ use Rattle.spp_part.specs.declared.stretch.Stretch.{Stretch}
 use Rattle.spp_part.specs.declared.stretch.EndedStretch.{EndedStretch}
 use Rattle.spp_part.specs.declared.part_profile.Reading.{Reading}
 use Rattle.spp_part.specs.States.{IsEventAt}
-use Rattle.spp_part.specs.Parts.{Takes, Lead, stretch_of, kept_of, end_event, settles}
+use Rattle.spp_part.specs.Parts.{Takes, Lead, stretch_of, stored_of, end_event, settles}
 
 -- ---- the ended stretches
 
 -- one more
 pub lead_more : (trace : Recording) (burdens : Burdens) (first from : ℕ) (settled : Bool) (xs : List EndedStretch) (to : ℕ) (then : Bool) (x : EndedStretch) → Lead trace burdens first from settled xs to then
-    → Takes trace burdens first (first + to) (first + x.at) then (kept_of x.kept) → IsEventAt trace (first + x.at) (end_event x.end)
+    → Takes trace burdens first (first + to) (first + x.at) then (stored_of x.stored) → IsEventAt trace (first + x.at) (end_event x.end)
     → Lead trace burdens first from settled (xs ++ x ∷ []) (suc x.at) (settles x.end)
 lead_more trace burdens first from settled [] to then x h takes at = (
-  subst (λ (b : Bool). Takes trace burdens first (first + from) (first + x.at) b (kept_of x.kept)) h.1
-      (subst (λ n. Takes trace burdens first (first + n) (first + x.at) then (kept_of x.kept)) h.0 takes),
+  subst (λ (b : Bool). Takes trace burdens first (first + from) (first + x.at) b (stored_of x.stored)) h.1
+      (subst (λ n. Takes trace burdens first (first + n) (first + x.at) then (stored_of x.stored)) h.0 takes),
   at,
   (refl, refl),
 )

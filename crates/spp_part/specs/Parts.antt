@@ -24,8 +24,8 @@ use Rattle.spp_pass.proofs.Alone.{Alone}
 use Rattle.spp_part.specs.declared.stretch.End.{End}
 use Rattle.spp_part.specs.declared.stretch.End.TheVariants.{Return, Sync}
 use Rattle.spp_part.specs.declared.stretch.Stretch.{Stretch}
-use Rattle.spp_part.specs.declared.stretch.Kept.{Kept}
-use Rattle.spp_part.specs.declared.stretch.Kept.TheVariants.{Strand, Whole}
+use Rattle.spp_part.specs.declared.stretch.StoredStretch.{StoredStretch}
+use Rattle.spp_part.specs.declared.stretch.StoredStretch.TheVariants.{Strand, Whole}
 use Rattle.spp_part.specs.declared.stretch.EndedStretch.{EndedStretch}
 use Rattle.spp_part.specs.declared.part_profile.PartProfile.{PartProfile}
 use Rattle.spp_part.specs.declared.so_far.ProfileSoFar.{ProfileSoFar}
@@ -95,8 +95,8 @@ stretch_of x = record {
 }
 
 -- what strands of so many instructions come to, and nothing else
-abbrev pub strand_of : ℕ → StretchOf
-strand_of n = record {
+abbrev pub strands_alone : ℕ → StretchOf
+strands_alone n = record {
   frames = strand_frame n stretch_frame ∷ [];
   work = n;
   calls = [];
@@ -105,9 +105,9 @@ strand_of n = record {
 }
 
 -- what a stretch that has ended comes to
-abbrev pub kept_of : Kept → StretchOf
-kept_of (Strand n) = strand_of n
-kept_of (Whole x) = stretch_of x.value
+abbrev pub stored_of : StoredStretch → StretchOf
+stored_of (Strand n) = strands_alone n
+stored_of (Whole x) = stretch_of x.value
 
 -- the event that ends a stretch, and whether a child may wait behind it
 abbrev pub end_event : End → Event
@@ -123,7 +123,7 @@ settles Sync = true
 abbrev pub Lead : Recording → Burdens → ℕ → ℕ → Bool → List EndedStretch → ℕ → Bool → Type 0
 Lead trace burdens first from settled [] to then = (to ≡ from) × (then ≡ settled)
 Lead trace burdens first from settled (x ∷ xs) to then =
-    Takes trace burdens first (first + from) (first + x.at) settled (kept_of x.kept) × IsEventAt trace (first + x.at) (end_event x.end)
+    Takes trace burdens first (first + from) (first + x.at) settled (stored_of x.stored) × IsEventAt trace (first + x.at) (end_event x.end)
     × Lead trace burdens first (suc x.at) (settles x.end) xs to then
 
 -- what is wrong with the event behind the good ones, if they aren't all

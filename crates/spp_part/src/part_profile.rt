@@ -9,7 +9,7 @@ ghost use Rattle.spp_pass.specs.Passes.{seen_with, no_notes};
 ghost use Rattle.spp_part.specs.Parts.{IsCutOff, IsPartProfile, end_event};
 ghost use Rattle.spp_part.specs.Readings.{InBounds, Opens, IsReading, IsAhead};
 
-use crate::stretch::{End, EndedStretch, Kept, Stretch};
+use crate::stretch::{End, EndedStretch, StoredStretch, Stretch};
 use spp_cut::Part;
 use spp_dag::FrameKind;
 use spp_event::{Event, EventFault, Events, Reader};
@@ -138,7 +138,7 @@ impl Reading {
         let counted = self.counting.next_stretch(alloc);
         let logged = self.ways.next_stretch(alloc)?;
         let calls = self.calls.take(alloc);
-        let kept = Kept::of(
+        let stored = StoredStretch::of(
             alloc,
             Stretch {
                 counted,
@@ -146,7 +146,7 @@ impl Reading {
                 logged,
             },
         )?;
-        self.ended.push(EndedStretch { kept, at, end })?;
+        self.ended.push(EndedStretch { stored, at, end })?;
         self.settled = match end {
             End::Return => false,
             End::Sync => true,
@@ -206,11 +206,12 @@ impl PartProfile {
     /// the root frame shows where the part is joined. It takes constant time for each event, amortized, besides a step for each
     /// number of a site and of a function up to the greatest in the part.
     ///
-    /// It takes 128 bytes for each call site and each function that it was called from, and some 50 more; 96 for each frame that
-    /// closes in the part, was opened there, and was on a greatest way, on either path, as it returned; and some 280 for each
-    /// that the part leaves open. Each return of a frame that was open before takes 24, and so does the first sync of the frame
-    /// to which it returns; either takes some 450 more where anything but strands came since the last of these. All that is up
-    /// to twice as much with spare room.
+    /// For each of its stretches it takes 128 bytes for each pair of a call site and a function that calls by it, and at worst,
+    /// where nearly each pair is new, for each frame that closes in the part and was opened there; and 96 for each of these
+    /// frames that was on a greatest way, on either path, as it returned. A stretch ends at each return of a frame that was open
+    /// before, and at the first sync of such a frame: each takes 24 bytes, and some 450 more if it isn't strands alone. Each
+    /// frame that the part leaves open takes some 280. All that is up to twice as much with spare room, and more where stretches
+    /// have few rows. While the part is read, some 50 bytes more are taken for each pair, and 2 MB at most.
     ///
     /// # Errors
     ///

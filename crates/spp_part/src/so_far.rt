@@ -9,10 +9,10 @@ ghost use Rattle.spp_frame.specs.Answers.{IsFaultOf};
 ghost use Rattle.spp_frame.specs.declared.profile_fault.ProfileFault.TheVariants.{Bad};
 ghost use Rattle.spp_site.specs.Profiles.{IsDagTable, IsPathTable, IsProfileOf};
 ghost use Rattle.spp_part.specs.States.{IsEventAt};
-ghost use Rattle.spp_part.specs.Parts.{IsPartProfile, IsSoFar, Stands, GoesOn, stretch_of, kept_of, end_event, settles};
+ghost use Rattle.spp_part.specs.Parts.{IsPartProfile, IsSoFar, Stands, GoesOn, stretch_of, stored_of, end_event, settles};
 
 use crate::part_profile::PartProfile;
-use crate::stretch::{End, Kept, Stretch};
+use crate::stretch::{End, StoredStretch, Stretch};
 use spp_event::Trace;
 use spp_frame::{Fault, ProfileFault, Why};
 use spp_maxplus::Burdens;
@@ -76,17 +76,22 @@ impl ProfileSoFar {
     /// # Errors
     ///
     /// Where an allocation failed.
-    fn go_on_by(&mut self, alloc: Global, kept: &Kept, first: u32) -> Result<(), AllocError>
-        requires { (trace : Recording) × (burdens : BurdensValue) × (i : ℕ) × (j : ℕ) × (settled : Bool) × Stands trace burdens i settled self.old.counting self.old.ways × GoesOn trace burdens first i j settled (kept_of kept.now) }
-        ensures stands { OnOk result ((trace : Recording) (burdens : BurdensValue) (i j : ℕ) (settled : Bool) → Stands trace burdens i settled self.old.counting self.old.ways → GoesOn trace burdens first i j settled (kept_of kept.now) → Stands trace burdens j false self.new.counting self.new.ways) }
+    fn go_on_by(
+        &mut self,
+        alloc: Global,
+        stored: &StoredStretch,
+        first: u32,
+    ) -> Result<(), AllocError>
+        requires { (trace : Recording) × (burdens : BurdensValue) × (i : ℕ) × (j : ℕ) × (settled : Bool) × Stands trace burdens i settled self.old.counting self.old.ways × GoesOn trace burdens first i j settled (stored_of stored.now) }
+        ensures stands { OnOk result ((trace : Recording) (burdens : BurdensValue) (i j : ℕ) (settled : Bool) → Stands trace burdens i settled self.old.counting self.old.ways → GoesOn trace burdens first i j settled (stored_of stored.now) → Stands trace burdens j false self.new.counting self.new.ways) }
         ensures events { self.new.events ≡ self.old.events }
     {
-        match kept {
-            Kept::Strand(count) => {
+        match stored {
+            StoredStretch::Strand(count) => {
                 self.counting.strand(*count);
                 self.ways.strand(*count);
             }
-            Kept::Whole(stretch) => self.go_on(alloc, stretch, first)?,
+            StoredStretch::Whole(stretch) => self.go_on(alloc, stretch, first)?,
         }
         Ok(())
     }
@@ -148,7 +153,7 @@ impl ProfileSoFar {
     {
         let first = self.events;
         for ended in &part.ended {
-            self.go_on_by(alloc, &ended.kept, first)?;
+            self.go_on_by(alloc, &ended.stored, first)?;
             match self.end(alloc, burdens, first + ended.at, ended.end) {
                 Ok(()) => {}
                 Err(fault) => return Err(fault),

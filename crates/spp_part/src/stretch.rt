@@ -1,7 +1,7 @@
 //! Stretches of events.
 
 ghost use Rattle.std.specs.Prelude.{◌≡◌, IfOk, IfSome};
-ghost use Rattle.spp_part.specs.Parts.{stretch_of, strand_of, kept_of};
+ghost use Rattle.spp_part.specs.Parts.{stretch_of, strands_alone, stored_of};
 
 use spp_pass::{CallRow, CountedStretch};
 use spp_ways::LoggedStretch;
@@ -22,7 +22,7 @@ pub(crate) struct Stretch {
 impl Stretch {
     /// The instructions of its strands, if it is strands alone.
     fn strand(&self) -> Option<u64>
-        ensures { IfSome result (λ n. strand_of n ≡ stretch_of self.now) }
+        ensures { IfSome result (λ n. strands_alone n ≡ stretch_of self.now) }
     {
         let count = self.counted.strand()?;
         if self.calls.is_empty() && self.logged.is_strand(count) {
@@ -36,25 +36,25 @@ impl Stretch {
 /// What a stretch that has ended comes to. Most are strands alone where many frames are open, and these take no memory of
 /// their own.
 #[derive(Drop)]
-pub(crate) enum Kept {
+pub(crate) enum StoredStretch {
     /// Strands alone, of so many instructions together.
     Strand(u64),
     /// Anything else.
     Whole(Box<Stretch>),
 }
 
-impl Kept {
+impl StoredStretch {
     /// What that stretch comes to.
     ///
     /// # Errors
     ///
     /// Where an allocation failed.
     pub(crate) fn of(alloc: Global, stretch: Stretch) -> Result<Self, AllocError>
-        ensures { IfOk result (λ k. kept_of k ≡ stretch_of stretch) }
+        ensures { IfOk result (λ k. stored_of k ≡ stretch_of stretch) }
     {
         match stretch.strand() {
-            Some(count) => Ok(Kept::Strand(count)),
-            None => Ok(Kept::Whole(Box::new(alloc, stretch)?)),
+            Some(count) => Ok(StoredStretch::Strand(count)),
+            None => Ok(StoredStretch::Whole(Box::new(alloc, stretch)?)),
         }
     }
 }
@@ -72,7 +72,7 @@ pub(crate) enum End {
 #[derive(Drop)]
 pub(crate) struct EndedStretch {
     /// What it comes to.
-    pub(crate) kept: Kept,
+    pub(crate) stored: StoredStretch,
     /// How many events of the part come before the one that ends it.
     pub(crate) at: u32,
     /// What that is.

@@ -8,8 +8,8 @@ use Rattle.spp_site.specs.declared.closed_frame.ClosedFrame.{ClosedFrame}
 use Rattle.spp_ways.specs.Enclosures.{Enclosure, is_top_caller, enclosed}
 use Rattle.spp_pass.specs.declared.calls.CallRow.{CallRow}
 
--- What the row of frames of a site and a caller is in a run where this encloses the stretch: where a frame of the site (of the
--- caller's function) does, none of them is a top frame by site (by caller).
+-- What the row of frames of a site and a caller is in a run where this encloses the stretch: its sums by site are 0 where an
+-- enclosing frame was entered by the site, those by caller where the caller isn't top in it (`is_top_caller`).
 abbrev pub enclosed_sums : Enclosure → ℕ → ℕ → Row → Row
 enclosed_sums e site caller r = record {
   count = r.count;

@@ -12,8 +12,8 @@ use spp_ways::Enclosing;
 use std::alloc::{AllocError, Global};
 use std::mem;
 
-/// What frames come to that were opened and have closed in a stretch of events of which it isn't known what encloses it: such
-/// as were entered by one call site, by callers that run one function.
+/// What some frames add up to that were opened and have closed in a stretch of events, of which it isn't known what encloses
+/// it: frames of one call site, whose callers run one function. A site and a function may have several such rows.
 #[derive(Clone, Copy)]
 pub struct CallRow {
     /// Their row in a table of the stretch alone.
@@ -60,12 +60,13 @@ struct Place {
 /// No function, and not `OUTER_CALLER`.
 const NO_CALLER: u32 = u32::MAX;
 
-/// The fewest places, where there are any, and the most.
+/// The fewest places, where there are any.
 const FEWEST_PLACES: usize = 64;
 
+/// The most places: as many as `first_place` tells apart.
 const MOST_PLACES: usize = 131_072;
 
-/// How many places in a row are looked at for a row.
+/// How many neighbouring places are looked at for a row.
 const PROBES: usize = 4;
 
 /// A place that is free.
@@ -75,18 +76,20 @@ const FREE: Place = Place {
     number: 0,
 };
 
-/// What the frames come to that were opened and have closed in a stretch so far: rows, in each of which are some of those of a
-/// call site and a callers' function. Most have one row alone.
+/// What the frames come to that were opened and have closed in a stretch so far: rows, each for some of the frames of a call
+/// site and a function that calls by it. Most of these pairs have one row.
 #[derive(Drop)]
 pub struct Calls {
     /// The rows.
     rows: Vec<CallRow>,
-    /// Places of rows, by a number that site and caller give; half of them are free, or there are the most. No row is told by
-    /// its place alone: where another has come to it, or none of those is free that are looked at, its site gets another row.
+    /// Places of rows, found by site and caller: none, or a power of two. At least half of them are free, unless there are the
+    /// most. A place says which row to look at, and no more: where it was given to another row, the next frame of that site and
+    /// caller gets a new row.
     places: Vec<Place>,
 }
 
-/// The first place of the row of a site and a caller, where there are so many, a power of two.
+/// The first place of the row of a site and a caller, where there are so many, a power of two; where there are none it's any
+/// number.
 #[inline(always)]
 fn first_place(site: u32, caller: u32, places: usize) -> usize {
     let mixed = (site ^ caller.wrapping_mul(0x9e37_79b1)).wrapping_mul(0x85eb_ca6b);
@@ -253,7 +256,7 @@ impl Calls {
         }
     }
 
-    /// Frees the places of a row.
+    /// Frees the places where a row may be, whichever rows they tell of: for where all rows go.
     fn free(&mut self, row: &CallRow)
         ensures { self.new.rows ≡ self.old.rows }
     {

@@ -36,7 +36,7 @@ fn report(alloc: Global, named: &Named<'_, '_>, csv: bool) -> Result<Vec<u8>, Al
 }
 
 /// The profile of the run of a trace, or what is wrong first. One worker reads the events once; several share the parts of
-/// the trace, and read them in rounds.
+/// the trace, in one round or in three.
 fn profiled<R: Threads + Wait + Sync>(
     rt: &R,
     alloc: Global,

@@ -27,10 +27,10 @@ returns c trace burdens first ahead =
     let ways = c.in_ok-logged.ensures in
     let x : Stretch = record { counted = c.next_stretch-counted.result; calls = c.take-calls.result; logged = c.in_ok-logged.logged } in
     let same = told_stretch a r.calls.rows.items r.ways x told.0 told.1 c.take-calls.ensures.rows ways.rows ways.frames in
-    let e : EndedStretch = record { kept = c.in_ok-kept.kept; at = at; end = c.args.end } in
+    let e : EndedStretch = record { stored = c.in_ok-stored.stored; at = at; end = c.args.end } in
     let settled : settles c.args.end ≡ c.match-end.self = elim c.match-end.branch [ in-Return w ↦ ap settles w.in-Return.is ∙ sym w.self-is | in-Sync w ↦ ap settles w.in-Sync.is ∙ sym w.self-is ] in
     let pushed : c.push.new.self.items ≡ r.ended.items ++ e ∷ [] = c.in_ok-push.ensures.items in
-    let lead = lead_more trace burdens first 0 false r.ended.items is.to r.settled e is.ended (subst (Takes trace burdens first (first + is.to) (first + at) r.settled) (same ∙ sym c.in_ok-kept.ensures) is.going.last) ahead.at in
+    let lead = lead_more trace burdens first 0 false r.ended.items is.to r.settled e is.ended (subst (Takes trace burdens first (first + is.to) (first + at) r.settled) (same ∙ sym c.in_ok-stored.ensures) is.going.last) ahead.at in
     record {
       bounds = is.bounds;
       to = suc at;

@@ -7,7 +7,7 @@ use Rattle.spp_frame.specs.declared.profile_fault.ProfileFault.TheVariants.{Bad}
 use Rattle.spp_frame.specs.declared.Why.TheVariants.{Event}
 use Rattle.spp_part.specs.declared.stretch.EndedStretch.{EndedStretch}
 use Rattle.spp_part.specs.States.{IsEventAt}
-use Rattle.spp_part.specs.Parts.{IsSoFar, IsPartProfile, Stands, GoesOn, stretch_of, kept_of, end_event, settles}
+use Rattle.spp_part.specs.Parts.{IsSoFar, IsPartProfile, Stands, GoesOn, stretch_of, stored_of, end_event, settles}
 use Rattle.spp_part.proofs.Parting.{Since, since_start, left_at, inside, goes, ends, since_more, stands_last, goes_last, whole, faulty, good_is}
 use Rattle.spp_part.proofs.so_far.ProfileSoFar.join.Goals as goal
 
@@ -28,7 +28,7 @@ go_on_by-requires c =
     let q = c.requires in
     let s = since q.0 q.1 q.2 q.3 q.4 in
     let rest : List EndedStretch = drop (suc n) items in
-    (q.0, c.args.burdens, q.1 + s.0, q.1 + x.at, s.1, s.2, subst (λ k. GoesOn q.0 c.args.burdens k (q.1 + s.0) (q.1 + x.at) s.1 (kept_of x.kept)) (sym q.3.1) (goes q.0 c.args.burdens q.1 q.2 c.args.part.now q.4 x rest c.loop-ended.self.counting c.loop-ended.self.ways s))
+    (q.0, c.args.burdens, q.1 + s.0, q.1 + x.at, s.1, s.2, subst (λ k. GoesOn q.0 c.args.burdens k (q.1 + s.0) (q.1 + x.at) s.1 (stored_of x.stored)) (sym q.3.1) (goes q.0 c.args.burdens q.1 q.2 c.args.part.now q.4 x rest c.loop-ended.self.counting c.loop-ended.self.ways s))
 
 pub overflow_add-first : goal.overflow_add-first
 overflow_add-first c =
@@ -56,7 +56,7 @@ end-requires c =
     let q = c.requires in
     let s = since q.0 q.1 q.2 q.3 q.4 in
     let rest : List EndedStretch = drop (suc n) items in
-    (q.0, subst (λ k. Stands q.0 c.args.burdens (k + x.at) false c.go_on_by.new.self.counting c.go_on_by.new.self.ways) (sym q.3.1) (c.in_ok-go_on_by.ensures.stands q.0 c.args.burdens (q.1 + s.0) (q.1 + x.at) s.1 s.2 (subst (λ k. GoesOn q.0 c.args.burdens k (q.1 + s.0) (q.1 + x.at) s.1 (kept_of x.kept)) (sym q.3.1) (goes q.0 c.args.burdens q.1 q.2 c.args.part.now q.4 x rest c.loop-ended.self.counting c.loop-ended.self.ways s))), subst (λ k. IsEventAt q.0 (k + x.at) (end_event x.end)) (sym q.3.1) (ends q.0 c.args.burdens q.1 q.2 c.args.part.now q.4 x rest c.loop-ended.self.counting c.loop-ended.self.ways s), subst (λ k. k + x.at < length q.0.records) (sym q.3.1) (inside q.0 c.args.burdens q.1 q.2 c.args.part.now q.4 x rest c.loop-ended.self.counting c.loop-ended.self.ways s))
+    (q.0, subst (λ k. Stands q.0 c.args.burdens (k + x.at) false c.go_on_by.new.self.counting c.go_on_by.new.self.ways) (sym q.3.1) (c.in_ok-go_on_by.ensures.stands q.0 c.args.burdens (q.1 + s.0) (q.1 + x.at) s.1 s.2 (subst (λ k. GoesOn q.0 c.args.burdens k (q.1 + s.0) (q.1 + x.at) s.1 (stored_of x.stored)) (sym q.3.1) (goes q.0 c.args.burdens q.1 q.2 c.args.part.now q.4 x rest c.loop-ended.self.counting c.loop-ended.self.ways s))), subst (λ k. IsEventAt q.0 (k + x.at) (end_event x.end)) (sym q.3.1) (ends q.0 c.args.burdens q.1 q.2 c.args.part.now q.4 x rest c.loop-ended.self.counting c.loop-ended.self.ways s), subst (λ k. k + x.at < length q.0.records) (sym q.3.1) (inside q.0 c.args.burdens q.1 q.2 c.args.part.now q.4 x rest c.loop-ended.self.counting c.loop-ended.self.ways s))
 
 pub loop-ended-preserved : goal.loop-ended-preserved
 loop-ended-preserved c =
@@ -72,7 +72,7 @@ loop-ended-preserved c =
     → c.args.self.now.events + x.at < length trace.records → Stands trace c.args.burdens (suc (c.args.self.now.events + x.at)) (settles x.end) c.end.new.self.counting c.end.new.self.ways)) c.in-Ok.is c.end.ensures.stands in
     record {
       since = λ trace i count so h. let s = since trace i count so h in
-          let st = subst (λ k. Stands trace c.args.burdens (k + x.at) false c.go_on_by.new.self.counting c.go_on_by.new.self.ways) (sym so.1) (c.in_ok-go_on_by.ensures.stands trace c.args.burdens (i + s.0) (i + x.at) s.1 s.2 (subst (λ k. GoesOn trace c.args.burdens k (i + s.0) (i + x.at) s.1 (kept_of x.kept)) (sym so.1) (goes trace c.args.burdens i count c.args.part.now h x rest c.loop-ended.self.counting c.loop-ended.self.ways s))) in
+          let st = subst (λ k. Stands trace c.args.burdens (k + x.at) false c.go_on_by.new.self.counting c.go_on_by.new.self.ways) (sym so.1) (c.in_ok-go_on_by.ensures.stands trace c.args.burdens (i + s.0) (i + x.at) s.1 s.2 (subst (λ k. GoesOn trace c.args.burdens k (i + s.0) (i + x.at) s.1 (stored_of x.stored)) (sym so.1) (goes trace c.args.burdens i count c.args.part.now h x rest c.loop-ended.self.counting c.loop-ended.self.ways s))) in
           let then = went trace st (subst (λ k. IsEventAt trace (k + x.at) (end_event x.end)) (sym so.1) (ends trace c.args.burdens i count c.args.part.now h x rest c.loop-ended.self.counting c.loop-ended.self.ways s)) (subst (λ k. k + x.at < length trace.records) (sym so.1) (inside trace c.args.burdens i count c.args.part.now h x rest c.loop-ended.self.counting c.loop-ended.self.ways s)) in
           subst (λ k. Since trace c.args.burdens i count c.args.part.now h (drop k items) c.end.new.self.counting c.end.new.self.ways) next
           (since_more trace c.args.burdens i count c.args.part.now h x rest c.loop-ended.self.counting c.loop-ended.self.ways s c.end.new.self.counting c.end.new.self.ways
@@ -128,5 +128,5 @@ returns-in-Err-clause-fault c trace i count so h =
     let s = since trace i count so h in
     let fails = subst (λ (r : _). IfErr r (λ f. (trace : Recording) → Stands trace c.args.burdens (c.args.self.now.events + x.at) false c.go_on_by.new.self.counting c.go_on_by.new.self.ways → IsEventAt trace (c.args.self.now.events + x.at) (end_event x.end)
     → c.args.self.now.events + x.at < length trace.records → IsFaultOf trace.records f)) c.in-Err.is c.end.ensures.fault in
-    fails trace (subst (λ k. Stands trace c.args.burdens (k + x.at) false c.go_on_by.new.self.counting c.go_on_by.new.self.ways) (sym so.1) (c.in_ok-go_on_by.ensures.stands trace c.args.burdens (i + s.0) (i + x.at) s.1 s.2 (subst (λ k. GoesOn trace c.args.burdens k (i + s.0) (i + x.at) s.1 (kept_of x.kept)) (sym so.1) (goes trace c.args.burdens i count c.args.part.now h x rest c.loop-ended.self.counting c.loop-ended.self.ways s)))) (subst (λ k. IsEventAt trace (k + x.at) (end_event x.end)) (sym so.1) (ends trace c.args.burdens i count c.args.part.now h x rest c.loop-ended.self.counting c.loop-ended.self.ways s))
+    fails trace (subst (λ k. Stands trace c.args.burdens (k + x.at) false c.go_on_by.new.self.counting c.go_on_by.new.self.ways) (sym so.1) (c.in_ok-go_on_by.ensures.stands trace c.args.burdens (i + s.0) (i + x.at) s.1 s.2 (subst (λ k. GoesOn trace c.args.burdens k (i + s.0) (i + x.at) s.1 (stored_of x.stored)) (sym so.1) (goes trace c.args.burdens i count c.args.part.now h x rest c.loop-ended.self.counting c.loop-ended.self.ways s)))) (subst (λ k. IsEventAt trace (k + x.at) (end_event x.end)) (sym so.1) (ends trace c.args.burdens i count c.args.part.now h x rest c.loop-ended.self.counting c.loop-ended.self.ways s))
     (subst (λ k. k + x.at < length trace.records) (sym so.1) (inside trace c.args.burdens i count c.args.part.now h x rest c.loop-ended.self.counting c.loop-ended.self.ways s))
