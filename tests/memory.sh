@@ -186,6 +186,21 @@ awk 'BEGIN { print "func f"; for (n = 0; n < 40; n++) print "site s" n
     > "$folder/row"
 size=$(($(stat -c %s "$folder/row") / 1024))
 peaks_within $((size * 11 / 10)) 0 "$folder/row" profile --workers 1 "$folder/row"
+# By several workers too, where no child is longer than the first: children of few call sites are added up as they close.
+peak_within() { # BOUND INPUT WORDS..: so many KiB are used at most
+    local bound=$1 input=$2 peak
+    shift 2
+    peak=$(peak_of 0 "$@" "$input")
+    if [ "$peak" -lt "$bound" ]; then
+        echo "memory: $* takes $peak KiB"
+        passed=$((passed + 1))
+    else
+        fails "$* takes $peak KiB, and not $bound at most"
+    fi
+}
+awk 'BEGIN { print "func f"; for (n = 0; n < 40; n++) print "site s" n
+    for (n = 0; n < 1400000; n++) print "spawn", n % 40, "0\nstrand 5\nreturn" }' | "$spprof" encode > "$folder/row"
+peak_within 75000 "$folder/row" profile --workers 2
 size=$(($(stat -c %s "$folder/long") / 1024))
 # Of a trace of version 1 `check` keeps the header and a piece: most of what is measured is the process that starts the
 # program.
