@@ -202,6 +202,17 @@ impl PartProfile {
         Ok(reading.finish(part.count(), None))
     }
 
+    /// What a part comes to that has no events.
+    fn of_none(alloc: Global, part: &Part<'_, '_>, burdens: Burdens) -> Result<Self, AllocError>
+        requires { part.now.count ≡ 0 }
+        ensures { IfOk result (λ p. IsPartProfile part.now.trace burdens part.now.first part.now.count p) }
+    {
+        burdens.are_small();
+        part.keeps_limits();
+        let reading = Reading::new(alloc)?;
+        Ok(reading.finish(0, None))
+    }
+
     /// What a part comes to under these burdens: its events are read once, up to the first record that is no event; a return of
     /// the root frame shows where the part is joined. It takes constant time for each event, amortized, besides a step for each
     /// number of a site and of a function up to the greatest in the part.
@@ -219,6 +230,10 @@ impl PartProfile {
     pub fn of_part(alloc: Global, part: &Part<'_, '_>, burdens: Burdens) -> Result<Self, AllocError>
         ensures { IfOk result (λ p. IsPartProfile part.now.trace burdens part.now.first part.now.count p) }
     {
+        // A part without events walks to none: many of these can stand behind one long item.
+        if part.count() == 0 {
+            return PartProfile::of_none(alloc, part, burdens);
+        }
         match part.events() {
             Events::Records(events) => PartProfile::of_part_by(alloc, part, burdens, events),
             Events::Items(events) => PartProfile::of_part_by(alloc, part, burdens, events),
