@@ -147,7 +147,7 @@ def main():
     rt.rtlib.guarded()
     crates = sorted(rt.rtlib.crates_below(f"{TOP}/crates/spprof"), key=lambda it: len(it.below()))
     held = rt.rtlib.lock(crates)
-    tell(f"building; the first time this proves all {len(crates)} crates: 16 to 20 minutes on four cores of 2.5 GHz")
+    tell(f"building; the first time this proves all {len(crates)} crates: 16 to 26 minutes on four cores of 2.5 GHz")
     # The program itself is last, and `rt run` proves, compiles and runs it.
     if not prove_all(rt, crates):
         return 1
