@@ -13,6 +13,6 @@ mod tabled;
 pub use beginnings::entries_of;
 pub use laws::name_laws;
 pub use pathed::{PathJob, Pathed};
-pub use profiled::{ProfileJob, ProfilePiece};
+pub use profiled::{ProfileJob, ProfilePiece, join_parts};
 pub use survey::{Survey, SurveyJob};
 pub use tabled::{TableJob, Tabled};

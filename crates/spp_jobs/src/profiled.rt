@@ -57,7 +57,7 @@ impl<'c, 't, 'a> ProfileJob<'c, 't, 'a> {
 /// # Errors
 ///
 /// The first bad event, if it is one of these parts, or `Memory` where an allocation failed.
-fn join_each(
+pub fn join_parts(
     alloc: Global,
     so_far: &mut ProfileSoFar,
     burdens: Burdens,
@@ -85,7 +85,7 @@ fn gone_on(
     ensures { (trace : Recording) (i k : ℕ) → IsSoFar trace burdens i so_far → Follow trace burdens i parts.items k → IsReached trace burdens k result }
 {
     let mut so_far = so_far;
-    match join_each(alloc, &mut so_far, burdens, parts) {
+    match join_parts(alloc, &mut so_far, burdens, parts) {
         Ok(()) => ProfilePiece::Begun { so_far, burdens },
         Err(ProfileFault::Bad(fault)) => ProfilePiece::Bad(fault),
         Err(ProfileFault::Memory) => ProfilePiece::Spent,

@@ -2,9 +2,11 @@ pub mod Leading
 pub mod Standing
 pub mod GoingOn
 pub mod Ends
+pub mod Nexts
 pub mod Parting
 pub mod Finishing
 pub mod JoinedWays
 pub mod Taking
 pub mod Going
 pub mod Readings
+pub mod RecordParts

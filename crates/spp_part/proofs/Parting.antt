@@ -1,7 +1,7 @@
 -- How far a part has been joined: what has come so far, and the stretches that are left.
-use Rattle.std.proofs.Common.{◌≡◌, ℕ, suc, ◌+◌, ◌≤◌, ◌<◌, Bool, false, List, [], ◌∷◌, length, drop, get_or, Option, Some, None, sym, ap, subst, ◌∙◌, arith}
+use Rattle.std.proofs.Common.{◌≡◌, ℕ, suc, ◌+◌, ◌≤◌, ◌<◌, Bool, false, List, [], ◌∷◌, length, drop, get_or, Option, Some, None, Err, sym, ap, subst, ◌∙◌, arith}
 use Rattle.std.proofs.Math.Seq.{drop-cons}
-use Rattle.spp_event.specs.Recordings.{Recording}
+use Rattle.spp_event.specs.Recordings.{Recording, record_at}
 use Rattle.spp_event.specs.declared.records.EventFault.{EventFault}
 use Rattle.spp_maxplus.specs.declared.state.Burdens.{Burdens}
 use Rattle.spp_frame.specs.Answers.{IsFaultOf}
@@ -25,6 +25,12 @@ lead_le trace burdens first from settled (x ∷ xs) to then h = let a = h.0.forw
 cut_le : (trace : Recording) (first count good : ℕ) (fault : Option EventFault) → IsCutOff trace first count good fault → good ≤ count
 cut_le trace first count good None h = omega arith
 cut_le trace first count good (Some f) h = let a = h.0 in omega arith
+
+-- the record behind what has come so far is what is wrong, where it is bad
+pub stopped : (trace : Recording) (burdens : Burdens) (i : ℕ) (c : Counting) (w : OpenWays) → Stands trace burdens i false c w → (fault : EventFault) → i < length trace.records → record_at trace.records i ≡ Err fault
+    → IsFaultOf trace.records (Bad (record { at = i; why = Event fault }))
+stopped trace burdens i c w st fault lt is =
+    kept_bad trace.records burdens trace.root i (noted c st.state).work (leans (noted c st.state).frames) fault lt is (now_led trace burdens i false c w st).passed.reached
 
 module _ (trace : Recording) (burdens : Burdens) (i count : ℕ) (p : PartProfile) (h : IsPartProfile trace burdens i count p) where
   -- what has come so far, and what is left of the part
@@ -74,7 +80,7 @@ module _ (trace : Recording) (burdens : Burdens) (i count : ℕ) (p : PartProfil
     faulty fault e =
         let k : IsCutOff trace i count p.good (Some fault) = subst (IsCutOff trace i count p.good) e h.cut_off in
         let lt : i + p.good < length trace.records = (let a = k.0 in let b = h.within in omega arith) in
-        kept_bad trace.records burdens trace.root (i + p.good) (noted c st.state).work (leans (noted c st.state).frames) fault lt k.1 (now_led trace burdens (i + p.good) false c w st).passed.reached
+        stopped trace burdens (i + p.good) c w st fault lt k.1
 
 -- the stretches that are left at the head of a turn
 pub left_at : (items seen : List EndedStretch) (n : ℕ) (x : EndedStretch) → seen ≡ items → n < length seen → x ≡ get_or seen n x → drop n items ≡ x ∷ drop (suc n) items

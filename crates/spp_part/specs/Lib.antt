@@ -1,3 +1,4 @@
 pub mod States
 pub mod Parts
 pub mod Readings
+pub mod RecordParts

@@ -3,6 +3,7 @@
 #![tactic(auto)]
 
 mod part_profile;
+mod records;
 mod so_far;
 mod stretch;
 

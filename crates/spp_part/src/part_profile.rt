@@ -33,7 +33,7 @@ pub struct PartProfile {
 
 /// The reading of a part, between two events.
 #[derive(Drop)]
-struct Reading {
+pub(crate) struct Reading {
     ended: Vec<EndedStretch>,
     counting: Counting,
     ways: OpenWays,
@@ -44,7 +44,7 @@ struct Reading {
 
 impl Reading {
     /// Before the first event.
-    fn new(alloc: Global) -> Result<Self, AllocError>
+    pub(crate) fn new(alloc: Global) -> Result<Self, AllocError>
         ensures { IfOk result (λ r. (trace : Recording) (burdens : BurdensValue) (first : ℕ) → InBounds trace burdens → first ≤ length trace.records → IsReading trace burdens first 0 r) }
     {
         Ok(Reading {
@@ -58,7 +58,7 @@ impl Reading {
 
     /// The event at `at`, counted from the first of the part.
     #[inline(always)]
-    fn read(
+    pub(crate) fn read(
         &mut self,
         alloc: Global,
         burdens: Burdens,
@@ -155,7 +155,7 @@ impl Reading {
     }
 
     /// What the part comes to of which so many events were good.
-    fn finish(self, good: u32, fault: Option<EventFault>) -> PartProfile
+    pub(crate) fn finish(self, good: u32, fault: Option<EventFault>) -> PartProfile
         requires { (trace : Recording) × (burdens : BurdensValue) × (first : ℕ) × IsReading trace burdens first good self }
         ensures { (trace : Recording) (burdens : BurdensValue) (first count : ℕ) → IsReading trace burdens first good self → IsCutOff trace first count good fault → first + count ≤ length trace.records → IsPartProfile trace burdens first count result }
     {

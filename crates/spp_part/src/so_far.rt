@@ -1,19 +1,22 @@
 //! The profile of a run so far.
 
-ghost use Rattle.std.specs.Prelude.{◌≡◌, suc, ◌+◌, ◌≤◌, ◌<◌, ◌^◌, ℕ, Bool, false, length, OnOk, IfOk, IfErr, OnErr};
-ghost use Rattle.spp_event.specs.Recordings.{Recording};
+ghost use Rattle.std.specs.Prelude.{◌≡◌, suc, ◌+◌, ◌≤◌, ◌<◌, ◌^◌, ℕ, Bool, false, length, Err, OnOk, IfOk, IfErr, OnErr};
+ghost use Rattle.spp_event.specs.Recordings.{Recording, InLimits, AreEventsOf, record_at};
 ghost use Rattle.spp_maxplus.specs.declared.state.Burdens.{Burdens as BurdensValue};
 ghost use Rattle.spp_maxplus.specs.State.{unburdened};
 ghost use Rattle.spp_dag.specs.Figures.{AreFigures};
 ghost use Rattle.spp_frame.specs.Answers.{IsFaultOf};
 ghost use Rattle.spp_frame.specs.declared.profile_fault.ProfileFault.TheVariants.{Bad};
 ghost use Rattle.spp_site.specs.Profiles.{IsDagTable, IsPathTable, IsProfileOf};
+ghost use Rattle.spp_event.specs.declared.records.Event.{Event as EventValue};
+ghost use Rattle.spp_part.specs.Readings.{Opens};
 ghost use Rattle.spp_part.specs.States.{IsEventAt};
 ghost use Rattle.spp_part.specs.Parts.{IsPartProfile, IsSoFar, Stands, GoesOn, stretch_of, stored_of, end_event, settles};
 
 use crate::part_profile::PartProfile;
 use crate::stretch::{End, StoredStretch, Stretch};
-use spp_event::Trace;
+use spp_dag::FrameKind;
+use spp_event::{Event, EventFault, Trace};
 use spp_frame::{Fault, ProfileFault, Why};
 use spp_maxplus::Burdens;
 use spp_pass::Counting;
@@ -38,7 +41,23 @@ fn bad(at: u32, why: Why) -> ProfileFault
 }
 
 impl ProfileSoFar {
-    /// Before the first event of a run. It takes constant time, besides a step for each number of a function up to the root's.
+    /// Before the first event of a run in whose trace the root frame runs `root`, and which has so many call sites. It takes
+    /// constant time, besides a step for each number of a function up to the root's.
+    ///
+    /// # Errors
+    ///
+    /// Where an allocation failed.
+    pub fn start(alloc: Global, root: u32, sites: u32) -> Result<Self, AllocError>
+        ensures { IfOk result (λ r. (trace : Recording) (burdens : BurdensValue) → trace.root ≡ root → InLimits trace → AreEventsOf (length trace.sites) (length trace.funcs) trace.records → burdens.continuation < 2 ^ 32 → burdens.join < 2 ^ 32 → IsSoFar trace burdens 0 r) }
+    {
+        Ok(ProfileSoFar {
+            counting: Counting::new(alloc, root)?,
+            ways: OpenWays::new(alloc, sites)?,
+            events: 0,
+        })
+    }
+
+    /// Before the first event of the run of that trace, as [`ProfileSoFar::start`].
     ///
     /// # Errors
     ///
@@ -47,11 +66,7 @@ impl ProfileSoFar {
         ensures { IfOk result (λ r. (burdens : BurdensValue) → burdens.continuation < 2 ^ 32 → burdens.join < 2 ^ 32 → IsSoFar trace.now burdens 0 r) }
     {
         trace.keeps_limits();
-        Ok(ProfileSoFar {
-            counting: Counting::new(alloc, trace.root())?,
-            ways: OpenWays::new(alloc, trace.sites())?,
-            events: 0,
-        })
+        ProfileSoFar::start(alloc, trace.root(), trace.sites())
     }
 
     /// Goes on by a stretch; positions in it count from `first`.
@@ -133,6 +148,59 @@ impl ProfileSoFar {
             }
         }
         Ok(())
+    }
+
+    /// Goes on by an event, which is the next one, read under these burdens. It takes constant time, amortized over the run.
+    ///
+    /// # Errors
+    ///
+    /// `RootReturn` where that is what the event is, or `Memory` where an allocation failed.
+    #[inline(always)]
+    pub(crate) fn read(
+        &mut self,
+        alloc: Global,
+        burdens: Burdens,
+        event: Event,
+    ) -> Result<(), ProfileFault>
+        requires { (trace : Recording) × (i : ℕ) × IsSoFar trace burdens i self.old × IsEventAt trace i event × (i < length trace.records) }
+        ensures so_far { OnOk result ((trace : Recording) (i : ℕ) → IsSoFar trace burdens i self.old → IsEventAt trace i event → i < length trace.records → IsSoFar trace burdens (suc i) self.new) }
+        ensures fault { IfErr result (λ f. (trace : Recording) (i : ℕ) → IsSoFar trace burdens i self.old → IsEventAt trace i event → i < length trace.records → IsFaultOf trace.records f) }
+    {
+        match event {
+            Event::Strand { count } => {
+                self.counting.strand(count);
+                self.ways.strand(count);
+            }
+            Event::Call { site, func } => self.open(FrameKind::Called, site, func)?,
+            Event::Spawn { site, func } => self.open(FrameKind::Spawned, site, func)?,
+            Event::Ret => self.end(alloc, burdens, self.events, End::Return)?,
+            Event::Sync => self.end(alloc, burdens, self.events, End::Sync)?,
+        }
+        self.events += 1;
+        Ok(())
+    }
+
+    /// A call or a spawn, which is the next event.
+    ///
+    /// # Errors
+    ///
+    /// Where an allocation failed.
+    #[inline(always)]
+    fn open(&mut self, kind: FrameKind, site: u32, func: u32) -> Result<(), AllocError>
+        requires { (trace : Recording) × (burdens : BurdensValue) × (i : ℕ) × (event : EventValue) × Opens kind site func event × IsSoFar trace burdens i self.old × IsEventAt trace i event × (i < length trace.records) }
+        ensures stands { OnOk result ((trace : Recording) (burdens : BurdensValue) (i : ℕ) (event : EventValue) → Opens kind site func event → IsSoFar trace burdens i self.old → IsEventAt trace i event → i < length trace.records → Stands trace burdens (suc i) false self.new.counting self.new.ways) }
+        ensures events { self.new.events ≡ self.old.events }
+    {
+        self.counting.open(kind, self.events, site, func)?;
+        self.ways.open()?;
+        Ok(())
+    }
+
+    /// What is wrong with a run whose next record has that fault.
+    pub fn cut_off(&self, fault: EventFault) -> ProfileFault
+        ensures { (trace : Recording) (burdens : BurdensValue) (i : ℕ) → IsSoFar trace burdens i self.now → i < length trace.records → record_at trace.records i ≡ Err fault → IsFaultOf trace.records result }
+    {
+        bad(self.events, Why::Event(fault))
     }
 
     /// Goes on by the next part, read under these burdens. It takes constant time, amortized over the run, for each frame that

@@ -1,33 +1,8 @@
-use Rattle.std.proofs.Common.{◌≡◌, [], ◌∷◌, ap, refl, ◌∙◌, arith}
-use Rattle.spp_event.specs.Recordings.{Recording}
-use Rattle.spp_site.specs.Profiles.{key_row}
-use Rattle.spp_ways.specs.Ways.{no_ways}
-use Rattle.spp_pass.specs.Passes.{Seen, no_notes, seen_with, start_seen}
+use Rattle.std.proofs.Common.{sym}
+use Rattle.std.proofs.lemmas.Result.{IfOk-weaker}
 use Rattle.spp_part.proofs.so_far.ProfileSoFar.new.Goals as goal
 
 pub returns : goal.returns
-returns c burdens light heavy =
-    let trace : Recording = c.args.trace.now in
-    let is : seen_with c.in_ok-new.field-0 no_notes ≡ start_seen trace.root = c.in_ok-new.ensures ∙ ap start_seen c.root.ensures in (
-      record {
-        state = start_seen trace.root;
-        ways = λ on. no_ways ∷ [];
-        at = (refl, λ on. refl);
-        none = λ e. cc;
-        counted = record {
-          frames = ap (λ (s : Seen). s.frames) is;
-          open_sites = λ y. ap (λ (s : Seen). s.open_sites y) is;
-          open_funcs = λ y. ap (λ (s : Seen). s.open_funcs y) is;
-          work = ap (λ (s : Seen). s.work) is;
-          table = λ key. ap (λ (s : Seen). key_row s.table key) is;
-        };
-        logged = c.in_ok-new-2.ensures.ways;
-        laid = c.in_ok-new-2.ensures.laid;
-        rows = (let a = c.in_ok-new-2.ensures.rows in omega arith);
-        within = omega arith;
-        limits = c.keeps_limits.ensures.limits;
-        good = c.keeps_limits.ensures.events;
-        light = omega arith;
-      },
-      refl,
-    )
+returns c = IfOk-weaker c.start.result _ _
+    (λ r so burdens light heavy. so c.args.trace.now burdens (sym c.root.ensures) c.keeps_limits.ensures.limits c.keeps_limits.ensures.events light heavy)
+    c.start.ensures

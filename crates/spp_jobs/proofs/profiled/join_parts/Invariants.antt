@@ -3,7 +3,7 @@ use Rattle.std.specs.VecDeque.{deque_len}
 use Rattle.spp_event.specs.Recordings.{Recording}
 use Rattle.spp_part.specs.Parts.{IsSoFar}
 use Rattle.spp_jobs.specs.ProfilePieces.{Follow}
-use Rattle.spp_jobs.proofs.profiled.join_each.Given as goal
+use Rattle.spp_jobs.proofs.profiled.join_parts.Given as goal
 
 -- whatever the profile and the parts were of, the profile has come to a position from which the parts that are left lead on
 abbrev pub invariant-loop-part : goal.invariant-loop-part

@@ -6,7 +6,7 @@ use Rattle.spp_part.specs.Parts.{IsSoFar}
 use Rattle.spp_part.specs.declared.part_profile.PartProfile.{PartProfile}
 use Rattle.spp_jobs.specs.ProfilePieces.{Follow}
 use Rattle.spp_jobs.proofs.ProfilePieces.{told_on}
-use Rattle.spp_jobs.proofs.profiled.join_each.Goals as goal
+use Rattle.spp_jobs.proofs.profiled.join_parts.Goals as goal
 
 pub returns-in_err-join-clause-fault : goal.returns-in_err-join-clause-fault
 returns-in_err-join-clause-fault c =

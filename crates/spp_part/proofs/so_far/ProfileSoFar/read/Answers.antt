@@ -1,0 +1,53 @@
+use Rattle.std.proofs.Common.{suc, ◌≡◌, ◌<◌, true, false, length, refl, sym, subst, ◌∙◌, arith}
+use Rattle.spp_event.specs.declared.records.Event.{Event}
+use Rattle.spp_event.specs.declared.records.Event.TheVariants.{Strand, Call, Spawn, Ret, Sync}
+use Rattle.spp_part.specs.declared.so_far.ProfileSoFar.{ProfileSoFar}
+use Rattle.spp_part.specs.States.{IsEventAt}
+use Rattle.spp_part.specs.Parts.{Stands}
+use Rattle.spp_part.proofs.Nexts.{unsettled, can_add, fit_strand, strand_next}
+use Rattle.spp_part.proofs.so_far.ProfileSoFar.read.Goals as goal
+use Rattle.spp_part.proofs.so_far.ProfileSoFar.read.Goals.{in-Strand, in-Call+in_ok-open-in-Call, in-Spawn+in_ok-open-in-Spawn, in-Ret+in_ok-end-in-Ret, in-Sync+in_ok-end-in-Sync}
+
+pub strand-requires : goal.strand-requires
+strand-requires c =
+    let q = c.requires in
+    can_add q.0 c.args.burdens q.1 c.args.self.now.counting c.args.self.now.ways q.2.0 q.4 c.in-Strand.count (subst (IsEventAt q.0 q.1) c.in-Strand.is q.3)
+
+pub strand-requires-in-Strand-clause-fits : goal.strand-requires-in-Strand-clause-fits
+strand-requires-in-Strand-clause-fits c on =
+    let q = c.requires in
+    fit_strand q.0 c.args.burdens q.1 c.args.self.now.counting c.args.self.now.ways q.2.0 q.4 c.in-Strand.count (subst (IsEventAt q.0 q.1) c.in-Strand.is q.3) on
+
+pub returns-clause-so_far : goal.returns-clause-so_far
+returns-clause-so_far c trace i so at lt =
+    let b = c.args.burdens in
+    let old : ProfileSoFar = c.args.self.now in
+    let Now : ProfileSoFar → Type 0 = λ r. Stands trace b (suc i) false r.counting r.ways × (r.events ≡ i) in
+    let is = λ (e : Event) (same : c.args.event ≡ e). let r : IsEventAt trace i e = subst (IsEventAt trace i) same at in r in
+    let moved : Now c.match-event.self = elim c.match-event.branch [
+      | in-Strand w ↦
+          let n = w.in-Strand.count in
+          let f = w.strand-in-Strand.ensures in
+          subst Now (sym w.self-is)
+          (strand_next trace b i old.counting old.ways so.0 lt n (is (Strand n) w.in-Strand.is) w.strand.new.self w.strand.ensures w.strand-in-Strand.new.self f.laid f.ways f.rows, so.1)
+      | in-Call+in_ok-open-in-Call w ↦
+          let f = w.in_ok-open-in-Call.ensures in
+          subst Now (sym w.self-is)
+          (f.stands trace b i (Call w.in-Call.site w.in-Call.func) refl so (is (Call w.in-Call.site w.in-Call.func) w.in-Call.is) lt, f.events ∙ so.1)
+      | in-Spawn+in_ok-open-in-Spawn w ↦
+          let f = w.in_ok-open-in-Spawn.ensures in
+          subst Now (sym w.self-is)
+          (f.stands trace b i (Spawn w.in-Spawn.site w.in-Spawn.func) refl so (is (Spawn w.in-Spawn.site w.in-Spawn.func) w.in-Spawn.is) lt, f.events ∙ so.1)
+      | in-Ret+in_ok-end-in-Ret w ↦
+          let f = w.in_ok-end-in-Ret.ensures in
+          let st = f.stands trace (subst (λ k. Stands trace b k false old.counting old.ways) (sym so.1) so.0) (subst (λ k. IsEventAt trace k Ret) (sym so.1) (is Ret w.in-Ret.is)) (subst (λ k. k < length trace.records) (sym so.1) lt) in
+          subst Now (sym w.self-is) (subst (λ k. Stands trace b (suc k) false w.end.new.self.counting w.end.new.self.ways) so.1 st, f.events ∙ so.1)
+      | in-Sync+in_ok-end-in-Sync w ↦
+          let f = w.in_ok-end-in-Sync.ensures in
+          let st = f.stands trace (subst (λ k. Stands trace b k false old.counting old.ways) (sym so.1) so.0) (subst (λ k. IsEventAt trace k Sync) (sym so.1) (is Sync w.in-Sync.is)) (subst (λ k. k < length trace.records) (sym so.1) lt) in
+          subst Now (sym w.self-is) (
+            unsettled trace b (suc i) true w.end-in-Sync.new.self.counting w.end-in-Sync.new.self.ways (subst (λ k. Stands trace b (suc k) true w.end-in-Sync.new.self.counting w.end-in-Sync.new.self.ways) so.1 st),
+            f.events ∙ so.1,
+          )
+    ] in
+    (moved.0, (let z : c.match-event.self.events ≡ i = moved.1 in omega arith))
