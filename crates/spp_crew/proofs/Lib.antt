@@ -4,3 +4,4 @@ pub mod Halves
 pub mod Marked
 pub mod WholePiece
 pub mod Profiled
+pub mod RecordProfiles

@@ -1,3 +1,6 @@
 pub mod Marks
 pub mod Rounds
 pub mod Settling
+pub mod RecordHeads
+pub mod Joinings
+pub mod RecordProfiles

@@ -11,9 +11,12 @@
 #![tactic(auto)]
 
 mod gate;
+mod joining;
 mod marking;
 mod once;
 mod profiling;
+mod record_head;
+mod record_profile;
 mod round;
 mod surveying;
 mod whole_profile;
@@ -22,6 +25,8 @@ pub use gate::{Gate, OpenGate, Round};
 pub use marking::marks;
 pub use once::profile_once;
 pub use profiling::{profile_in_rounds, tabled};
+pub use record_head::RecordHead;
+pub use record_profile::RecordProfile;
 pub use round::run_round;
 pub use surveying::{Surveyed, figures, survey};
-pub use whole_profile::profile;
+pub use whole_profile::{FEW_SITES, profile};

@@ -19,7 +19,7 @@ use std::thread::Threads;
 
 /// Up to how many call sites a profile is made in one round. Its joins are made one at a time: they copy the rows of ways and
 /// add them up by site. Where the rows of all sites don't fit into a processor's caches, three rounds are done sooner.
-const FEW_SITES: u32 = 1024;
+pub const FEW_SITES: u32 = 1024;
 
 /// How many events a part that is read once has at most, on average: what it comes to takes memory for the frames in it until
 /// it is joined.
