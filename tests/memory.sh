@@ -97,8 +97,9 @@ each_refused() { # NAME STATUS STARTS OUT ERR INPUT PROGRAM WORDS..: what the pr
 # Each call twice: of the crew figures, profile, the same in three rounds, and marks by two workers, with 1, 1, 4 and 3 threads.
 each_refused 'the calls' 0 18 "$(cat "$tests/../crates/memory_probe/stdout")" '' /dev/null "$probe"
 
-# A round has a thread for each worker but one. `profile` has one round, or three where there are many call sites, and settles
-# its paths on two threads then; with one worker it has none.
+# A round has a thread for each worker but one. `profile` of a trace that is read whole has one round, or three where there are
+# many call sites, and settles its paths on two threads then; of one that comes in blocks it has a thread for each worker in each
+# block, beside the one that joins. With one worker it has none.
 examples=$tests/../examples
 head -c 23 "$examples/small.sptrace" > "$folder/short"
 { head -c 100 "$examples/small.sptrace"; head -c 16 /dev/zero | tr '\0' '\5'; } > "$folder/tag"
@@ -113,25 +114,28 @@ each_refused 'figures, in one part' 0 3 'work 136861*' '' "$examples/cilksort.sp
 each_refused 'figures, more parts than events' 0 3 'work 17*' '' "$examples/small.sptrace" "$spprof" figures --parts 20
 each_refused 'figures, a bad event' 1 3 '' 'bad event 4: tag' "$folder/tag" "$spprof" figures --burden 3
 each_refused 'figures, a bad event in the second part' 1 3 '' 'bad event 4: tag' "$folder/tag" "$spprof" figures --parts 2
-each_refused 'profile, a recorded trace' 0 3 'work 32744*' '' "$examples/nqueens.sptrace" "$spprof" profile
-each_refused 'profile as tables alone' 0 3 'name,count*' '' "$examples/nqueens.sptrace" "$spprof" profile --csv
+each_refused 'profile, a recorded trace' 0 4 'work 32744*' '' "$examples/nqueens.sptrace" "$spprof" profile
+each_refused 'profile as tables alone' 0 4 'name,count*' '' "$examples/nqueens.sptrace" "$spprof" profile --csv
 # Two children that are waited for, in parts of one event that two workers share.
 printf '%s\n' 'func main' 'func f' 'site A' 'strand 1' 'spawn 0 1' 'strand 4' 'return' 'spawn 0 1' 'strand 2' 'return' \
     'sync' 'strand 3' | "$spprof" encode > "$folder/two"
 each_refused 'figures by workers' 0 1 'work 10*' '' "$folder/two" "$spprof" figures --parts 9 --workers 2
-each_refused 'profile by workers' 0 1 'name,count*' '' "$folder/two" "$spprof" profile --csv --parts 9 --workers 2
+each_refused 'profile by workers' 0 2 'name,count*' '' "$folder/two" "$spprof" profile --csv --parts 9 --workers 2
 # The same run, where there are so many call sites that a profile takes three rounds.
 { awk 'BEGIN { print "func main\nfunc f"; for (n = 0; n < 1025; n++) printf "site s%d\n", n }' && printf '%s\n' 'strand 1' \
     'spawn 0 1' 'strand 4' 'return' 'spawn 0 1' 'strand 2' 'return' 'sync' 'strand 3'; } | "$spprof" encode > "$folder/many"
 each_refused 'profile in three rounds' 0 4 'name,count*' '' "$folder/many" "$spprof" profile --csv --parts 9 --workers 2
+# The same in version 2, which is read whole: there a profile takes one round.
+"$spprof" migrate < "$folder/two" > "$folder/two.compact"
+each_refused 'profile in one round' 0 1 'name,count*' '' "$folder/two.compact" "$spprof" profile --csv --parts 9 --workers 2
 each_refused 'profile by one worker' 0 0 'work 32744*' '' "$examples/nqueens.sptrace" "$spprof" profile --workers 1
 each_refused 'compare by one worker' 0 0 'work 10 17*' '' /dev/null "$spprof" compare --workers 1 "$folder/two" "$examples/small.sptrace"
 each_refused 'marks by workers' 0 3 '111100011' '' "$folder/two" "$printer" marks 9 2
 each_refused 'marks, a recorded trace' 0 6 '1*' '' "$examples/nqueens.sptrace" "$printer" marks 20 3
-each_refused 'compare' 0 6 'work 17 32744*' '' /dev/null "$spprof" compare "$examples/small.sptrace" "$examples/nqueens.sptrace"
-each_refused 'compare by workers' 0 2 'work 10 17*' '' /dev/null "$spprof" compare --parts 9 --workers 2 "$folder/two" "$examples/small.sptrace"
-each_refused 'compare, a bad first event' 1 3 '' 'before: bad event 4: tag' /dev/null "$spprof" compare "$folder/tag" "$folder/two"
-each_refused 'compare, a bad second header' 1 3 '' 'after: bad header: short' /dev/null "$spprof" compare "$folder/two" "$folder/short"
+each_refused 'compare' 0 8 'work 17 32744*' '' /dev/null "$spprof" compare "$examples/small.sptrace" "$examples/nqueens.sptrace"
+each_refused 'compare by workers' 0 4 'work 10 17*' '' /dev/null "$spprof" compare --parts 9 --workers 2 "$folder/two" "$examples/small.sptrace"
+each_refused 'compare, a bad first event' 1 4 '' 'before: bad event 4: tag' /dev/null "$spprof" compare "$folder/tag" "$folder/two"
+each_refused 'compare, a bad second header' 1 4 '' 'after: bad header: short' /dev/null "$spprof" compare "$folder/two" "$folder/short"
 each_refused 'encode, a good text' 0 0 'SPTRACE1*' '' "$examples/small.txt" "$spprof" encode
 printf 'func f\nsync\nsync 1 2 3 4 5\n' > "$folder/text"
 each_refused 'encode, a bad text' 1 0 '' 'bad text line 3: count' "$folder/text" "$spprof" encode
@@ -179,13 +183,17 @@ peaks_within() { # BOUND STATUS INPUT WORDS..: so many KiB are used at most, and
 size=$(($(stat -c %s "$folder/long") / 1024))
 peaks_within $((size * 13 / 10)) 0 "$folder/long" figures --workers 1
 peaks_within $((size * 11 / 10)) 0 "$folder/long" figures --workers 1 "$folder/long"
-# With one worker a profile takes little more, however many frames are on the path: some are called, and others spawned, each
+# A profile that goes by blocks keeps no trace, however many frames are on the path: some are called, and others spawned, each
 # of which is longer than the one before.
 awk 'BEGIN { print "func f"; for (n = 0; n < 40; n++) print "site s" n
     for (n = 0; n < 1400000; n++) print (n < 700000 ? "call " : "spawn ") n % 40, 0 "\nstrand", n "\nreturn" }' | "$spprof" encode \
     > "$folder/row"
 size=$(($(stat -c %s "$folder/row") / 1024))
-peaks_within $((size * 11 / 10)) 0 "$folder/row" profile --workers 1 "$folder/row"
+peaks_within 20000 0 "$folder/row" profile --workers 1
+peaks_within 20000 0 "$folder/row" profile --workers 1 "$folder/row"
+"$spprof" migrate < "$folder/row" > "$folder/row.compact"
+size=$(($(stat -c %s "$folder/row.compact") / 1024))
+peaks_within $((size * 11 / 10 + 4000)) 0 "$folder/row.compact" profile --workers 1 "$folder/row.compact"
 # By several workers too, where no child is longer than the first: children of few call sites are added up as they close.
 peak_within() { # BOUND INPUT WORDS..: so many KiB are used at most
     local bound=$1 input=$2 peak

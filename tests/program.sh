@@ -509,8 +509,14 @@ judge 'tables of a million nested calls' 0 "name,*${lf}(root),1,0,1,5,5,1,5,5,1,
 timeout 30 "$spprof" profile --csv "$folder/wide" > "$folder/out" 2> "$folder/err"
 status=$?
 judge 'tables of a million children' 0 "name,*${lf}(root),1,0,1,5000000,5,1,5000000,5,1,0,1,5000000,5,1,5000000,5,1,0,1,5000000,5,1,5000000,5${lf}A,1000000,5000000,1000000,5000000,5000000,1000000,5000000,5000000,1,5,1,5,5,1,5,5,1,5,1,5,5,1,5,5$lf" ''
-# By way of 65,536 parts too, without a list of all open frames for each: the tables, and the marks of the path.
-(ulimit -v 700000 && timeout 60 "$spprof" profile --csv --parts 65536 --workers 3 "$folder/nested" > "$folder/out" 2> "$folder/err")
+# By several workers, in blocks; threads have addresses of their own, most of which no memory is taken for.
+(ulimit -v 1200000 && timeout 60 "$spprof" profile --csv --workers 3 "$folder/nested" > "$folder/out" 2> "$folder/err")
+status=$?
+judge 'tables of a million nested calls in blocks' 0 "name,*${lf}(root),1,0,1,5,5,1,5,5,1,0,1,5,5,1,5,5,1,0,1,5,5,1,5,5${lf}A,1000000,5,1,5,5,1,5,5,1000000,5,1,5,5,1,5,5,1000000,5,1,5,5,1,5,5$lf" ''
+# By way of 65,536 parts too, without a list of all open frames for each: the tables, in version 2, which is read whole, and the
+# marks of the path.
+"$spprof" migrate < "$folder/nested" > "$folder/nested.compact"
+(ulimit -v 700000 && timeout 60 "$spprof" profile --csv --parts 65536 --workers 3 "$folder/nested.compact" > "$folder/out" 2> "$folder/err")
 status=$?
 judge 'tables of a million nested calls in parts' 0 "name,*${lf}(root),1,0,1,5,5,1,5,5,1,0,1,5,5,1,5,5,1,0,1,5,5,1,5,5${lf}A,1000000,5,1,5,5,1,5,5,1000000,5,1,5,5,1,5,5,1000000,5,1,5,5,1,5,5$lf" ''
 (ulimit -v 700000 && timeout 60 "$printer" marks 65536 3 < "$folder/nested" > "$folder/out" 2> "$folder/err")

@@ -129,7 +129,7 @@ cp -p "$folder/source" "$source"
 cloned 'what was built while a source changed, which is as before' 0 "work 17$lf" '' check
 fake "$folder/other/python3" "cp '$folder/built' '$out/spprof'"
 path=$folder/other:$folder/bin cloned '--build' 0 '' "spprof: built$lf" --build
-cloned 'what was built' 9 "built here: glibc.malloc.hugetlb=1 check -$lf" '' check -
+cloned 'what was built' 9 "built here: glibc.malloc.hugetlb=1:glibc.malloc.trim_threshold=268435456:glibc.malloc.mmap_threshold=33554432 check -$lf" '' check -
 GLIBC_TUNABLES=glibc.malloc.hugetlb=0 cloned 'a setting of the user' 9 "built here: glibc.malloc.hugetlb=0 check$lf" '' check
 touch "$source"
 cloned 'what was built is of the same sources' 9 "built here: *" '' check

@@ -102,7 +102,7 @@ fn parts<'a>(alloc: Global) -> Arg<'a>
         .value_parser(value_parser!(u32).range(1..=most))
         .default_value(DEFAULT_PARTS_WORD)
         .help(
-            "Parts that the trace is cut into, 1 to 65536; the answer is the same for each number",
+            "Parts that a trace is cut into where it is read whole, 1 to 65536; the answer is the same for each number",
         )
 }
 

@@ -1,66 +1,95 @@
 -- How bytes that were read lie in a header, whole records and the rest.
-use Rattle.std.proofs.Common.{◌≡◌, ℕ, ◌+◌, ◌-◌, ◌*◌, ◌/◌, ◌≤◌, List, [], ◌++◌, length, take, drop, Option, sym, ap, subst, ◌∙◌, append_assoc, length-append, arith}
-use Rattle.std.specs.List.{slice_range}
-use Rattle.std.proofs.lemmas.List.{take-append-drop, take-take, drop-take}
-use Rattle.std.proofs.lemmas.List.Folds.{drop_split}
+use Rattle.std.proofs.Common.{◌≡◌, ℕ, ◌+◌, ◌-◌, ◌*◌, ◌≤◌, List, ◌++◌, length, take, drop, Option, refl, sym, ap, subst, ◌∙◌, append_assoc, length-append, arith}
+use Rattle.std.proofs.lemmas.List.{take-append-drop, take-take, drop-take, length-drop, length-take-le}
 use Rattle.spp_event.specs.Recordings.{Record, records_of}
 use Rattle.spp_event.specs.declared.version.Version.TheVariants.{One}
 use Rattle.spp_event.proofs.JoinedRecords.{records_joined}
-use Rattle.spp_frame.specs.declared.record_check.RecordCheck.{RecordCheck}
-use Rattle.spp_frame.specs.RecordChecks.{HasSeen, seen_by}
-use Rattle.spp_shell.specs.Checked.{IsChecked}
-use Rattle.spp_shell.specs.RecordStreams.{AreParted}
+use Rattle.spp_shell.specs.RecordStreams.{HasStreamed}
 use Rattle.spp_shell.specs.Streams.{HasRead}
 use Rattle.spp_shell.specs.declared.record_stream.Head.{Head}
 
-module _ (sites funcs : ℕ) where
-  pub checked_none : (check : RecordCheck) → HasSeen check [] → IsChecked check sites funcs []
-  checked_none check seen =
-      let none = seen.count in
-      record { whole = omega (arith, none); seen = subst (λ (k : ℕ). HasSeen check (records_of One sites funcs k [])) (sym none) seen }
+-- the records of bytes that were seen, and of more
+pub seen_more : (Seen : List Record → Type 0) (sites funcs n k m : ℕ) (xs ys : List ℕ) → length xs ≡ 16 * n → m ≡ n + k → Seen (records_of One sites funcs n xs ++ records_of One sites funcs k ys) → Seen (records_of One sites funcs m (xs ++ ys))
+seen_more Seen sites funcs n k m xs ys whole counted seen =
+    subst (λ (j : ℕ). Seen (records_of One sites funcs j (xs ++ ys))) (sym counted) (subst (λ (l : List Record). Seen l) (records_joined sites funcs n k xs ys whole) seen)
 
-  -- more whole records
-  pub checked_more : (before after : RecordCheck) (xs ys : List ℕ) (k : ℕ) → IsChecked before sites funcs xs → length ys ≡ k * 16 → seen_by after ≡ seen_by before + length ys / 16
-      → HasSeen after (records_of One sites funcs (seen_by before) xs ++ records_of One sites funcs (length ys / 16) ys) → IsChecked after sites funcs (xs ++ ys)
-  checked_more before after xs ys k c n counted seen =
-      let w = c.whole in
-      record {
-        whole = omega (arith, length-append xs ys);
-        seen = subst (λ (j : ℕ). HasSeen after (records_of One sites funcs j (xs ++ ys))) (sym counted) (subst (λ (l : List Record). HasSeen after l) (records_joined sites funcs (seen_by before) (length ys / 16) xs ys w) seen);
-      }
-
--- a header, the whole records behind it, and the rest
-pub first_parts : (xs : List ℕ) (len at : ℕ) → len ≤ at → xs ≡ (take len xs ++ slice_range xs len at) ++ drop at xs
-first_parts xs len at le =
-    sym (take-append-drop len xs) ∙ ap (λ (l : List ℕ). take len xs ++ l) (drop_split xs len at le) ∙ sym (append_assoc (take len xs) (slice_range xs len at) (drop at xs))
-
--- a part of a front lies in the whole
-pub slice_within : (xs : List ℕ) (n a b : ℕ) → a ≤ b → b ≤ n → slice_range (take n xs) a b ≡ slice_range xs a b
-slice_within xs n a b le within =
-    let m = n - a in
-    let is : n ≡ a + m = omega arith in
-    ap (λ (k : ℕ). take (b - a) (drop a (take k xs))) is ∙ ap (take (b - a)) (drop-take a m xs) ∙ take-take (b - a) m (drop a xs) (omega arith)
-
-front_of : (xs : List ℕ) (j more : ℕ) → j ≤ more → take j (take more xs) ≡ slice_range xs 0 j
-front_of xs j more le = let z : j ≡ j - 0 = omega arith in take-take j more xs le ∙ ap (λ (k : ℕ). take k xs) z
-
--- whole records go from the rest to those that were checked
+-- whole records go from the rest to those that were gone over
 pub parts_moved : (h d new rest : List ℕ) (more left : ℕ) → left ≤ more → rest ≡ drop (more - left) (take more new)
-    → (h ++ d) ++ take more new ≡ (h ++ (d ++ slice_range new 0 (more - left))) ++ rest
+    → (h ++ d) ++ take more new ≡ (h ++ (d ++ take (more - left) (take more new))) ++ rest
 parts_moved h d new rest more left le is =
     let j = more - left in
-    let split : take more new ≡ slice_range new 0 j ++ rest =
-    sym (take-append-drop j (take more new)) ∙ ap (λ (l : List ℕ). l ++ drop j (take more new)) (front_of new j more (omega arith)) ∙ ap (λ (l : List ℕ). slice_range new 0 j ++ l) (sym is) in
+    let split : take more new ≡ take j (take more new) ++ rest =
+    sym (take-append-drop j (take more new)) ∙ ap (λ (l : List ℕ). take j (take more new) ++ l) (sym is) in
     ap (λ (l : List ℕ). (h ++ d) ++ l) split
-    ∙ sym (append_assoc (h ++ d) (slice_range new 0 j) rest)
-    ∙ ap (λ (l : List ℕ). l ++ rest) (append_assoc h d (slice_range new 0 j))
+    ∙ sym (append_assoc (h ++ d) (take j (take more new)) rest)
+    ∙ ap (λ (l : List ℕ). l ++ rest) (append_assoc h d (take j (take more new)))
 
-module _ (head : Head) (check : RecordCheck) (rest all : List ℕ) (p : AreParted head check rest all) where
-  pub before_rest : (before : ℕ) → before ≡ head.len + 16 * seen_by check → length (p.header ++ p.done) ≡ before
-  before_rest before e = let a = p.len in let b = p.checked.whole in omega (arith, length-append p.header p.done)
+-- the first whole bytes of a buffer, of which f came, and a copy of those behind them
+module _ (old now : List ℕ) (whole f : ℕ) (is : now ≡ old) (le : whole ≤ f) (held : f ≤ length old) where
+  pub whole_front : take whole now ≡ take (f - (f - whole)) (take f old)
+  whole_front =
+      let e : whole ≡ f - (f - whole) = omega arith in
+      ap (λ (l : List ℕ). take whole l) is ∙ sym (take-take whole f old le) ∙ ap (λ (j : ℕ). take j (take f old)) e
+
+  pub whole_len : length (take whole now) ≡ whole
+  whole_len = length-take-le whole now (omega (arith, ap (λ (l : List ℕ). length l) is))
+
+  pub whole_behind : (copied : List ℕ) → take (length (take (f - whole) (drop whole now))) copied ≡ take (f - whole) (drop whole now) → take (f - whole) copied ≡ drop (f - (f - whole)) (take f old)
+  whole_behind copied kept =
+      let n : length (take (f - whole) (drop whole now)) ≡ f - whole = length-take-le (f - whole) (drop whole now) (omega (arith, length-drop whole now, ap (λ (l : List ℕ). length l) is)) in
+      let all : whole + (f - whole) ≡ f = omega arith in
+      let e : whole ≡ f - (f - whole) = omega arith in
+      ap (λ (j : ℕ). take j copied) (sym n) ∙ kept ∙ ap (λ (l : List ℕ). take (f - whole) (drop whole l)) is ∙ sym (drop-take whole (f - whole) old)
+      ∙ ap (λ (j : ℕ). drop whole (take j old)) all ∙ ap (λ (j : ℕ). drop j (take f old)) e
+
+module _ {V : Type 0} (seen_by : V → ℕ) (has_seen : V → V → List ℕ → Type 0) (first now : V) (head : Head) (header rest all : List ℕ) (p : HasStreamed seen_by has_seen first now head header rest all) where
+  pub before_rest : (before : ℕ) → before ≡ head.len + 16 * seen_by now → length (header ++ p.done) ≡ before
+  before_rest before e = let a = p.len in let b = p.whole in omega (arith, length-append header p.done)
 
   -- what came so far, where the rest lies in another buffer
   pub read_here : {S : Type 0} (answered : S → Option (List ℕ) → S → Type 0) (failed : S → S → Type 0) (failures : S → ℕ) (n : ℕ) (s t : S) (other : List ℕ) → other ≡ rest
-      → HasRead answered failed failures n s all t → HasRead answered failed failures n s ((p.header ++ p.done) ++ other) t
+      → HasRead answered failed failures n s all t → HasRead answered failed failures n s ((header ++ p.done) ++ other) t
   read_here answered failed failures n s t other e h =
-      subst (λ (l : List ℕ). HasRead answered failed failures n s l t) (p.parts ∙ ap (λ (l : List ℕ). (p.header ++ p.done) ++ l) (sym e)) h
+      subst (λ (l : List ℕ). HasRead answered failed failures n s l t) (p.parts ∙ ap (λ (l : List ℕ). (header ++ p.done) ++ l) (sym e)) h
+
+  -- whole records of the rest have been gone over
+  pub gone_over : (then : V) (old : List ℕ) (filled left : ℕ) (behind : List ℕ) → rest ≡ take filled old → filled ≤ length old → left ≤ filled → behind ≡ drop (filled - left) (take filled old)
+      → 16 * seen_by then + left ≡ 16 * seen_by now + filled → has_seen first then (p.done ++ take (filled - left) (take filled old)) → HasStreamed seen_by has_seen first then head header behind all
+  gone_over then old filled left behind is held le kept counted seen =
+      let j = filled - left in
+      let n : length (take filled old) ≡ filled = length-take-le filled old held in
+      let m : length (take j (take filled old)) ≡ j = length-take-le j (take filled old) (omega arith) in
+      let w = p.whole in
+      record {
+        done = p.done ++ take j (take filled old);
+        parts = p.parts ∙ ap (λ (l : List ℕ). (header ++ p.done) ++ l) is ∙ parts_moved header p.done old behind filled left le kept;
+        is_head = p.is_head;
+        len = p.len;
+        whole = omega (arith, length-append p.done (take j (take filled old)));
+        seen = seen;
+      }
+
+  -- the rest begins with whole records, which are let go, and goes on in another buffer
+  module _ (old : List ℕ) (filled left : ℕ) (is : rest ≡ take filled old) (held : filled ≤ length old) (le : left ≤ filled) where
+    abbrev pub gone : List ℕ
+    gone = p.done ++ take (filled - left) (take filled old)
+
+    gone_len : length gone ≡ length p.done + (filled - left)
+    gone_len =
+        let n : length (take filled old) ≡ filled = length-take-le filled old held in
+        let m : length (take (filled - left) (take filled old)) ≡ filled - left = length-take-le (filled - left) (take filled old) (omega arith) in
+        omega (arith, length-append p.done (take (filled - left) (take filled old)))
+
+    pub before_behind : (before : ℕ) → before ≡ head.len + 16 * seen_by now → length (header ++ gone) ≡ before + (filled - left)
+    before_behind before e = let a = p.len in let b = p.whole in let c = gone_len in omega (arith, length-append header gone)
+
+    pub read_behind : {S : Type 0} (answered : S → Option (List ℕ) → S → Type 0) (failed : S → S → Type 0) (failures : S → ℕ) (n : ℕ) (s t : S) (behind : List ℕ) → behind ≡ drop (filled - left) (take filled old)
+        → HasRead answered failed failures n s all t → HasRead answered failed failures n s ((header ++ gone) ++ behind) t
+    read_behind answered failed failures n s t behind kept h =
+        subst (λ (l : List ℕ). HasRead answered failed failures n s l t) (p.parts ∙ ap (λ (l : List ℕ). (header ++ p.done) ++ l) is ∙ parts_moved header p.done old behind filled left le kept) h
+
+    pub streamed_behind : (then : V) (more : List ℕ) → 16 * seen_by then + left ≡ 16 * seen_by now + filled → has_seen first then gone → HasStreamed seen_by has_seen first then head header more ((header ++ gone) ++ more)
+    streamed_behind then more counted seen =
+        let w = p.whole in
+        let n = gone_len in
+        record { done = gone; parts = refl; is_head = p.is_head; len = p.len; whole = omega arith; seen = seen }

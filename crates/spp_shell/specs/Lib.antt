@@ -5,12 +5,13 @@ pub mod Streams
 pub mod Refusals
 pub mod InSources
 pub mod Check
-pub mod Checked
 pub mod RecordStreams
+pub mod Checked
 pub mod Encode
 pub mod Migrate
 pub mod Figures
 pub mod Profiles
+pub mod Profiled
 pub mod Compare
 pub mod Laws
 pub mod Inputs

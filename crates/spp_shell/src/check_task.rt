@@ -1,9 +1,11 @@
 //! The task `check`: the work of a trace, or its first fault.
-ghost use Rattle.std.specs.Prelude.{◌≡◌, ◌≤◌, ◌^◌, ℕ, List, [], ◌∷◌, length, take, IfOk, IfErr};
+ghost use Rattle.std.specs.Prelude.{◌≡◌, ◌≤◌, ◌<◌, ◌^◌, ℕ, List, [], ◌∷◌, length, take, IfOk, IfErr};
 ghost use Rattle.spp_event.specs.Heads.{IsRecordHead};
 ghost use Rattle.spp_shell.specs.Devices.{giving_of};
 ghost use Rattle.spp_shell.specs.Inputs.{IsInputRefused};
+ghost use Rattle.spp_shell.specs.Checked.{IsChecked, checked_by};
 ghost use Rattle.spp_shell.specs.RecordStreams.{HasStreamed};
+ghost use Rattle.spp_shell.specs.declared.checked_records.CheckedRecords.{CheckedRecords as CheckedRecordsValue};
 ghost use Rattle.spp_shell.specs.Streams.{HasRead};
 ghost use Rattle.spp_shell.specs.Tasks.{IfLine};
 ghost use Rattle.spp_shell.specs.declared.place.Place.TheVariants.{Only};
@@ -11,18 +13,21 @@ ghost use Rattle.std.specs.String.{string_bytes};
 ghost use Rattle.spp_shell.specs.Check.{IsCheckText, IsCheckLine, IsOneCheckLine, work_text};
 
 use crate::came::Came;
+use crate::checked_records::CheckedRecords;
 use crate::header_end::HeaderEnd;
 use crate::input::refusal_of_read;
 use crate::opening::{open_or_refuse, refusal_of_event, refusal_of_header};
 use crate::place::Place;
-use crate::reading::{INPUT_LIMIT, make_first_room};
+use crate::reading::{INPUT_LIMIT, PIECE, make_first_room};
 use crate::reading_on::{Front, read_on};
 use crate::record_stream::{Head, RecordStream};
 use crate::refusal::Refusal;
 use crate::source::Source;
 use spp_event::HeaderFault;
-use spp_frame::check;
+use spp_frame::{RecordCheck, check};
 use std::alloc::{AllocError, Global};
+use std::sync::Wait;
+use std::thread::Threads;
 
 /// The text that tells the work.
 fn text_of_work(alloc: Global, work: u128) -> Result<String, AllocError>
@@ -44,21 +49,23 @@ fn answer_check(alloc: Global, bytes: &[u8]) -> Result<Vec<u8>, Refusal>
 }
 
 /// The same of a trace of version 1 whose records were checked as they came.
-fn answer_stream(alloc: Global, stream: RecordStream) -> Result<Vec<u8>, Refusal>
-    ensures text { (bytes : List ℕ) → HasStreamed stream bytes → IfOk result (λ text. IsCheckText (bytes ∷ []) text.items) }
-    ensures line { (bytes : List ℕ) → HasStreamed stream bytes → IfErr result (λ refusal. IfLine refusal (IsCheckLine (bytes ∷ []))) }
+fn answer_stream(alloc: Global, stream: RecordStream<CheckedRecords>) -> Result<Vec<u8>, Refusal>
+    requires { stream.filled < 16 }
+    ensures text { (first : CheckedRecordsValue) (header bytes : List ℕ) → first.sites ≡ stream.head.sites → first.funcs ≡ stream.head.funcs → HasStreamed checked_by IsChecked first stream.records stream.head header (take stream.filled stream.bytes.items) bytes → IfOk result (λ text. IsCheckText (bytes ∷ []) text.items) }
+    ensures line { (first : CheckedRecordsValue) (header bytes : List ℕ) → first.sites ≡ stream.head.sites → first.funcs ≡ stream.head.funcs → HasStreamed checked_by IsChecked first stream.records stream.head header (take stream.filled stream.bytes.items) bytes → IfErr result (λ refusal. IfLine refusal (IsCheckLine (bytes ∷ []))) }
 {
     if 16 * u64::from(stream.head.count) < stream.body_len() {
         return Err(refusal_of_header(alloc, HeaderFault::Trailing));
     }
-    match stream.check.end(stream.head.count) {
+    match stream.records.check.end(stream.head.count) {
         Ok(work) => Ok(text_of_work(alloc, work)?.into_bytes()),
         Err(fault) => Err(refusal_of_event(alloc, fault)),
     }
 }
 
 /// The same of an input that begins with the header of a trace of version 1, and of which that came.
-fn check_records<S: Source>(
+fn check_records<R: Threads + Wait + Sync, S: Source>(
+    rt: &R,
     alloc: Global,
     source: &mut S,
     head: Head,
@@ -70,8 +77,13 @@ fn check_records<S: Source>(
     ensures refused { (s : S) → HasRead S.answered S.failed S.failures came.reads s (take came.filled came.bytes.items) source.old → IfErr result (IsInputRefused (giving_of S.answered S.failed S.failures s source.new) Only IsOneCheckLine) }
 {
     let reads = came.reads;
-    match RecordStream::start(head, came).read_rest(source, reads) {
-        Ok(stream) => answer_stream(alloc, stream),
+    let records = CheckedRecords {
+        check: RecordCheck::new(),
+        sites: head.sites,
+        funcs: head.funcs,
+    };
+    match RecordStream::start(head, came, records).read_rest(rt, source, reads, PIECE) {
+        Ok(stream) => answer_stream(alloc, stream.end(rt)?),
         Err(fault) => Err(refusal_of_read(fault, Place::Only)),
     }
 }
@@ -109,7 +121,11 @@ fn check_whole<S: Source>(
 /// The records of a trace of version 1 are checked as they come: the memory is that of its header, with room up to a
 /// quarter more but within the source's hint, that of 65,536 bytes, and, until the header is opened, that for its names,
 /// linear in their number. Any other input is read whole, and so is one for whose names memory is refused.
-pub(crate) fn check_input<S: Source>(alloc: Global, source: &mut S) -> Result<Vec<u8>, Refusal>
+pub(crate) fn check_input<R: Threads + Wait + Sync, S: Source>(
+    rt: &R,
+    alloc: Global,
+    source: &mut S,
+) -> Result<Vec<u8>, Refusal>
     ensures text { IfOk result (λ text. (bytes : List ℕ) × (giving_of S.answered S.failed S.failures source.old source.new).Gave bytes × IsCheckText (bytes ∷ []) text.items) }
     ensures refused { IfErr result (IsInputRefused (giving_of S.answered S.failed S.failures source.old source.new) Only IsOneCheckLine) }
 {
@@ -123,7 +139,7 @@ pub(crate) fn check_input<S: Source>(alloc: Global, source: &mut S) -> Result<Ve
         Front::Part(came) => came,
     };
     match Head::of(alloc, came.as_slice()) {
-        Some(head) => check_records(alloc, source, head, came),
+        Some(head) => check_records(rt, alloc, source, head, came),
         None => check_whole(alloc, source, came, hint),
     }
 }

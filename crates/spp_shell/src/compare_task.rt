@@ -1,51 +1,44 @@
 //! The task `compare`: two runs beside each other, or the first fault of the first trace that has one.
-ghost use Rattle.std.specs.Prelude.{◌<◌, ◌^◌, ℕ, List, IfOk, IfErr};
+ghost use Rattle.std.specs.Prelude.{◌≡◌, ◌<◌, ◌^◌, ℕ, List, IfOk, IfErr};
+ghost use Rattle.spp_report.specs.Comparison.{told_of};
 ghost use Rattle.spp_report.specs.Runs.{told};
-ghost use Rattle.spp_shell.specs.Compare.{IsCompareLine, IsCompareText, IsGoodTrace, IsToldOf, TellsFault, TellsFaultAt};
+ghost use Rattle.spp_shell.specs.Compare.{IsCompareLine, IsCompareText, IsGoodTrace, IsToldOf, TellsFaultAt};
 ghost use Rattle.spp_shell.specs.Devices.{WasRead, giving_of, inputs_of};
 ghost use Rattle.spp_shell.specs.Inputs.{IsInputRefused, IsRefusedBy};
-ghost use Rattle.spp_shell.specs.Tasks.{IfLine};
 ghost use Rattle.spp_shell.specs.declared.place.Place.TheVariants.{Before};
 
-use crate::input::read_or_refuse;
-use crate::opening::open_or_refuse;
 use crate::place::Place;
-use crate::profile_task::profile_or_refuse;
 use crate::refusal::Refusal;
 use crate::source::Source;
+use crate::tell_input::tell_input;
+use crate::telling::Telling;
 use spp_report::{Named, Run, compare_text};
 use spp_request::Request;
-use std::alloc::Global;
+use std::alloc::{AllocError, Global};
 use std::collections::hash_map::RandomState;
 use std::hash::{BuildHasher, BuildHasherDefault, FoldHasher};
 use std::random::RandomSource;
 use std::sync::Wait;
 use std::thread::Threads;
 
-/// What is compared of the run whose trace these bytes are, or why there is nothing. Nothing of the bytes is kept.
-fn told_or_refuse<R: Threads + Wait + Sync, H: BuildHasher + Drop>(
-    rt: &R,
-    alloc: Global,
+/// What is compared of a run, with names hashed so. Nothing of its trace is kept.
+#[derive(Clone, Copy)]
+struct Comparing<H: BuildHasher + Copy + Drop> {
     hasher: H,
-    request: &Request,
-    bytes: &[u8],
-) -> Result<Run<H>, Refusal>
-    ensures told { IfOk result (λ run. IsToldOf request.now.burdens bytes.now (told run)) }
-    ensures good { IfOk result (λ run. IsGoodTrace bytes.now) }
-    ensures small { IfOk result (λ run. (told run).figures.work < 2 ^ 120) }
-    ensures line { IfErr result (λ refusal. IfLine refusal (TellsFault bytes.now)) }
-{
-    let trace = open_or_refuse(alloc, bytes)?;
-    let profile = profile_or_refuse(rt, alloc, request, &trace)?;
-    let named = Named {
-        trace: &trace,
-        profile: &profile,
-    };
-    Ok(Run::new(alloc, hasher, &named)?)
+}
+
+impl<H: BuildHasher + Copy + Drop> Telling for Comparing<H> {
+    type Told = Run<H>;
+
+    ghost tells = { λ _ trace profile run. told run ≡ told_of trace profile };
+
+    fn tell(&self, alloc: Global, named: &Named<'_, '_>) -> Result<Run<H>, AllocError> {
+        Run::new(alloc, self.hasher, named)
+    }
 }
 
 /// What is compared of the run whose trace an input gives, or why there is nothing. The bytes are let go.
-fn run_of<R: Threads + Wait + Sync, H: BuildHasher + Drop, S: Source>(
+fn run_of<R: Threads + Wait + Sync, H: BuildHasher + Copy + Drop, S: Source>(
     rt: &R,
     alloc: Global,
     hasher: H,
@@ -57,8 +50,7 @@ fn run_of<R: Threads + Wait + Sync, H: BuildHasher + Drop, S: Source>(
     ensures small { IfOk result (λ run. (told run).figures.work < 2 ^ 120) }
     ensures refused { IfErr result (IsInputRefused (giving_of S.answered S.failed S.failures input.old input.new) place (TellsFaultAt place)) }
 {
-    let bytes = read_or_refuse(alloc, input, place)?;
-    match told_or_refuse(rt, alloc, hasher, request, bytes.as_slice()) {
+    match tell_input(rt, alloc, request, input, place, &Comparing { hasher }) {
         Ok(run) => Ok(run),
         Err(refusal) => Err(refusal.placed(alloc, place)),
     }

@@ -1,11 +1,14 @@
 //! The shell of the program: reads a request's inputs, answers it, and writes the answer or one line of fault.
 #![tactic(auto)]
 
+mod beside;
 mod came;
 mod check_task;
+mod checked_records;
 mod compare_task;
 mod encode_task;
 mod figures_task;
+mod filling;
 mod header_end;
 mod in_source;
 mod input;
@@ -14,13 +17,17 @@ mod migrate_task;
 mod opening;
 mod place;
 mod profile_task;
+mod profiled_records;
 mod reading;
 mod reading_on;
 mod record_stream;
+mod records;
 mod refusal;
 mod running;
 mod source;
 pub mod status;
+mod tell_input;
+mod telling;
 mod trouble;
 mod usage;
 mod writing;

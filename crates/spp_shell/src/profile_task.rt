@@ -1,16 +1,23 @@
 //! The task `profile`: the figures and tables of a run, by one worker in one reading or by several that share the parts of
 //! its trace, or its first fault.
-ghost use Rattle.std.specs.Prelude.{◌≡◌, ◌<◌, ◌^◌, [], ◌∷◌, IfOk, IfErr};
+ghost use Rattle.std.specs.Prelude.{◌≡◌, ◌<◌, ◌^◌, ℕ, List, [], ◌∷◌, IfOk, IfErr};
 ghost use Rattle.spp_shell.specs.Tasks.{IfLine};
 ghost use Rattle.spp_frame.specs.Answers.{IsFaultOf};
 ghost use Rattle.spp_frame.specs.Nesting.{IsWellFormed};
 ghost use Rattle.spp_dag.specs.Figures.{AreFigures};
 ghost use Rattle.spp_site.specs.Profiles.{IsProfileOf};
-ghost use Rattle.spp_shell.specs.Check.{IsCheckLine, IsFirstBadLine};
+ghost use Rattle.spp_shell.specs.Check.{IsFirstBadLine, IsOneCheckLine};
+ghost use Rattle.spp_shell.specs.Devices.{giving_of};
+ghost use Rattle.spp_shell.specs.Inputs.{IsInputRefused};
+ghost use Rattle.spp_shell.specs.declared.place.Place.TheVariants.{Only};
 ghost use Rattle.spp_shell.specs.Profiles.{IsProfileText, report_text};
 
-use crate::opening::{open_or_refuse, refusal_of_event};
+use crate::opening::refusal_of_event;
+use crate::place::Place;
 use crate::refusal::Refusal;
+use crate::source::Source;
+use crate::tell_input::tell_input;
+use crate::telling::Telling;
 use spp_crew::{OpenGate, profile};
 use spp_cut::cut_even;
 use spp_event::Trace;
@@ -23,15 +30,23 @@ use std::alloc::{AllocError, Global};
 use std::sync::Wait;
 use std::thread::Threads;
 
-/// The tables alone as comma-separated values, where `csv` says so, or else the figures and tables as text.
-fn report(alloc: Global, named: &Named<'_, '_>, csv: bool) -> Result<Vec<u8>, AllocError>
-    requires { named.now.profile.now.figures.work < 2 ^ 120 }
-    ensures { IfOk result (λ text. text.items ≡ report_text csv named.now.trace.now named.now.profile.now) }
-{
-    if csv {
-        csv_text(alloc, named)
-    } else {
-        plain_text(alloc, named)
+/// The report of a run: the tables alone as comma-separated values, where that is so, or else the figures and tables as text.
+#[derive(Clone, Copy)]
+struct Report {
+    csv: bool,
+}
+
+impl Telling for Report {
+    type Told = Vec<u8>;
+
+    ghost tells = { λ report trace profile text. text.items ≡ report_text report.csv trace profile };
+
+    fn tell(&self, alloc: Global, named: &Named<'_, '_>) -> Result<Vec<u8>, AllocError> {
+        if self.csv {
+            csv_text(alloc, named)
+        } else {
+            plain_text(alloc, named)
+        }
     }
 }
 
@@ -75,21 +90,16 @@ pub(crate) fn profile_or_refuse<R: Threads + Wait + Sync>(
     }
 }
 
-/// The report of the run whose trace these bytes are, or why there is none.
-pub(crate) fn answer_profile<R: Threads + Wait + Sync>(
+/// The report of the run whose trace an input gives, or why there is none.
+pub(crate) fn answer_profile<R: Threads + Wait + Sync, S: Source>(
     rt: &R,
     alloc: Global,
     request: &Request,
-    bytes: &[u8],
+    source: &mut S,
 ) -> Result<Vec<u8>, Refusal>
-    ensures text { IfOk result (λ text. IsProfileText request.now.burdens request.now.csv (bytes.now ∷ []) text.items) }
-    ensures line { IfErr result (λ refusal. IfLine refusal (IsCheckLine (bytes.now ∷ []))) }
+    ensures text { IfOk result (λ text. (bytes : List ℕ) × (giving_of S.answered S.failed S.failures source.old source.new).Gave bytes × IsProfileText request.now.burdens request.now.csv (bytes ∷ []) text.items) }
+    ensures refused { IfErr result (IsInputRefused (giving_of S.answered S.failed S.failures source.old source.new) Only IsOneCheckLine) }
 {
-    let trace = open_or_refuse(alloc, bytes)?;
-    let profile = profile_or_refuse(rt, alloc, request, &trace)?;
-    let named = Named {
-        trace: &trace,
-        profile: &profile,
-    };
-    Ok(report(alloc, &named, request.csv)?)
+    let report = Report { csv: request.csv };
+    tell_input(rt, alloc, request, source, Place::Only, &report)
 }

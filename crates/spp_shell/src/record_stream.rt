@@ -1,16 +1,16 @@
-//! A trace of version 1 whose records are checked as they come.
-ghost use Rattle.std.specs.Prelude.{◌≡◌, ◌+◌, ◌-◌, ◌*◌, ◌^◌, ◌<◌, ◌≤◌, ◌++◌, ℕ, List, length, take, drop, slice_range, IfOk, IfSome, IfErr};
+//! A trace of version 1 whose records are gone over as they come.
+ghost use Rattle.std.specs.Prelude.{◌≡◌, ◌+◌, ◌-◌, ◌*◌, ◌^◌, ◌<◌, ◌≤◌, ◌++◌, ℕ, List, [], length, take, drop, slice_range, IfOk, IfSome, IfErr};
 ghost use Rattle.spp_event.specs.Heads.{IsRecordHead};
-ghost use Rattle.spp_frame.specs.RecordChecks.{seen_by};
-ghost use Rattle.spp_shell.specs.Checked.{IsChecked};
 
 use crate::came::Came;
 use crate::reading::{INPUT_LIMIT, PIECE, ReadFault, make_room};
 use crate::reading_on::read_more;
+use crate::records::Records;
 use crate::source::Source;
 use spp_event::open_trace;
-use spp_frame::RecordCheck;
-use std::alloc::Global;
+use std::alloc::{AllocError, Global};
+use std::sync::Wait;
+use std::thread::Threads;
 
 /// What a header of version 1 says of the records behind it.
 #[derive(Clone, Copy)]
@@ -50,73 +50,116 @@ impl Head {
     }
 }
 
-/// Checks the whole records in these bytes from `from` to `filled`, and moves what is left of a record to their
-/// front: how many bytes that are.
-fn check_piece(
-    check: RecordCheck,
-    head: Head,
-    bytes: &mut Vec<u8>,
-    from: usize,
-    filled: usize,
-) -> (RecordCheck, usize)
+/// Moves the bytes from `from` to `filled` to the front.
+fn move_to_front(bytes: &mut Vec<u8>, from: usize, filled: usize)
     requires start { from ≤ filled }
     requires end { filled ≤ length bytes.old.items }
-    requires few { 16 * seen_by check + filled < 2 ^ 35 }
-    ensures left { result.1 < 16 }
-    ensures within { from + result.1 ≤ filled }
-    ensures count { 16 * seen_by result.0 + (from + result.1) ≡ 16 * seen_by check + filled }
     ensures room { length bytes.new.items ≡ length bytes.old.items }
-    ensures kept { take result.1 bytes.new.items ≡ drop (filled - result.1) (take filled bytes.old.items) }
-    ensures seen { (xs : List ℕ) → IsChecked check head.sites head.funcs xs → IsChecked result.0 head.sites head.funcs (xs ++ slice_range bytes.old.items from (filled - result.1)) }
+    ensures kept { take (filled - from) bytes.new.items ≡ drop from (take filled bytes.old.items) }
 {
-    let whole = from + (filled - from) / 16 * 16;
-    let check = check.followed_by(&bytes[from..whole], head.sites, head.funcs);
-    bytes.copy_within(whole..filled, 0);
-    (check, filled - whole)
+    bytes.copy_within(from..filled, 0);
+}
+
+/// Goes over the whole records in the first `filled` of these bytes, and moves what is left of a record to their front: how
+/// many bytes that are.
+///
+/// # Errors
+///
+/// Where an allocation failed.
+fn go_over<V: Records, R: Threads + Wait + Sync>(
+    rt: &R,
+    records: V,
+    bytes: &mut Vec<u8>,
+    filled: usize,
+) -> Result<(V, usize), AllocError>
+    requires end { filled ≤ length bytes.old.items }
+    requires few { 16 * V.seen_by records + filled < 2 ^ 35 }
+    requires seen { (first : V) × (xs : List ℕ) × (length xs ≡ 16 * V.seen_by records) × V.has_seen first records xs }
+    ensures left { IfOk result (λ r. r.1 < 16) }
+    ensures within { IfOk result (λ r. r.1 ≤ filled) }
+    ensures count { IfOk result (λ r. 16 * V.seen_by r.0 + r.1 ≡ 16 * V.seen_by records + filled) }
+    ensures room { length bytes.new.items ≡ length bytes.old.items }
+    ensures kept { IfOk result (λ r. take r.1 bytes.new.items ≡ drop (filled - r.1) (take filled bytes.old.items)) }
+    ensures seen { IfOk result (λ r. (first : V) (xs : List ℕ) → length xs ≡ 16 * V.seen_by records → V.has_seen first records xs → V.has_seen first r.0 (xs ++ take (filled - r.1) (take filled bytes.old.items))) }
+{
+    let whole = filled / 16 * 16;
+    let records = records.followed_by(rt, &bytes[..whole])?;
+    move_to_front(bytes, whole, filled);
+    Ok((records, filled - whole))
+}
+
+/// Goes over them as [`go_over`] where they are so many bytes or more; else all of them are left.
+///
+/// # Errors
+///
+/// Where an allocation failed.
+fn go_over_block<V: Records, R: Threads + Wait + Sync>(
+    rt: &R,
+    records: V,
+    bytes: &mut Vec<u8>,
+    filled: usize,
+    block: usize,
+) -> Result<(V, usize), AllocError>
+    requires end { filled ≤ length bytes.old.items }
+    requires few { 16 * V.seen_by records + filled < 2 ^ 35 }
+    requires seen { (first : V) × (xs : List ℕ) × (length xs ≡ 16 * V.seen_by records) × V.has_seen first records xs }
+    ensures within { IfOk result (λ r. r.1 ≤ filled) }
+    ensures count { IfOk result (λ r. 16 * V.seen_by r.0 + r.1 ≡ 16 * V.seen_by records + filled) }
+    ensures room { length bytes.new.items ≡ length bytes.old.items }
+    ensures kept { IfOk result (λ r. take r.1 bytes.new.items ≡ drop (filled - r.1) (take filled bytes.old.items)) }
+    ensures seen { IfOk result (λ r. (first : V) (xs : List ℕ) → length xs ≡ 16 * V.seen_by records → V.has_seen first records xs → V.has_seen first r.0 (xs ++ take (filled - r.1) (take filled bytes.old.items))) }
+{
+    if filled < block {
+        return Ok((records, filled));
+    }
+    go_over(rt, records, bytes, filled)
 }
 
 /// A trace of version 1 that is being read.
 #[derive(Drop)]
-pub(crate) struct RecordStream {
+pub(crate) struct RecordStream<V: Records> {
     pub(crate) head: Head,
-    /// What was seen of the records that are whole.
-    pub(crate) check: RecordCheck,
-    /// What came of the next record, and then room for more.
-    bytes: Vec<u8>,
-    /// How many bytes came of the next record.
+    /// What was gone over.
+    pub(crate) records: V,
+    /// What came behind that, and then room for more.
+    pub(crate) bytes: Vec<u8>,
+    /// How many bytes came behind it.
     pub(crate) filled: usize,
     /// How many bytes came before these.
     pub(crate) before: u64,
     ghost held: { filled ≤ length bytes.items },
-    ghost cut: { filled < 16 },
     ghost within: { before + filled ≤ 2 ^ 33 },
-    ghost seen: { before ≡ head.len + 16 * seen_by check },
+    ghost seen: { before ≡ head.len + 16 * V.seen_by records },
 }
 
-impl RecordStream {
+impl<V: Records> RecordStream<V> {
     ghost use Rattle.spp_shell.specs.RecordStreams.{HasStreamed};
     ghost use Rattle.spp_shell.specs.Streams.{HasRead};
     ghost use Rattle.spp_shell.specs.Devices.{giving_of};
 
-    /// The stream of a trace of which that came, bytes that begin with that header. Its room is a piece at most.
-    pub(crate) fn start(head: Head, came: Came) -> RecordStream
+    /// The stream of a trace of which that came, bytes that begin with that header; `records` has seen none.
+    pub(crate) fn start(head: Head, came: Came, records: V) -> RecordStream<V>
         requires head { IsRecordHead (take head.len (take came.filled came.bytes.items)) head.sites head.funcs head.count }
         requires within { head.len ≤ came.filled }
-        ensures { HasStreamed result (take came.filled came.bytes.items) }
+        requires none { V.seen_by records ≡ 0 }
+        requires seen { V.has_seen records records [] }
+        ensures head { result.head ≡ head }
+        ensures streamed { HasStreamed V.seen_by V.has_seen records result.records result.head (take head.len (take came.filled came.bytes.items)) (take result.filled result.bytes.items) (take came.filled came.bytes.items) }
     {
         let Came {
             mut bytes,
             filled,
             ..
         } = came;
-        let (check, left) = check_piece(RecordCheck::new(), head, &mut bytes, head.len, filled);
-        bytes.truncate(PIECE);
+        move_to_front(&mut bytes, head.len, filled);
+        let left = filled - head.len;
+        bytes.truncate(left.max(PIECE));
         RecordStream {
             head,
-            check,
+            records,
             bytes,
             filled: left,
-            before: (filled - left) as u64,
+            before: head.len as u64,
         }
     }
 
@@ -127,51 +170,87 @@ impl RecordStream {
         self.before + self.filled as u64 - self.head.len as u64
     }
 
-    /// Reads on to the end, behind so many reads.
+    /// Reads on to the end, behind so many reads, and goes over the records in blocks of that many bytes, or some more, but for
+    /// the last block.
     ///
     /// # Errors
     ///
     /// Those of [`read_within`](crate::read_within).
-    pub(crate) fn read_rest<S: Source>(
+    pub(crate) fn read_rest<R: Threads + Wait + Sync, S: Source>(
         self,
+        rt: &R,
         source: &mut S,
         reads: u64,
-    ) -> Result<RecordStream, ReadFault>
-        requires { reads ≤ 2 ^ 33 }
-        ensures read { (s : S) (xs : List ℕ) → HasRead S.answered S.failed S.failures reads s xs source.old → HasStreamed self xs
-            → IfOk result (λ end. (all : List ℕ) × (giving_of S.answered S.failed S.failures s source.new).Gave all × HasStreamed end all) }
-        ensures refused { (s : S) (xs : List ℕ) → HasRead S.answered S.failed S.failures reads s xs source.old → HasStreamed self xs
+        block: usize,
+    ) -> Result<RecordStream<V>, ReadFault>
+        requires reads { reads ≤ 2 ^ 33 }
+        requires seen { (first : V) × (header xs : List ℕ) × HasStreamed V.seen_by V.has_seen first self.records self.head header (take self.filled self.bytes.items) xs }
+        ensures head { IfOk result (λ end. end.head ≡ self.head) }
+        ensures streamed { (first : V) (header xs : List ℕ) → HasStreamed V.seen_by V.has_seen first self.records self.head header (take self.filled self.bytes.items) xs → IfOk result (λ end. (all : List ℕ) × HasStreamed V.seen_by V.has_seen first end.records end.head header (take end.filled end.bytes.items) all) }
+        ensures read { (s : S) (first : V) (header xs : List ℕ) → HasRead S.answered S.failed S.failures reads s xs source.old → HasStreamed V.seen_by V.has_seen first self.records self.head header (take self.filled self.bytes.items) xs
+            → IfOk result (λ end. (all : List ℕ) × (giving_of S.answered S.failed S.failures s source.new).Gave all × HasStreamed V.seen_by V.has_seen first end.records end.head header (take end.filled end.bytes.items) all) }
+        ensures refused { (s : S) (first : V) (header xs : List ℕ) → HasRead S.answered S.failed S.failures reads s xs source.old → HasStreamed V.seen_by V.has_seen first self.records self.head header (take self.filled self.bytes.items) xs
             → IfErr result (λ fault. (giving_of S.answered S.failed S.failures s source.new).Refused fault) }
     {
         let RecordStream {
             head,
-            mut check,
+            mut records,
             mut bytes,
             mut filled,
             mut before,
         } = self;
         for _ in reads..INPUT_LIMIT {
+            let Ok((behind, left)) = go_over_block(rt, records, &mut bytes, filled, block) else {
+                return Err(ReadFault::Memory);
+            };
+            records = behind;
+            before += (filled - left) as u64;
+            filled = left;
             let Ok(()) = make_room(&mut bytes, filled, None) else {
                 return Err(ReadFault::Memory);
             };
-            let more = match read_more(source, &mut bytes, filled, before) {
+            match read_more(source, &mut bytes, filled, before) {
                 Err(fault) => return Err(fault),
                 Ok(None) => {
                     return Ok(RecordStream {
                         head,
-                        check,
+                        records,
                         bytes,
                         filled,
                         before,
                     });
                 }
-                Ok(Some(more)) => more,
-            };
-            let (behind, left) = check_piece(check, head, &mut bytes, 0, more);
-            check = behind;
-            before += (more - left) as u64;
-            filled = left;
+                Ok(Some(more)) => filled = more,
+            }
         }
         Err(ReadFault::TooLong)
+    }
+
+    /// Goes over the last block, behind which the input ended. What is left then is less than a record.
+    ///
+    /// # Errors
+    ///
+    /// Where an allocation failed.
+    pub(crate) fn end<R: Threads + Wait + Sync>(self, rt: &R) -> Result<RecordStream<V>, AllocError>
+        requires { (first : V) × (header xs : List ℕ) × HasStreamed V.seen_by V.has_seen first self.records self.head header (take self.filled self.bytes.items) xs }
+        ensures cut { IfOk result (λ end. end.filled < 16) }
+        ensures head { IfOk result (λ end. end.head ≡ self.head) }
+        ensures streamed { IfOk result (λ end. (first : V) (header xs : List ℕ) → HasStreamed V.seen_by V.has_seen first self.records self.head header (take self.filled self.bytes.items) xs → HasStreamed V.seen_by V.has_seen first end.records end.head header (take end.filled end.bytes.items) xs) }
+    {
+        let RecordStream {
+            head,
+            records,
+            mut bytes,
+            filled,
+            before,
+        } = self;
+        let (records, left) = go_over(rt, records, &mut bytes, filled)?;
+        Ok(RecordStream {
+            head,
+            records,
+            bytes,
+            filled: left,
+            before: before + (filled - left) as u64,
+        })
     }
 }

@@ -38,15 +38,12 @@ fn answer<R: Threads + Wait + Sync + RandomSource, S: Source, T: Source>(
     ensures refused { IfErr result (IsRefusedBy (inputs_of (giving_of S.answered S.failed S.failures first.old first.new) (giving_of T.answered T.failed T.failures second.old second.new)) (first_place request.now.command) (line_for request.now.command)) }
 {
     match request.command {
-        Command::Check => check_input(alloc, first),
+        Command::Check => check_input(rt, alloc, first),
         Command::Figures => {
             let bytes = read_or_refuse(alloc, first, Place::Only)?;
             answer_figures(rt, alloc, request, bytes.as_slice())
         }
-        Command::Profile => {
-            let bytes = read_or_refuse(alloc, first, Place::Only)?;
-            answer_profile(rt, alloc, request, bytes.as_slice())
-        }
+        Command::Profile => answer_profile(rt, alloc, request, first),
         Command::Compare => answer_compare(rt, alloc, request, first, second),
         Command::Encode => {
             let bytes = read_or_refuse(alloc, first, Place::Only)?;

@@ -1,10 +1,12 @@
-//! Runs of `check` over inputs that come in pieces of all sizes, beside the check of all their bytes at once.
+//! Runs of `check` and `profile` over inputs that come in pieces of all sizes, beside what is said of all their bytes at once.
 
 use super::commands::request_for;
 use super::fakes::{empty_cup, unread};
-use spp_event::{Event, open_trace, record_of};
-use spp_frame::check;
-use spp_request::Command;
+use spp_event::{Event, Trace, open_trace, record_of};
+use spp_frame::{ProfileFault, check};
+use spp_report::{Named, plain_text};
+use spp_request::{Command, Request, Workers};
+use spp_serial::profile_serial;
 use spp_shell::{InSource, run};
 use std::alloc::{AllocError, Global};
 use std::io;
@@ -71,39 +73,80 @@ impl Ending {
     }
 }
 
-/// What `check` says of all the bytes at once.
-fn wanted(alloc: Global, bytes: &[u8]) -> Result<Ending, AllocError> {
-    let line = match open_trace(alloc, bytes) {
-        Err(fault) => format!(in alloc; "bad header: {fault}\n")?,
-        Ok(trace) => match check(&trace) {
-            Err(fault) => format!(in alloc; "bad event {fault}\n")?,
-            Ok(work) => {
-                let text = format!(in alloc; "work {work}\n")?.into_bytes();
-                return Ok(Ending {
-                    status: 0,
-                    text,
-                    line: Vec::new(alloc),
-                });
+/// What is asked: a command, by so many workers.
+type Asked = (Command, u32);
+
+/// The same work of all commands that read records as they come, and for `profile` by one worker and by several.
+const ASKED: &[Asked] = &[
+    (Command::Check, 1),
+    (Command::Profile, 1),
+    (Command::Profile, 4),
+];
+
+/// What is asked, with burdens of 3.
+fn request_of(alloc: Global, (command, workers): Asked) -> Request {
+    Request {
+        workers: Workers::new(workers).unwrap_or_default(),
+        ..request_for(alloc, command)
+    }
+}
+
+/// What the request says of a trace as text, or the line of its first bad event.
+fn told(
+    alloc: Global,
+    request: &Request,
+    trace: &Trace<'_>,
+) -> Result<Result<Vec<u8>, String>, AllocError> {
+    let fault = match request.command {
+        Command::Profile => match profile_serial(alloc, trace, request.burdens) {
+            Ok(profile) => {
+                let named = Named {
+                    trace,
+                    profile: &profile,
+                };
+                return Ok(Ok(plain_text(alloc, &named)?));
             }
+            Err(ProfileFault::Bad(fault)) => fault,
+            Err(ProfileFault::Memory) => return Err(AllocError),
+        },
+        _ => match check(trace) {
+            Ok(work) => return Ok(Ok(format!(in alloc; "work {work}\n")?.into_bytes())),
+            Err(fault) => fault,
         },
     };
-    Ok(Ending {
-        status: 1,
-        text: Vec::new(alloc),
-        line: line.into_bytes(),
-    })
+    Ok(Err(format!(in alloc; "bad event {fault}\n")?))
+}
+
+/// What the request says of all the bytes at once.
+fn wanted(alloc: Global, request: &Request, bytes: &[u8]) -> Result<Ending, AllocError> {
+    let told = match open_trace(alloc, bytes) {
+        Err(fault) => Err(format!(in alloc; "bad header: {fault}\n")?),
+        Ok(trace) => told(alloc, request, &trace)?,
+    };
+    match told {
+        Ok(text) => Ok(Ending {
+            status: 0,
+            text,
+            line: Vec::new(alloc),
+        }),
+        Err(line) => Ok(Ending {
+            status: 1,
+            text: Vec::new(alloc),
+            line: line.into_bytes(),
+        }),
+    }
 }
 
 /// What the program ends with over the bytes in pieces of these sizes.
 fn got<R: Threads + Wait + Sync + RandomSource + AllocGlobal>(
     rt: &R,
+    request: &Request,
     bytes: &[u8],
     sizes: &[usize],
     fails_at: usize,
     hint: Option<u64>,
 ) -> Ending {
     let alloc = rt.alloc();
-    let request = request_for(alloc, Command::Check);
     let (mut out, mut err) = (empty_cup(alloc, 2000), empty_cup(alloc, 100));
     let reader = Pieces {
         bytes,
@@ -115,7 +158,7 @@ fn got<R: Threads + Wait + Sync + RandomSource + AllocGlobal>(
     let status = run(
         rt,
         alloc,
-        &request,
+        request,
         &mut first,
         &mut second,
         &mut out,
@@ -131,17 +174,24 @@ fn got<R: Threads + Wait + Sync + RandomSource + AllocGlobal>(
 /// Whether pieces of these sizes end as all the bytes at once, and so do the bytes of a file whose length is known.
 fn ends_alike<R: Threads + Wait + Sync + RandomSource + AllocGlobal>(
     rt: &R,
+    asked: &[Asked],
     bytes: &[u8],
     all_sizes: &[&[usize]],
 ) -> Result<bool, AllocError> {
-    let wanted = wanted(rt.alloc(), bytes)?;
-    for sizes in all_sizes {
-        if !wanted.is(&got(rt, bytes, sizes, usize::MAX, None)) {
+    for asked in asked {
+        let request = request_of(rt.alloc(), *asked);
+        let wanted = wanted(rt.alloc(), &request, bytes)?;
+        for sizes in all_sizes {
+            if !wanted.is(&got(rt, &request, bytes, sizes, usize::MAX, None)) {
+                return Ok(false);
+            }
+        }
+        let hint = Some(bytes.len() as u64);
+        if !wanted.is(&got(rt, &request, bytes, &[65536], usize::MAX, hint)) {
             return Ok(false);
         }
     }
-    let hint = Some(bytes.len() as u64);
-    Ok(wanted.is(&got(rt, bytes, &[65536], usize::MAX, hint)))
+    Ok(true)
 }
 
 /// The first 24 bytes of a trace of two functions, so many sites and so many events.
@@ -192,7 +242,7 @@ fn trace(alloc: Global, sites: u32, events: u32) -> Result<Vec<u8>, AllocError> 
 fn a_small_trace_is_cut_off_at_each_byte(rt: HostRuntime) -> Result<(), Fail> {
     let bytes = trace(rt.alloc(), 2, 10)?;
     for len in 0..bytes.len() + 1 {
-        assert!(rt; ends_alike(&rt, &bytes[..len], SMALL)?, "{len}");
+        assert!(rt; ends_alike(&rt, ASKED, &bytes[..len], SMALL)?, "{len}");
     }
     Ok(())
 }
@@ -202,7 +252,7 @@ fn a_small_trace_has_more_bytes_behind_it(rt: HostRuntime) -> Result<(), Fail> {
     let mut bytes = trace(rt.alloc(), 2, 10)?;
     for more in 0..40u8 {
         bytes.push(more)?;
-        assert!(rt; ends_alike(&rt, bytes.as_slice(), SMALL)?, "{more}");
+        assert!(rt; ends_alike(&rt, ASKED, bytes.as_slice(), SMALL)?, "{more}");
     }
     Ok(())
 }
@@ -214,7 +264,12 @@ fn each_byte_of_a_small_trace_is_another(rt: HostRuntime) -> Result<(), Fail> {
         let before = bytes[at];
         for byte in [0, 3, 50] {
             bytes.as_mut_slice()[at] = byte;
-            assert!(rt; ends_alike(&rt, bytes.as_slice(), SMALL)?, "{at} {byte}");
+            let bytes = bytes.as_slice();
+            assert!(rt; ends_alike(&rt, &ASKED[..1], bytes, SMALL)?, "{at} {byte}");
+            assert!(rt;
+                ends_alike(&rt, &ASKED[1..], bytes, &SMALL[2..3])?,
+                "{at} {byte}"
+            );
         }
         bytes.as_mut_slice()[at] = before;
     }
@@ -227,7 +282,10 @@ fn a_header_is_longer_than_a_piece(rt: HostRuntime) -> Result<(), Fail> {
     assert!(rt; 200000 < bytes.len());
     for less in [0, 1, 16, 17, 65536, 159999, 160000, 160001, 170000] {
         let len = bytes.len().saturating_sub(less);
-        assert!(rt; ends_alike(&rt, &bytes[..len], LARGE)?, "{less}");
+        assert!(rt;
+            ends_alike(&rt, &ASKED[..1], &bytes[..len], LARGE)?,
+            "{less}"
+        );
     }
     Ok(())
 }
@@ -243,7 +301,7 @@ fn a_bad_event_is_told_wherever_it_stands(rt: HostRuntime) -> Result<(), Fail> {
         for byte in [1, 3, 9] {
             bytes.as_mut_slice()[tag] = byte;
             assert!(rt;
-                ends_alike(&rt, bytes.as_slice(), LARGE)?,
+                ends_alike(&rt, ASKED, bytes.as_slice(), LARGE)?,
                 "{record} {byte}"
             );
         }
@@ -286,16 +344,55 @@ fn a_failure_is_told_before_what_came(rt: HostRuntime) -> Result<(), Fail> {
         (bad.as_slice(), b"bad event 1: tag\n".as_slice()),
         (long.as_slice(), b"bad header: trailing\n".as_slice()),
     ] {
-        let wanted = wanted(alloc, bytes)?;
-        assert_eq!(rt; wanted.line.as_slice(), line);
-        for sizes in SMALL {
-            let reads = reads_of(bytes.len(), sizes);
-            for fails_at in 0..reads {
-                let ending = got(&rt, bytes, sizes, fails_at, None);
-                assert!(rt; told.is(&ending), "{fails_at} of {reads}");
+        for asked in ASKED {
+            let request = request_of(alloc, *asked);
+            let wanted = wanted(alloc, &request, bytes)?;
+            assert_eq!(rt; wanted.line.as_slice(), line);
+            for sizes in SMALL {
+                let reads = reads_of(bytes.len(), sizes);
+                for fails_at in 0..reads {
+                    let ending = got(&rt, &request, bytes, sizes, fails_at, None);
+                    assert!(rt; told.is(&ending), "{fails_at} of {reads}");
+                }
+                assert!(rt;
+                    wanted.is(&got(&rt, &request, bytes, sizes, reads, None)),
+                    "{reads}"
+                );
             }
-            assert!(rt; wanted.is(&got(&rt, bytes, sizes, reads, None)), "{reads}");
         }
+    }
+    Ok(())
+}
+
+/// Blocks of a profile have 131,072 records for each worker: faults in the last record of one, in the first of the next, in two
+/// at once, and bytes that end there or within a record.
+#[test]
+fn a_bad_event_is_told_wherever_blocks_end(rt: HostRuntime) -> Result<(), Fail> {
+    let sizes: &[&[usize]] = &[&[65536]];
+    for (asked, block) in [
+        ((Command::Profile, 1), 131072usize),
+        ((Command::Profile, 2), 262144),
+    ] {
+        let bytes = trace(rt.alloc(), 1, block as u32 + 500)?;
+        let body = bytes.len().saturating_sub((block + 500) * 16);
+        for (records, len) in [
+            ([block - 1, block], block + 500),
+            ([block, block + 400], block + 500),
+            ([block + 400, block + 400], block),
+        ] {
+            let mut bad = bytes[..body + len * 16].to_vec(rt.alloc())?;
+            for record in records {
+                if let Some(tag) = bad.as_mut_slice().get_mut(body + record * 16) {
+                    *tag = 9;
+                }
+            }
+            assert!(rt;
+                ends_alike(&rt, &[asked], bad.as_slice(), sizes)?,
+                "{block} {len}"
+            );
+        }
+        let cut = &bytes[..body + block * 16 - 1];
+        assert!(rt; ends_alike(&rt, &[asked], cut, sizes)?, "{block}");
     }
     Ok(())
 }

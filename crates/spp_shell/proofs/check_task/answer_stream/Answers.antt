@@ -6,32 +6,33 @@ use Rattle.spp_event.specs.Recordings.{Record, records_of}
 use Rattle.spp_event.proofs.RecordPlaces.{length-records_of}
 use Rattle.spp_frame.specs.Nesting.{IsWellFormed, IsFirstBad, work}
 use Rattle.spp_shell.specs.Check.{IsCheckLine, work_text}
+use Rattle.spp_shell.specs.Checked.{IsChecked, checked_by}
 use Rattle.spp_shell.proofs.Checks.{stream_trails, stream_traced, stream_ends}
 use Rattle.spp_shell.proofs.Refusals.{line_then}
 use Rattle.spp_shell.proofs.check_task.answer_stream.Goals as goal
 
 pub returns-then-from-body_len-clause-line : goal.returns-then-from-body_len-clause-line
-returns-then-from-body_len-clause-line c = λ bytes st.
+returns-then-from-body_len-clause-line c = λ first header bytes s f st.
     let stream = c.args.stream in
     let rest : List ℕ = take stream.filled stream.bytes.items in
     let n : length rest ≡ stream.filled = length-take-le stream.filled stream.bytes.items stream.held in
-    let whole = st.checked.whole in
+    let whole = st.whole in
     let seen = stream.seen in
     let over : 16 * stream.head.count < length st.done + length rest = omega (arith, c.body_len.ensures, c.from.ensures, c.if-from-body_len.true) in
-    line_then _ _ (IsCheckLine (bytes ∷ [])) c.refusal_of_header.ensures (λ line said. (bytes, refl, inl (Trailing, stream_trails stream.head stream.check rest bytes st over, said.1)))
+    line_then _ _ (IsCheckLine (bytes ∷ [])) c.refusal_of_header.ensures (λ line said. (bytes, refl, inl (Trailing, stream_trails checked_by IsChecked first stream.records stream.head header rest bytes st over, said.1)))
 
 pub returns-in-Ok-clause-text : goal.returns-in-Ok-clause-text
-returns-in-Ok-clause-text c = λ bytes st.
+returns-in-Ok-clause-text c = λ first header bytes s f st.
     let stream = c.args.stream in
     let rest : List ℕ = take stream.filled stream.bytes.items in
     let n : length rest ≡ stream.filled = length-take-le stream.filled stream.bytes.items stream.held in
-    let whole = st.checked.whole in
+    let whole = st.whole in
     let seen = stream.seen in
-    let cut = stream.cut in
+    let cut = c.requires in
     let few : length st.done + length rest ≤ 16 * stream.head.count = omega (arith, c.body_len.ensures, c.from.ensures, c.if-from-body_len.false) in
     let all = records_of One stream.head.sites stream.head.funcs stream.head.count (st.done ++ rest) in
-    let t = stream_traced stream.head stream.check rest bytes st few in
-    let ends = stream_ends stream.head stream.check rest bytes st (omega arith) (omega arith) in
+    let t = stream_traced checked_by IsChecked first stream.records stream.head header rest bytes st few in
+    let ends = stream_ends first stream.records stream.head header rest bytes st s f (omega arith) (omega arith) in
     let told = c.in-Ok.ensures.work all ends (length-records_of One stream.head.sites stream.head.funcs stream.head.count (st.done ++ rest)) in
     let good : IsWellFormed t.0.records = subst (λ (rs : List Record). IsWellFormed rs) (sym t.2) told.0 in
     let is : c.in-Ok.work ≡ work t.0.records = told.1 ∙ ap (λ (rs : List Record). work rs) (sym t.2) in
@@ -39,17 +40,17 @@ returns-in-Ok-clause-text c = λ bytes st.
     (bytes, refl, (t.0, t.1, good, text ∙ ap work_text is))
 
 pub returns-clause-line : goal.returns-clause-line
-returns-clause-line c = λ bytes st.
+returns-clause-line c = λ first header bytes s f st.
     let stream = c.args.stream in
     let rest : List ℕ = take stream.filled stream.bytes.items in
     let n : length rest ≡ stream.filled = length-take-le stream.filled stream.bytes.items stream.held in
-    let whole = st.checked.whole in
+    let whole = st.whole in
     let seen = stream.seen in
-    let cut = stream.cut in
+    let cut = c.requires in
     let few : length st.done + length rest ≤ 16 * stream.head.count = omega (arith, c.body_len.ensures, c.from.ensures, c.if-from-body_len.false) in
     let all = records_of One stream.head.sites stream.head.funcs stream.head.count (st.done ++ rest) in
-    let t = stream_traced stream.head stream.check rest bytes st few in
-    let ends = stream_ends stream.head stream.check rest bytes st (omega arith) (omega arith) in
+    let t = stream_traced checked_by IsChecked first stream.records stream.head header rest bytes st few in
+    let ends = stream_ends first stream.records stream.head header rest bytes st s f (omega arith) (omega arith) in
     let told = c.in-Err.ensures.fault all ends (length-records_of One stream.head.sites stream.head.funcs stream.head.count (st.done ++ rest)) in
     let bad = subst (λ (rs : List Record). IsFirstBad rs c.in-Err.fault) (sym t.2) told in
     line_then _ _ (IsCheckLine (bytes ∷ [])) c.refusal_of_event.ensures (λ line said. (bytes, refl, inr (t.0, t.1, (c.in-Err.fault, bad, said))))

@@ -1,6 +1,7 @@
 use Rattle.std.proofs.Common.{refl}
+use Rattle.std.proofs.lemmas.Result.{IfOk-weaker}
 use Rattle.spp_shell.proofs.profile_task.answer_profile.Goals as goal
 
 pub returns-clause-text : goal.returns-clause-text
 returns-clause-text g c =
-    (c.args.bytes.now, refl, (c.in_ok-trace.trace, c.in_ok-profile.profile, c.in_ok-trace.ensures.found, c.in_ok-profile.ensures.profile, c.in_ok-report.ensures))
+    IfOk-weaker c.tell_input.result _ _ (λ text is. (is.0, is.1, (is.0, refl, (is.2.trace, is.2.profile, is.2.is_trace, is.2.is_profile, is.2.is_told)))) c.tell_input.ensures.told

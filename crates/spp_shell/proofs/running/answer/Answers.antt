@@ -37,21 +37,17 @@ returns-in_ok-bytes-in-Figures-clause-refused g c =
     let gave = c.in_ok-bytes-in-Figures.ensures.read in
     rw c.in-Figures.is (told_first (λ text. text.items) first second bytes gave refl Only IsCheckLine c.answer_figures.result (inr (bytes, gave)) (rw c.as_slice.ensures.value at c.answer_figures.ensures.line))
 
-pub returns-in_ok-bytes-in-Profile-clause-text : goal.returns-in_ok-bytes-in-Profile-clause-text
-returns-in_ok-bytes-in-Profile-clause-text g c =
-    let first : Giving = giving_of g.S.Source.answered g.S.Source.failed g.S.Source.failures c.args.first.now c.read_or_refuse-in-Profile.new.input in
+pub returns-in-Profile-clause-text : goal.returns-in-Profile-clause-text
+returns-in-Profile-clause-text g c =
+    let first : Giving = giving_of g.S.Source.answered g.S.Source.failed g.S.Source.failures c.args.first.now c.answer_profile.new.source in
     let second : Giving = giving_of g.T.Source.answered g.T.Source.failed g.T.Source.failures c.args.second.now c.args.second.now in
-    let bytes = c.in_ok-bytes-in-Profile.bytes.items in
-    let gave = c.in_ok-bytes-in-Profile.ensures.read in
-    rw c.in-Profile.is (answered_first (λ text. text.items) first second bytes gave refl (IsProfileText c.args.request.now.burdens c.args.request.now.csv) c.answer_profile.result (rw c.as_slice-in-Profile.ensures.value at c.answer_profile.ensures.text))
+    rw c.in-Profile.is (answered_by (λ text. text.items) first second refl (IsProfileText c.args.request.now.burdens c.args.request.now.csv) c.answer_profile.result c.answer_profile.ensures.text)
 
-pub returns-in_ok-bytes-in-Profile-clause-refused : goal.returns-in_ok-bytes-in-Profile-clause-refused
-returns-in_ok-bytes-in-Profile-clause-refused g c =
-    let first : Giving = giving_of g.S.Source.answered g.S.Source.failed g.S.Source.failures c.args.first.now c.read_or_refuse-in-Profile.new.input in
+pub returns-in-Profile-clause-refused : goal.returns-in-Profile-clause-refused
+returns-in-Profile-clause-refused g c =
+    let first : Giving = giving_of g.S.Source.answered g.S.Source.failed g.S.Source.failures c.args.first.now c.answer_profile.new.source in
     let second : Giving = giving_of g.T.Source.answered g.T.Source.failed g.T.Source.failures c.args.second.now c.args.second.now in
-    let bytes = c.in_ok-bytes-in-Profile.bytes.items in
-    let gave = c.in_ok-bytes-in-Profile.ensures.read in
-    rw c.in-Profile.is (told_first (λ text. text.items) first second bytes gave refl Only IsCheckLine c.answer_profile.result (inr (bytes, gave)) (rw c.as_slice-in-Profile.ensures.value at c.answer_profile.ensures.line))
+    rw c.in-Profile.is (told_by (λ text. text.items) first second refl Only IsCheckLine c.answer_profile.result c.answer_profile.ensures.refused)
 
 pub returns-in_ok-bytes-in-Encode-clause-text : goal.returns-in_ok-bytes-in-Encode-clause-text
 returns-in_ok-bytes-in-Encode-clause-text g c =

@@ -1,0 +1,22 @@
+use Rattle.std.proofs.Common.{◌/◌, ◌++◌, length, ◌∙◌, sym, subst}
+use Rattle.spp_event.specs.declared.version.Version.TheVariants.{One}
+use Rattle.spp_event.specs.Recordings.{records_of}
+use Rattle.spp_crew.specs.declared.record_head.RecordHead.{RecordHead}
+use Rattle.spp_crew.specs.RecordProfiles.{HasSeen, seen_by}
+use Rattle.spp_shell.specs.Profiled.{profiled_by}
+use Rattle.spp_shell.proofs.RecordStreams.{seen_more}
+use Rattle.spp_shell.proofs.profiled_records.ProfiledRecordsRecords.followed_by.Goals as goal
+
+pub returns-clause-seen : goal.returns-clause-seen
+returns-clause-seen g c = λ first xs whole is.
+    let self = c.args.self in
+    let old = self.profile in
+    let new = c.in_ok-followed_by.field-0 in
+    let e = c.in_ok-followed_by.ensures in
+    let seen = seen_more (λ rs. HasSeen new rs) old.head.sites old.head.funcs (profiled_by self) (length c.args.bytes.now / 16) (seen_by new) xs c.args.bytes.now whole e.count
+    (e.seen (records_of One old.head.sites old.head.funcs (profiled_by self) xs) is.seen) in
+    record {
+      head = e.head ∙ is.head;
+      burdens = e.burdens ∙ is.burdens;
+      seen = subst (λ (h : RecordHead). HasSeen new (records_of One h.sites h.funcs (seen_by new) (xs ++ c.args.bytes.now))) (sym e.head) seen;
+    }

@@ -1,0 +1,40 @@
+//! Profiling the records of a trace as they come.
+ghost use Rattle.spp_shell.specs.Profiled.{IsProfiled, profiled_by};
+
+use crate::records::Records;
+use spp_crew::RecordProfile;
+use std::alloc::{AllocError, Global};
+use std::sync::Wait;
+use std::thread::Threads;
+
+/// The profile of the records that have come of a trace.
+#[derive(Drop)]
+pub(crate) struct ProfiledRecords {
+    pub(crate) profile: RecordProfile,
+    pub(crate) alloc: Global,
+    /// How many workers share a block.
+    pub(crate) workers: u32,
+}
+
+impl Records for ProfiledRecords {
+    ghost seen_by = { profiled_by };
+
+    ghost has_seen = { IsProfiled };
+
+    fn followed_by<R: Threads + Wait + Sync>(
+        self,
+        rt: &R,
+        bytes: &[u8],
+    ) -> Result<Self, AllocError> {
+        let ProfiledRecords {
+            profile,
+            alloc,
+            workers,
+        } = self;
+        Ok(ProfiledRecords {
+            profile: profile.followed_by(rt, alloc, bytes, workers)?,
+            alloc,
+            workers,
+        })
+    }
+}

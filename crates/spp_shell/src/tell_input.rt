@@ -1,0 +1,274 @@
+//! The profile of the run whose trace an input gives.
+ghost use Rattle.std.specs.Prelude.{◌≡◌, ◌<◌, ◌≤◌, ◌^◌, ℕ, List, length, take, IfOk, IfSome, IfErr};
+ghost use Rattle.spp_event.specs.Heads.{IsRecordHead};
+ghost use Rattle.spp_event.specs.Header.{IsTraceOf};
+ghost use Rattle.spp_event.specs.Recordings.{Recording};
+ghost use Rattle.spp_shell.specs.Check.{IsOneCheckLine};
+ghost use Rattle.spp_shell.specs.Devices.{giving_of};
+ghost use Rattle.spp_shell.specs.Inputs.{IsInputRefused};
+ghost use Rattle.spp_shell.specs.Profiled.{IsBeginning, IsProfiled, IsProfiledBy, IsRunOf, IsTold, profiled_by};
+ghost use Rattle.spp_shell.specs.RecordStreams.{HasStreamed};
+ghost use Rattle.spp_shell.specs.Streams.{HasRead, IsStopped};
+ghost use Rattle.spp_shell.specs.Tasks.{IfLine};
+ghost use Rattle.spp_shell.specs.declared.profiled_records.ProfiledRecords.{ProfiledRecords as ProfiledRecordsValue};
+
+use crate::came::Came;
+use crate::header_end::HeaderEnd;
+use crate::input::refusal_of_read;
+use crate::opening::{open_or_refuse, refusal_of_event, refusal_of_header};
+use crate::place::Place;
+use crate::profile_task::profile_or_refuse;
+use crate::profiled_records::ProfiledRecords;
+use crate::reading::{INPUT_LIMIT, ReadFault, make_first_room};
+use crate::reading_on::{Front, read_on};
+use crate::record_stream::{Head, RecordStream};
+use crate::refusal::Refusal;
+use crate::source::Source;
+use crate::telling::Telling;
+use spp_crew::{FEW_SITES, RecordHead, RecordProfile};
+use spp_event::{HeaderFault, Trace, open_trace};
+use spp_frame::ProfileFault;
+use spp_report::Named;
+use spp_request::Request;
+use spp_site::Profile;
+use std::alloc::{AllocError, Global};
+use std::sync::Wait;
+use std::thread::Threads;
+
+/// How many bytes a worker has of each block of records: 131,072 of them.
+const SHARE: usize = 1 << 21;
+
+/// What is told of the run whose trace these bytes are, or why nothing is.
+fn tell_bytes<R: Threads + Wait + Sync, T: Telling>(
+    rt: &R,
+    alloc: Global,
+    request: &Request,
+    bytes: &[u8],
+    telling: &T,
+) -> Result<T::Told, Refusal>
+    ensures told { IfOk result (IsTold (T.tells telling.now) request.now.burdens bytes.now) }
+    ensures line { IfErr result (λ refusal. IfLine refusal (IsOneCheckLine bytes.now)) }
+{
+    let trace = open_or_refuse(alloc, bytes)?;
+    let profile = profile_or_refuse(rt, alloc, request, &trace)?;
+    let named = Named {
+        trace: &trace,
+        profile: &profile,
+    };
+    Ok(telling.tell(alloc, &named)?)
+}
+
+/// The same of an input of which that came, with what the source told of its length: it is read whole first.
+fn tell_whole<R: Threads + Wait + Sync, S: Source, T: Telling>(
+    rt: &R,
+    alloc: Global,
+    request: &Request,
+    source: &mut S,
+    place: Place,
+    came: Came,
+    hint: Option<u64>,
+    telling: &T,
+) -> Result<T::Told, Refusal>
+    ensures told { (s : S) → HasRead S.answered S.failed S.failures came.reads s (take came.filled came.bytes.items) source.old → IfOk result (λ told. (bytes : List ℕ) × (giving_of S.answered S.failed S.failures s source.new).Gave bytes × IsTold (T.tells telling.now) request.now.burdens bytes told) }
+    ensures refused { (s : S) → HasRead S.answered S.failed S.failures came.reads s (take came.filled came.bytes.items) source.old → IfErr result (IsInputRefused (giving_of S.answered S.failed S.failures s source.new) place IsOneCheckLine) }
+{
+    let Came {
+        mut bytes,
+        filled,
+        reads,
+    } = came;
+    make_first_room(&mut bytes, hint, INPUT_LIMIT);
+    let came = Came {
+        bytes,
+        filled,
+        reads,
+    };
+    match read_on(source, came, hint, None) {
+        Ok(Front::Whole(bytes)) => tell_bytes(rt, alloc, request, bytes.as_slice(), telling),
+        Ok(Front::Part(_)) => unreachable!(),
+        Err(fault) => Err(refusal_of_read(fault, place)),
+    }
+}
+
+/// Reads a stream on to its end, behind so many reads, by blocks of which each worker has its share. By two workers or more the
+/// next block is read while one is profiled.
+///
+/// # Errors
+///
+/// Those of [`read_within`](crate::read_within); `Memory` also where the input ended and an allocation failed besides.
+fn read_records<R: Threads + Wait + Sync, S: Source>(
+    rt: &R,
+    alloc: Global,
+    source: &mut S,
+    stream: RecordStream<ProfiledRecords>,
+    reads: u64,
+    workers: u32,
+) -> Result<RecordStream<ProfiledRecords>, ReadFault>
+    requires workers { workers ≤ 64 }
+    requires reads { reads ≤ 2 ^ 33 }
+    requires seen { (first : ProfiledRecordsValue) × (header xs : List ℕ) × HasStreamed profiled_by IsProfiled first stream.records stream.head header (take stream.filled stream.bytes.items) xs }
+    ensures head { IfOk result (λ end. end.head ≡ stream.head) }
+    ensures streamed { (first : ProfiledRecordsValue) (header xs : List ℕ) → HasStreamed profiled_by IsProfiled first stream.records stream.head header (take stream.filled stream.bytes.items) xs → IfOk result (λ end. (all : List ℕ) × HasStreamed profiled_by IsProfiled first end.records end.head header (take end.filled end.bytes.items) all) }
+    ensures read { (s : S) (first : ProfiledRecordsValue) (header xs : List ℕ) → HasRead S.answered S.failed S.failures reads s xs source.old → HasStreamed profiled_by IsProfiled first stream.records stream.head header (take stream.filled stream.bytes.items) xs
+        → IfOk result (λ end. (all : List ℕ) × (giving_of S.answered S.failed S.failures s source.new).Gave all × HasStreamed profiled_by IsProfiled first end.records end.head header (take end.filled end.bytes.items) all) }
+    ensures stopped { (s : S) (first : ProfiledRecordsValue) (header xs : List ℕ) → HasRead S.answered S.failed S.failures reads s xs source.old → HasStreamed profiled_by IsProfiled first stream.records stream.head header (take stream.filled stream.bytes.items) xs
+        → IfErr result (IsStopped (giving_of S.answered S.failed S.failures s source.new)) }
+{
+    let block = workers as usize * SHARE;
+    if workers > 1 {
+        stream.read_beside(rt, alloc, source, reads, block)
+    } else {
+        stream.read_rest(rt, source, reads, block)
+    }
+}
+
+/// The profile of a run whose records came as a stream, or why there is none.
+fn profile_of_stream(
+    alloc: Global,
+    stream: RecordStream<ProfiledRecords>,
+) -> Result<Profile, Refusal>
+    requires cut { stream.filled < 16 }
+    requires some { (first : ProfiledRecordsValue) × (trace : Recording) × (header xs : List ℕ) × IsRunOf trace first.profile.head × IsTraceOf header trace × HasStreamed profiled_by IsProfiled first stream.records stream.head header (take stream.filled stream.bytes.items) xs }
+    ensures small { IfOk result (λ p. p.figures.work < 2 ^ 92) }
+    ensures profile { (first : ProfiledRecordsValue) (trace : Recording) (header bytes : List ℕ) → IsRunOf trace first.profile.head → IsTraceOf header trace → HasStreamed profiled_by IsProfiled first stream.records stream.head header (take stream.filled stream.bytes.items) bytes
+        → IfOk result (λ p. IsProfiledBy first.profile.burdens bytes trace p) }
+    ensures line { (first : ProfiledRecordsValue) (trace : Recording) (header bytes : List ℕ) → IsRunOf trace first.profile.head → IsTraceOf header trace → HasStreamed profiled_by IsProfiled first stream.records stream.head header (take stream.filled stream.bytes.items) bytes
+        → IfErr result (λ refusal. IfLine refusal (IsOneCheckLine bytes)) }
+{
+    if 16 * u64::from(stream.head.count) < stream.body_len() {
+        return Err(refusal_of_header(alloc, HeaderFault::Trailing));
+    }
+    match stream.records.profile.end(alloc) {
+        Ok(profile) => Ok(profile),
+        Err(ProfileFault::Bad(fault)) => Err(refusal_of_event(alloc, fault)),
+        Err(ProfileFault::Memory) => Err(Refusal::Memory),
+    }
+}
+
+/// The same of an input that begins with the header of this trace of version 1, and of which that came: its records are
+/// profiled as they come.
+fn tell_records<R: Threads + Wait + Sync, S: Source, T: Telling>(
+    rt: &R,
+    alloc: Global,
+    request: &Request,
+    source: &mut S,
+    place: Place,
+    head: Head,
+    trace: &Trace<'_>,
+    records: ProfiledRecords,
+    came: Came,
+    telling: &T,
+) -> Result<T::Told, Refusal>
+    requires records { IsBeginning trace.now request.now.burdens records }
+    requires workers { records.workers ≤ 64 }
+    requires head { IsRecordHead (take head.len (take came.filled came.bytes.items)) head.sites head.funcs head.count }
+    requires trace { IsTraceOf (take head.len (take came.filled came.bytes.items)) trace.now }
+    requires within { head.len ≤ came.filled }
+    ensures told { (s : S) → HasRead S.answered S.failed S.failures came.reads s (take came.filled came.bytes.items) source.old → IfOk result (λ told. (bytes : List ℕ) × (giving_of S.answered S.failed S.failures s source.new).Gave bytes × IsTold (T.tells telling.now) request.now.burdens bytes told) }
+    ensures refused { (s : S) → HasRead S.answered S.failed S.failures came.reads s (take came.filled came.bytes.items) source.old → IfErr result (IsInputRefused (giving_of S.answered S.failed S.failures s source.new) place IsOneCheckLine) }
+{
+    let reads = came.reads;
+    let workers = records.workers;
+    let stream = RecordStream::start(head, came, records);
+    let stream = match read_records(rt, alloc, source, stream, reads, workers) {
+        Ok(stream) => stream.end(rt)?,
+        Err(fault) => return Err(refusal_of_read(fault, place)),
+    };
+    let profile = profile_of_stream(alloc, stream)?;
+    let named = Named {
+        trace,
+        profile: &profile,
+    };
+    Ok(telling.tell(alloc, &named)?)
+}
+
+/// What profiles the records of a trace, before the first has come.
+///
+/// # Errors
+///
+/// Where an allocation failed.
+fn records_of(
+    alloc: Global,
+    request: &Request,
+    trace: &Trace<'_>,
+) -> Result<ProfiledRecords, AllocError>
+    ensures beginning { IfOk result (IsBeginning trace.now request.now.burdens) }
+    ensures workers { IfOk result (λ records. records.workers ≤ 64) }
+{
+    trace.keeps_limits();
+    let run = RecordHead {
+        root: trace.root(),
+        sites: trace.sites(),
+        funcs: trace.funcs(),
+        count: trace.count(),
+    };
+    Ok(ProfiledRecords {
+        profile: RecordProfile::new(alloc, run, request.burdens)?,
+        alloc,
+        workers: request.workers.number(),
+    })
+}
+
+/// Whether the numbers of a header say that it names few call sites. It is advice, for not opening a header in vain.
+fn are_few_sites(bytes: &[u8]) -> bool {
+    match bytes.get(12..).and_then(|rest| rest.first_chunk()) {
+        Some(field) => u32::from_be_bytes(*field) <= FEW_SITES,
+        None => false,
+    }
+}
+
+/// The header of a trace of version 1 that these bytes begin with, and its bytes, where it names few call sites; none where
+/// they don't, or an allocation failed.
+fn header_of(alloc: Global, bytes: &[u8]) -> Option<(Head, Vec<u8>)>
+    ensures head { IfSome result (λ h. IsRecordHead (take h.0.len bytes.now) h.0.sites h.0.funcs h.0.count) }
+    ensures within { IfSome result (λ h. h.0.len ≤ length bytes.now) }
+    ensures bytes { IfSome result (λ h. h.1.items ≡ take h.0.len bytes.now) }
+{
+    if !are_few_sites(bytes) {
+        return None;
+    }
+    let head = Head::of(alloc, bytes)?;
+    match bytes[..head.len].to_vec(alloc) {
+        Ok(header) => Some((head, header)),
+        Err(_) => None,
+    }
+}
+
+/// What is told of the run whose trace an input gives, or why nothing is.
+///
+/// The records of a trace of version 1 that names few call sites are profiled as they come, in blocks of which each worker
+/// has 131,072 records, and let go; by two workers or more the next block is read while one is profiled. Any other input is
+/// read whole first, and so is one for whose names memory is refused.
+pub(crate) fn tell_input<R: Threads + Wait + Sync, S: Source, T: Telling>(
+    rt: &R,
+    alloc: Global,
+    request: &Request,
+    source: &mut S,
+    place: Place,
+    telling: &T,
+) -> Result<T::Told, Refusal>
+    ensures told { IfOk result (λ told. (bytes : List ℕ) × (giving_of S.answered S.failed S.failures source.old source.new).Gave bytes × IsTold (T.tells telling.now) request.now.burdens bytes told) }
+    ensures refused { IfErr result (IsInputRefused (giving_of S.answered S.failed S.failures source.old source.new) place IsOneCheckLine) }
+{
+    let hint = source.hint();
+    let front = match read_on(source, Came::nothing(alloc), hint, Some(HeaderEnd::new())) {
+        Ok(front) => front,
+        Err(fault) => return Err(refusal_of_read(fault, place)),
+    };
+    let came = match front {
+        Front::Whole(bytes) => return tell_bytes(rt, alloc, request, bytes.as_slice(), telling),
+        Front::Part(came) => came,
+    };
+    let Some((head, header)) = header_of(alloc, came.as_slice()) else {
+        return tell_whole(rt, alloc, request, source, place, came, hint, telling);
+    };
+    let Ok(trace) = open_trace(alloc, header.as_slice()) else {
+        return tell_whole(rt, alloc, request, source, place, came, hint, telling);
+    };
+    let Ok(records) = records_of(alloc, request, &trace) else {
+        return tell_whole(rt, alloc, request, source, place, came, hint, telling);
+    };
+    tell_records(
+        rt, alloc, request, source, place, head, &trace, records, came, telling,
+    )
+}
