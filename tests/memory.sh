@@ -208,7 +208,7 @@ peak_within() { # BOUND INPUT WORDS..: so many KiB are used at most
 }
 awk 'BEGIN { print "func f"; for (n = 0; n < 40; n++) print "site s" n
     for (n = 0; n < 1400000; n++) print "spawn", n % 40, "0\nstrand 5\nreturn" }' | "$spprof" encode > "$folder/row"
-peak_within 75000 "$folder/row" profile --workers 2
+peak_within 24000 "$folder/row" profile --workers 2
 size=$(($(stat -c %s "$folder/long") / 1024))
 # Of a trace of version 1 `check` keeps the header and a piece: most of what is measured is the process that starts the
 # program.

@@ -364,35 +364,41 @@ fn a_failure_is_told_before_what_came(rt: HostRuntime) -> Result<(), Fail> {
     Ok(())
 }
 
+/// Puts bytes that are no event in place of a record, counted from the last; of none where there are fewer.
+fn spoil(bytes: &mut [u8], from_last: usize) {
+    let tag = bytes.len().saturating_sub(from_last.saturating_mul(16));
+    if let Some(byte) = bytes.get_mut(tag) {
+        *byte = 9;
+    }
+}
+
 /// Blocks of a profile have 131,072 records for each worker: faults in the last record of one, in the first of the next, in two
 /// at once, and bytes that end there or within a record.
 #[test]
 fn a_bad_event_is_told_wherever_blocks_end(rt: HostRuntime) -> Result<(), Fail> {
     let sizes: &[&[usize]] = &[&[65536]];
-    for (asked, block) in [
-        ((Command::Profile, 1), 131072usize),
-        ((Command::Profile, 2), 262144),
+    for (asked, events) in [
+        ((Command::Profile, 1), 131572),
+        ((Command::Profile, 2), 262644),
     ] {
-        let bytes = trace(rt.alloc(), 1, block as u32 + 500)?;
-        let body = bytes.len().saturating_sub((block + 500) * 16);
-        for (records, len) in [
-            ([block - 1, block], block + 500),
-            ([block, block + 400], block + 500),
-            ([block + 400, block + 400], block),
-        ] {
-            let mut bad = bytes[..body + len * 16].to_vec(rt.alloc())?;
-            for record in records {
-                if let Some(tag) = bad.as_mut_slice().get_mut(body + record * 16) {
-                    *tag = 9;
-                }
+        let bytes = trace(rt.alloc(), 1, events)?;
+        for records in [[501, 500], [500, 100], [100, 1]] {
+            let mut bad = bytes.as_slice().to_vec(rt.alloc())?;
+            for from_last in records {
+                spoil(bad.as_mut_slice(), from_last);
             }
             assert!(rt;
                 ends_alike(&rt, &[asked], bad.as_slice(), sizes)?,
-                "{block} {len}"
+                "{events}"
             );
         }
-        let cut = &bytes[..body + block * 16 - 1];
-        assert!(rt; ends_alike(&rt, &[asked], cut, sizes)?, "{block}");
+        for less in [8000, 8001] {
+            let len = bytes.len().saturating_sub(less);
+            assert!(rt;
+                ends_alike(&rt, &[asked], &bytes[..len], sizes)?,
+                "{events} {less}"
+            );
+        }
     }
     Ok(())
 }
