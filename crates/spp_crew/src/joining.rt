@@ -1,4 +1,4 @@
-//! Joining the parts of a block while the next block is read.
+//! Joining the parts of one block while workers go over the next.
 
 ghost use Rattle.std.specs.Prelude.{◌≡◌, ◌+◌, ◌*◌, ◌/◌, ◌≤◌, ◌^◌, ℕ, length, IfOk, IfErr};
 ghost use Rattle.std.specs.Thread.{IsSync};
@@ -21,7 +21,7 @@ use std::thread::{Threads, join};
 /// The bytes of a record.
 pub(crate) const RECORD: usize = 16;
 
-/// What neighbouring parts of a trace of version 1 come to, in order: as many as there are workers, of which each reads one.
+/// What neighbouring parts of a trace of version 1 come to, in order: no more than there are workers, of which each reads one.
 ///
 /// # Errors
 ///

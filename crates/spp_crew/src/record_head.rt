@@ -1,6 +1,6 @@
 //! What a header of version 1 says.
 
-/// What a header of version 1 says of the run behind it.
+/// What a profile needs of a header of version 1.
 #[derive(Clone, Copy)]
 pub struct RecordHead {
     /// The function of the root frame.

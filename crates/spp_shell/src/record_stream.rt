@@ -119,13 +119,13 @@ fn go_over_block<V: Records, R: Threads + Wait + Sync>(
 #[derive(Drop)]
 pub(crate) struct RecordStream<V: Records> {
     pub(crate) head: Head,
-    /// What was gone over.
+    /// The check or the profile of the records that were gone over.
     pub(crate) records: V,
-    /// What came behind that, and then room for more.
+    /// The bytes that came behind these records, and then room for more.
     pub(crate) bytes: Vec<u8>,
-    /// How many bytes came behind it.
+    /// How many of these bytes came.
     pub(crate) filled: usize,
-    /// How many bytes came before these.
+    /// How many bytes of the input came before them, the header among these.
     pub(crate) before: u64,
     ghost held: { filled ≤ length bytes.items },
     ghost within: { before + filled ≤ 2 ^ 33 },

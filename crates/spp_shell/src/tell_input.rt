@@ -35,7 +35,7 @@ use std::alloc::{AllocError, Global};
 use std::sync::Wait;
 use std::thread::Threads;
 
-/// How many bytes a worker has of each block of records: 131,072 of them.
+/// How many bytes of a block each worker has: those of 131,072 records.
 const SHARE: usize = 1 << 21;
 
 /// What is told of the run whose trace these bytes are, or why nothing is.
@@ -145,8 +145,8 @@ fn profile_of_stream(
     }
 }
 
-/// The same of an input that begins with the header of this trace of version 1, and of which that came: its records are
-/// profiled as they come.
+/// What is told of an input that begins with the header of this trace of version 1, and of which that came, or why nothing is:
+/// its records are profiled as they come.
 fn tell_records<R: Threads + Wait + Sync, S: Source, T: Telling>(
     rt: &R,
     alloc: Global,
@@ -238,7 +238,7 @@ fn header_of(alloc: Global, bytes: &[u8]) -> Option<(Head, Vec<u8>)>
 ///
 /// The records of a trace of version 1 that names few call sites are profiled as they come, in blocks of which each worker
 /// has 131,072 records, and let go; by two workers or more the next block is read while one is profiled. Any other input is
-/// read whole first, and so is one for whose names memory is refused.
+/// read whole first, and so is one where memory is refused for its header or for the beginning of its profile.
 pub(crate) fn tell_input<R: Threads + Wait + Sync, S: Source, T: Telling>(
     rt: &R,
     alloc: Global,
