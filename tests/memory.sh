@@ -116,7 +116,7 @@ each_refused 'figures, a bad event' 1 3 '' 'bad event 4: tag' "$folder/tag" "$sp
 each_refused 'figures, a bad event in the second part' 1 3 '' 'bad event 4: tag' "$folder/tag" "$spprof" figures --parts 2
 each_refused 'profile, a recorded trace' 0 4 'work 32744*' '' "$examples/nqueens.sptrace" "$spprof" profile
 each_refused 'profile as tables alone' 0 4 'name,count*' '' "$examples/nqueens.sptrace" "$spprof" profile --csv
-# Two children that are waited for, in parts of one event that two workers share.
+# Two children that are waited for: of `figures` in parts of one event, of `profile` in a block that two workers share.
 printf '%s\n' 'func main' 'func f' 'site A' 'strand 1' 'spawn 0 1' 'strand 4' 'return' 'spawn 0 1' 'strand 2' 'return' \
     'sync' 'strand 3' | "$spprof" encode > "$folder/two"
 each_refused 'figures by workers' 0 1 'work 10*' '' "$folder/two" "$spprof" figures --parts 9 --workers 2
