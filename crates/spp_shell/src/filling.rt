@@ -37,6 +37,7 @@ pub(crate) fn fill<S: Source>(
     requires reads { reads ≤ 2 ^ 33 }
     ensures held { IfOk result (λ r. r.filled ≤ length bytes.new.items) }
     ensures within { IfOk result (λ r. before + r.filled ≤ 2 ^ 33) }
+    ensures full { IfOk result (λ r. r.ended ≡ false → block ≤ r.filled) }
     ensures more { IfOk result (λ r. reads < r.reads) }
     ensures few { IfOk result (λ r. r.reads ≤ 2 ^ 33) }
     ensures left { IfOk result (λ r. r.ended ≡ false → r.reads < 2 ^ 33) }

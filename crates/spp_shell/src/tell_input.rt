@@ -193,6 +193,7 @@ fn records_of(
     trace: &Trace<'_>,
 ) -> Result<ProfiledRecords, AllocError>
     ensures beginning { IfOk result (IsBeginning trace.now request.now.burdens) }
+    ensures asked { IfOk result (λ records. records.workers ≡ request.now.workers) }
     ensures workers { IfOk result (λ records. records.workers ≤ 64) }
 {
     trace.keeps_limits();
