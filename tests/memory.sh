@@ -98,8 +98,8 @@ each_refused() { # NAME STATUS STARTS OUT ERR INPUT PROGRAM WORDS..: what the pr
 each_refused 'the calls' 0 18 "$(cat "$tests/../crates/memory_probe/stdout")" '' /dev/null "$probe"
 
 # A round has a thread for each worker but one. `profile` of a trace that is read whole has one round, or three where there are
-# many call sites, and settles its paths on two threads then; of one that comes in blocks it has a thread for each worker in each
-# block, beside the one that joins. With one worker it has none.
+# many call sites, and settles its paths on two threads then; of one that comes in blocks it has a thread for each block. With
+# one worker it has none.
 examples=$tests/../examples
 head -c 23 "$examples/small.sptrace" > "$folder/short"
 { head -c 100 "$examples/small.sptrace"; head -c 16 /dev/zero | tr '\0' '\5'; } > "$folder/tag"
@@ -114,14 +114,14 @@ each_refused 'figures, in one part' 0 3 'work 136861*' '' "$examples/cilksort.sp
 each_refused 'figures, more parts than events' 0 3 'work 17*' '' "$examples/small.sptrace" "$spprof" figures --parts 20
 each_refused 'figures, a bad event' 1 3 '' 'bad event 4: tag' "$folder/tag" "$spprof" figures --burden 3
 each_refused 'figures, a bad event in the second part' 1 3 '' 'bad event 4: tag' "$folder/tag" "$spprof" figures --parts 2
-each_refused 'profile, a recorded trace' 0 4 'work 32744*' '' "$examples/nqueens.sptrace" "$spprof" profile
-each_refused 'profile as tables alone' 0 4 'name,count*' '' "$examples/nqueens.sptrace" "$spprof" profile --csv
-# Two children that are waited for: of `figures` in parts of one event, of `profile` in a block that two workers share.
+each_refused 'profile, a recorded trace' 0 1 'work 32744*' '' "$examples/nqueens.sptrace" "$spprof" profile
+each_refused 'profile as tables alone' 0 1 'name,count*' '' "$examples/nqueens.sptrace" "$spprof" profile --csv
+# Two children that are waited for: of `figures` in parts of one event, of `profile` in a block that a thread reads.
 printf '%s\n' 'func main' 'func f' 'site A' 'strand 1' 'spawn 0 1' 'strand 4' 'return' 'spawn 0 1' 'strand 2' 'return' \
     'sync' 'strand 3' | "$spprof" encode > "$folder/two"
 each_refused 'figures by workers' 0 1 'work 10*' '' "$folder/two" "$spprof" figures --parts 9 --workers 2
-each_refused 'profile by workers' 0 2 'name,count*' '' "$folder/two" "$spprof" profile --csv --parts 9 --workers 2
-# The same run, where there are so many call sites that a profile takes three rounds.
+each_refused 'profile by workers' 0 1 'name,count*' '' "$folder/two" "$spprof" profile --csv --parts 9 --workers 2
+# The same run, where there are so many call sites that it is read whole, and a profile takes three rounds.
 { awk 'BEGIN { print "func main\nfunc f"; for (n = 0; n < 1025; n++) printf "site s%d\n", n }' && printf '%s\n' 'strand 1' \
     'spawn 0 1' 'strand 4' 'return' 'spawn 0 1' 'strand 2' 'return' 'sync' 'strand 3'; } | "$spprof" encode > "$folder/many"
 each_refused 'profile in three rounds' 0 4 'name,count*' '' "$folder/many" "$spprof" profile --csv --parts 9 --workers 2
@@ -132,10 +132,10 @@ each_refused 'profile by one worker' 0 0 'work 32744*' '' "$examples/nqueens.spt
 each_refused 'compare by one worker' 0 0 'work 10 17*' '' /dev/null "$spprof" compare --workers 1 "$folder/two" "$examples/small.sptrace"
 each_refused 'marks by workers' 0 3 '111100011' '' "$folder/two" "$printer" marks 9 2
 each_refused 'marks, a recorded trace' 0 6 '1*' '' "$examples/nqueens.sptrace" "$printer" marks 20 3
-each_refused 'compare' 0 8 'work 17 32744*' '' /dev/null "$spprof" compare "$examples/small.sptrace" "$examples/nqueens.sptrace"
-each_refused 'compare by workers' 0 4 'work 10 17*' '' /dev/null "$spprof" compare --parts 9 --workers 2 "$folder/two" "$examples/small.sptrace"
-each_refused 'compare, a bad first event' 1 4 '' 'before: bad event 4: tag' /dev/null "$spprof" compare "$folder/tag" "$folder/two"
-each_refused 'compare, a bad second header' 1 4 '' 'after: bad header: short' /dev/null "$spprof" compare "$folder/two" "$folder/short"
+each_refused 'compare' 0 2 'work 17 32744*' '' /dev/null "$spprof" compare "$examples/small.sptrace" "$examples/nqueens.sptrace"
+each_refused 'compare by workers' 0 2 'work 10 17*' '' /dev/null "$spprof" compare --parts 9 --workers 2 "$folder/two" "$examples/small.sptrace"
+each_refused 'compare, a bad first event' 1 1 '' 'before: bad event 4: tag' /dev/null "$spprof" compare "$folder/tag" "$folder/two"
+each_refused 'compare, a bad second header' 1 1 '' 'after: bad header: short' /dev/null "$spprof" compare "$folder/two" "$folder/short"
 each_refused 'encode, a good text' 0 0 'SPTRACE1*' '' "$examples/small.txt" "$spprof" encode
 printf 'func f\nsync\nsync 1 2 3 4 5\n' > "$folder/text"
 each_refused 'encode, a bad text' 1 0 '' 'bad text line 3: count' "$folder/text" "$spprof" encode

@@ -4,4 +4,5 @@ pub mod Halves
 pub mod Marked
 pub mod WholePiece
 pub mod Profiled
+pub mod Joinings
 pub mod RecordProfiles

@@ -1,28 +1,22 @@
 -- What blocks of records come to, one behind the other.
-use Rattle.std.proofs.Common.{◌≡◌, ℕ, ◌+◌, ◌-◌, ◌*◌, ◌/◌, ◌≤◌, ◌<◌, List, [], ◌∷◌, ◌++◌, length, take, drop, replicate, Result, Ok, Err, IfOk, IfErr, refl, sym, ap, subst, ◌∙◌, arith, inl, inr}
-use Rattle.std.specs.List.{slice_range}
-use Rattle.std.proofs.Math.Seq.{take-length}
-use Rattle.std.proofs.Math.Nat.{div-mul-le_self, mul-le-mul_left}
+use Rattle.std.proofs.Common.{◌≡◌, ℕ, ◌+◌, ◌-◌, ◌/◌, ◌≤◌, ◌<◌, List, [], ◌++◌, length, replicate, Result, Ok, Err, IfOk, IfErr, refl, sym, ap, subst, ◌∙◌, arith, inl, inr}
 use Rattle.std.proofs.lemmas.Bool.{cases_lt}
-use Rattle.std.proofs.lemmas.List.{length-append, append_assoc, take-append-drop, length-take, length-drop, length-replicate, get_or-replicate, get_or_append_left, get_or-append_right}
+use Rattle.std.proofs.lemmas.List.{length-append, append_assoc, length-replicate, get_or-replicate, get_or_append_left, get_or-append_right}
 use Rattle.spp_event.specs.declared.records.EventFault.TheVariants.{Truncated}
 use Rattle.spp_event.specs.declared.version.Version.TheVariants.{One}
 use Rattle.spp_event.specs.Records.{IsEventOf}
 use Rattle.spp_event.specs.Recordings.{Record, Recording, AreEventsOf, records_of, record_at}
 use Rattle.spp_event.proofs.GoodRecords.{are_events_of}
 use Rattle.spp_event.proofs.TakenFromFront.{IsBytes}
-use Rattle.spp_event.proofs.JoinedRecords.{records_joined}
 use Rattle.spp_event.proofs.RecordPlaces.{length-records_of}
 use Rattle.spp_frame.specs.Answers.{IsFaultOf}
 use Rattle.spp_frame.specs.declared.Fault.{Fault}
 use Rattle.spp_frame.specs.declared.profile_fault.ProfileFault.{ProfileFault}
 use Rattle.spp_frame.specs.declared.profile_fault.ProfileFault.TheVariants.{Bad}
 use Rattle.spp_maxplus.specs.declared.state.Burdens.{Burdens}
-use Rattle.spp_part.specs.declared.part_profile.PartProfile.{PartProfile}
 use Rattle.spp_part.specs.declared.so_far.ProfileSoFar.{ProfileSoFar}
-use Rattle.spp_part.specs.Parts.{IsPartProfile, IsSoFar}
+use Rattle.spp_part.specs.Parts.{IsSoFar}
 use Rattle.spp_part.specs.RecordParts.{HasPart}
-use Rattle.spp_jobs.specs.ProfilePieces.{Follow}
 use Rattle.spp_crew.specs.declared.joining.Joining.{Joining}
 use Rattle.spp_crew.specs.declared.record_head.RecordHead.{RecordHead}
 use Rattle.spp_crew.specs.declared.record_profile.RecordProfile.{RecordProfile}
@@ -31,94 +25,6 @@ use Rattle.spp_crew.specs.declared.record_profile.Shown.TheVariants.{Good, Bad a
 use Rattle.spp_crew.specs.Joinings.{HasCome}
 use Rattle.spp_crew.specs.RecordHeads.{IsHead}
 use Rattle.spp_crew.specs.RecordProfiles.{BeginsWith, IsShown, HasSeen, EndsWith}
-
--- ---- parts of a trace
-
-module _ (t : Recording) (b : Burdens) where
-  follow_both : (i j k : ℕ) (xs ys : List PartProfile) → Follow t b i xs j → Follow t b j ys k → Follow t b i (xs ++ ys) k
-  follow_both i j k [] ys h g =
-      let e : j ≡ i = h in
-      subst (λ n. Follow t b n ys k) e g
-  follow_both i j k (x ∷ xs) ys h g = (h.0, h.1, follow_both (i + h.0) j k xs ys h.2 g)
-
-module _ (t : Recording) (sites funcs first : ℕ) (rs ss : List Record) (h : HasPart t sites funcs first (rs ++ ss)) where
-  part_front : HasPart t sites funcs first rs
-  part_front =
-      record {
-        sites_are = h.sites_are;
-        funcs_are = h.funcs_are;
-        few = h.few;
-        before = h.before;
-        behind = ss ++ h.behind;
-        records = h.records ∙ ap (λ (l : List Record). h.before ++ l) (append_assoc rs ss h.behind);
-        at = h.at;
-      }
-
-  part_back : HasPart t sites funcs (first + length rs) ss
-  part_back =
-      let from = h.at in
-      record {
-        sites_are = h.sites_are;
-        funcs_are = h.funcs_are;
-        few = h.few;
-        before = h.before ++ rs;
-        behind = h.behind;
-        records = h.records ∙ ap (λ (l : List Record). h.before ++ l) (append_assoc rs ss h.behind) ∙ sym (append_assoc h.before rs (ss ++ h.behind));
-        at = omega (arith, length-append h.before rs);
-      }
-
--- whichever trace has these bytes for records, they come to these parts
-abbrev pub AreReadAs : ℕ → ℕ → Burdens → List ℕ → List PartProfile → Type 0
-AreReadAs sites funcs b bytes parts =
-    (t : Recording) (first : ℕ) → HasPart t sites funcs first (records_of One sites funcs (length bytes / 16) bytes) → Follow t b first parts (first + length bytes / 16)
-
-module _ (sites funcs : ℕ) (b : Burdens) where
-  -- what one worker read
-  pub read_one : (bytes : List ℕ) (p : PartProfile) (parts : List PartProfile) → parts ≡ p ∷ []
-      → ((t : Recording) (first : ℕ) → HasPart t sites funcs first (records_of One sites funcs (length bytes / 16) bytes) → IsPartProfile t b first (length bytes / 16) p)
-      → AreReadAs sites funcs b bytes parts
-  read_one bytes p parts is told t first h = subst (λ l. Follow t b first l (first + length bytes / 16)) (sym is) (length bytes / 16, told t first h, refl)
-
-  -- what was read of the front, which has whole records, and of what is behind it
-  read_both : (bytes front back : List ℕ) (m : ℕ) (xs ys : List PartProfile) → front ++ back ≡ bytes → length front ≡ 16 * m
-      → AreReadAs sites funcs b front xs → AreReadAs sites funcs b back ys → AreReadAs sites funcs b bytes (xs ++ ys)
-  read_both bytes front back m xs ys all whole left right t first h =
-      let n = length front / 16 in
-      let k = length back / 16 in
-      let rs = records_of One sites funcs n front in
-      let ss = records_of One sites funcs k back in
-      let long : length front + length back ≡ length bytes = sym (length-append front back) ∙ ap (λ (l : List ℕ). length l) all in
-      let count : length bytes / 16 ≡ n + k = omega (arith, long, whole) in
-      let joined : rs ++ ss ≡ records_of One sites funcs (n + k) (front ++ back) = records_joined sites funcs n k front back (omega (arith, whole)) in
-      let here : records_of One sites funcs (length bytes / 16) bytes ≡ rs ++ ss =
-      ap (λ (j : ℕ). records_of One sites funcs j bytes) count ∙ ap (λ (l : List ℕ). records_of One sites funcs (n + k) l) (sym all) ∙ sym joined in
-      let has : HasPart t sites funcs first (rs ++ ss) = subst (λ (l : List Record). HasPart t sites funcs first l) here h in
-      let one = left t first (part_front t sites funcs first rs ss has) in
-      let at : first + length rs ≡ first + n = ap (λ (j : ℕ). first + j) (length-records_of One sites funcs n front) in
-      let two = right t (first + n) (subst (λ (j : ℕ). HasPart t sites funcs j ss) at (part_back t sites funcs first rs ss has)) in
-      let to : (first + n) + k ≡ first + length bytes / 16 = omega (arith, count) in
-      subst (λ (j : ℕ). Follow t b first (xs ++ ys) j) to (follow_both t b first (first + n) ((first + n) + k) xs ys one two)
-
-  -- the same where the bytes are shared out among so many workers
-  pub read_halves : (bytes : List ℕ) (w : ℕ) (xs ys all : List PartProfile) → all ≡ xs ++ ys
-      → AreReadAs sites funcs b (take (length bytes / 16 / w * (w - w / 2) * 16) bytes) xs
-      → AreReadAs sites funcs b (slice_range bytes (length bytes / 16 / w * (w - w / 2) * 16) (length bytes)) ys
-      → AreReadAs sites funcs b bytes all
-  read_halves bytes w xs ys all is left right =
-      let m = length bytes / 16 / w * (w - w / 2) in
-      let less : m ≤ length bytes / 16 / w * w = mul-le-mul_left (length bytes / 16 / w) (omega arith) in
-      let few : length bytes / 16 / w * w ≤ length bytes / 16 = div-mul-le_self (length bytes / 16) w in
-      let within : m * 16 ≤ length bytes = omega (arith, less, few) in
-      let whole : length (take (m * 16) bytes) ≡ 16 * m = omega (arith, length-take (m * 16) bytes, within) in
-      let back : slice_range bytes (m * 16) (length bytes) ≡ drop (m * 16) bytes =
-      ap (λ (k : ℕ). take k (drop (m * 16) bytes)) (sym (length-drop (m * 16) bytes)) ∙ take-length (drop (m * 16) bytes) in
-      let halves : take (m * 16) bytes ++ slice_range bytes (m * 16) (length bytes) ≡ bytes =
-      ap (λ (l : List ℕ). take (m * 16) bytes ++ l) back ∙ take-append-drop (m * 16) bytes in
-      subst (λ l. AreReadAs sites funcs b bytes l) (sym is) (read_both bytes (take (m * 16) bytes) (slice_range bytes (m * 16) (length bytes)) m xs ys halves whole left right)
-
--- what is told of a good result
-pub ok_told : {X E : Type 0} (P : X → Type 0) (x : Result X E) (r : X) → x ≡ Ok r → IfOk x P → P r
-ok_told P x r is told = subst (λ y. IfOk y P) is told
 
 -- ---- traces that begin with some records
 

@@ -1,6 +1,6 @@
 //! The profile of a run whose records come block by block.
 
-ghost use Rattle.std.specs.Prelude.{◌≡◌, ◌+◌, ◌*◌, ◌/◌, ◌≤◌, ◌<◌, ◌^◌, ◌++◌, ℕ, List, [], length, IfOk, IfErr};
+ghost use Rattle.std.specs.Prelude.{◌≡◌, ◌+◌, ◌*◌, ◌/◌, ◌≤◌, ◌<◌, ◌^◌, ◌++◌, ℕ, List, [], length, take, slice_index, IfOk, IfErr};
 ghost use Rattle.spp_event.specs.declared.version.Version.TheVariants.{One};
 ghost use Rattle.spp_event.specs.Recordings.{Record, Recording, records_of};
 ghost use Rattle.spp_dag.specs.Figures.{AreFigures};
@@ -8,7 +8,7 @@ ghost use Rattle.spp_frame.specs.Answers.{IsFaultOf};
 ghost use Rattle.spp_site.specs.Profiles.{IsProfileOf};
 ghost use Rattle.spp_crew.specs.RecordHeads.{IsHead};
 
-use crate::joining::{Joining, RECORD};
+use crate::joining::{Block, Joining, RECORD};
 use crate::record_head::RecordHead;
 use spp_event::EventFault;
 use spp_frame::{Fault, ProfileFault};
@@ -16,7 +16,6 @@ use spp_maxplus::Burdens;
 use spp_part::ProfileSoFar;
 use spp_site::Profile;
 use std::alloc::{AllocError, Global};
-use std::collections::VecDeque;
 use std::sync::Wait;
 use std::thread::Threads;
 
@@ -43,6 +42,11 @@ pub struct RecordProfile {
     ghost limits: { IsHead head },
 }
 
+/// Bytes are numbers of 8 bits. Its contract is what it is for.
+fn are_bytes(bytes: &[u8])
+    ensures { (i : ℕ) → slice_index bytes.now i < 256 }
+{}
+
 impl RecordProfile {
     ghost use Rattle.spp_crew.specs.RecordProfiles.{HasSeen, EndsWith, seen_by};
 
@@ -62,25 +66,19 @@ impl RecordProfile {
         Ok(RecordProfile {
             head,
             burdens,
-            shown: Shown::Good(Joining {
-                so_far: ProfileSoFar::start(alloc, head.root, head.sites)?,
-                waiting: VecDeque::new(alloc),
-            }),
+            shown: Shown::Good(Joining::behind(
+                alloc,
+                ProfileSoFar::start(alloc, head.root, head.sites)?,
+            )),
             at: 0,
         })
     }
 
-    /// The profile behind the whole records of these bytes as well, which so many workers read, 1 to 64, each on a thread of
-    /// its own where there are several. How many there are doesn't show in it. The time is that of reading them by
-    /// `PartProfile::of_records`, shared by the workers, of whom each reads a part; this thread joins the parts of the block
-    /// before at the same time, by `ProfileSoFar::join`. One worker joins those, and then reads the records by
-    /// `ProfileSoFar::read_records`. It is constant where a bad event was met before, or where more records have come than the
-    /// header claims. The memory, besides that of the profile so far, is that of what the parts of this block and the one before
-    /// come to: those of this one are kept until the next, those of the one before are let go.
+    /// The profile behind the whole records of these bytes as well, as [`RecordProfile::followed_by_block`] of a copy of them.
     ///
     /// # Errors
     ///
-    /// Where an allocation failed. A thread that can't be started is no error: the thread that was to start it does its share.
+    /// Where an allocation failed. A thread that can't be started is no error: this one reads the records.
     pub fn followed_by<R: Threads + Wait + Sync>(
         self,
         rt: &R,
@@ -95,41 +93,89 @@ impl RecordProfile {
         ensures burdens { IfOk result (λ p. p.burdens ≡ self.burdens) }
         ensures seen { IfOk result (λ p. (rs : List Record) → HasSeen self rs → HasSeen p (rs ++ records_of One self.head.sites self.head.funcs (length bytes.now / 16) bytes.now)) }
     {
+        let block = bytes.to_vec(alloc)?;
+        let (profile, _) = self.followed_by_block(rt, alloc, block, bytes.len(), workers)?;
+        Ok(profile)
+    }
+
+    /// The profile behind the whole records of the first `len` of these bytes as well, and room for the bytes of other records: a list
+    /// of any bytes, mostly of as many. Where so many workers, 1 to 64, are several, a new thread reads the records, by
+    /// `PartProfile::of_records`, while this one goes on; what it finds is joined, by `ProfileSoFar::join`, once so many threads
+    /// are at work, or at the end. So the time is that of starting a thread, of waiting for an earlier one, and of joining what
+    /// that found. One worker reads them on this thread, by `ProfileSoFar::read_records`. How many there are doesn't show in the
+    /// profile. The time is constant where a bad event was met before, or where more records have come than the header claims.
+    /// The memory, besides that of the profile so far, is for each thread that of the bytes and of what they come to.
+    ///
+    /// # Errors
+    ///
+    /// Where an allocation failed. A thread that can't be started is no error: this one reads the records.
+    pub fn followed_by_block<R: Threads>(
+        self,
+        rt: &R,
+        alloc: Global,
+        bytes: Vec<u8>,
+        len: usize,
+        workers: u32,
+    ) -> Result<(Self, Vec<u8>), AllocError>
+        requires within { len ≤ length bytes.items }
+        requires room { seen_by self + len / 16 < 2 ^ 32 }
+        requires seen { (rs : List Record) × HasSeen self rs }
+        ensures count { IfOk result (λ p. seen_by p.0 ≡ seen_by self + len / 16) }
+        ensures head { IfOk result (λ p. p.0.head ≡ self.head) }
+        ensures burdens { IfOk result (λ p. p.0.burdens ≡ self.burdens) }
+        ensures seen { IfOk result (λ p. (rs : List Record) → HasSeen self rs → HasSeen p.0 (rs ++ records_of One self.head.sites self.head.funcs (len / 16) (take len bytes.items))) }
+    {
         let RecordProfile {
             head,
             burdens,
             shown,
             at,
         } = self;
-        let behind = at + (bytes.len() / RECORD) as u32;
-        let shown = match shown {
+        are_bytes(bytes.as_slice());
+        let behind = at + (len / RECORD) as u32;
+        let block = Block {
+            bytes,
+            len,
+            sites: head.sites,
+            funcs: head.funcs,
+            burdens,
+        };
+        let (shown, room) = match shown {
             // More than the header claims are of no trace.
-            shown if behind > head.count => shown,
-            Shown::Bad(fault) => Shown::Bad(fault),
-            Shown::Good(joining) => match joining.go_on(
-                rt, alloc, bytes, head.sites, head.funcs, burdens, workers,
-            ) {
-                Ok(joining) => Shown::Good(joining),
-                Err(ProfileFault::Bad(fault)) => Shown::Bad(fault),
+            shown if behind > head.count => (shown, block.bytes),
+            Shown::Bad(fault) => (Shown::Bad(fault), block.bytes),
+            Shown::Good(joining) => match joining.go_on(rt, alloc, block, workers) {
+                Ok((joining, room)) => (Shown::Good(joining), room),
+                Err(ProfileFault::Bad(fault)) => (Shown::Bad(fault), Vec::new(alloc)),
                 Err(ProfileFault::Memory) => return Err(AllocError),
             },
         };
-        Ok(RecordProfile {
+        let profile = RecordProfile {
             head,
             burdens,
             shown,
             at: behind,
-        })
+        };
+        Ok((profile, room))
+    }
+
+    /// Waits for the threads that still read records, and lets go of all.
+    pub fn let_go<R: Threads>(self, rt: &R) {
+        let RecordProfile { shown, .. } = self;
+        match shown {
+            Shown::Good(joining) => joining.let_go(rt),
+            Shown::Bad(_) => {}
+        }
     }
 
     /// The profile of the run, where all records of its trace have come. Where fewer have than the header claims, the bytes end
-    /// before the next one does, and it is told as cut off. The time is that of joining the parts of the last block, by
-    /// `ProfileSoFar::join`, and then of `ProfileSoFar::finish`.
+    /// before the next one does, and it is told as cut off. The time is that of waiting for the threads that still read
+    /// records, of joining what they find, by `ProfileSoFar::join`, and then of `ProfileSoFar::finish`.
     ///
     /// # Errors
     ///
     /// The first bad event, or `Memory` where an allocation failed.
-    pub fn end(self, alloc: Global) -> Result<Profile, ProfileFault>
+    pub fn end<R: Threads>(self, rt: &R, alloc: Global) -> Result<Profile, ProfileFault>
         requires few { seen_by self ≤ self.head.count }
         requires seen { (rs : List Record) × HasSeen self rs }
         ensures small { IfOk result (λ p. p.figures.work < 2 ^ 92) }
@@ -147,7 +193,7 @@ impl RecordProfile {
             Shown::Good(joining) => joining,
             Shown::Bad(fault) => return Err(ProfileFault::Bad(fault)),
         };
-        let so_far = joining.end(alloc, burdens)?;
+        let so_far = joining.end(rt, alloc, burdens)?;
         if at < head.count {
             return Err(so_far.cut_off(EventFault::Truncated));
         }

@@ -1,5 +1,5 @@
 -- What `check` answers of an input.
-use Rattle.std.proofs.Common.{◌≡◌, ℕ, ◌+◌, ◌-◌, ◌*◌, ◌≤◌, ◌<◌, List, [], ◌∷◌, ◌++◌, length, Result, IfOk, sym, ap, subst, ◌∙◌, append_assoc, length-append, arith, inl, inr}
+use Rattle.std.proofs.Common.{◌≡◌, ℕ, ◌+◌, ◌-◌, ◌*◌, ◌≤◌, ◌<◌, List, [], ◌∷◌, ◌++◌, length, Result, IfOk, sym, ap, subst, ◌∙◌, append_assoc, length-append, arith}
 use Rattle.std.specs.Prelude.{IfErr}
 use Rattle.spp_event.specs.declared.header.HeaderFault.TheVariants.{Trailing}
 use Rattle.spp_event.specs.declared.version.Version.TheVariants.{One}
@@ -14,7 +14,6 @@ use Rattle.spp_shell.specs.Devices.{Giving}
 use Rattle.spp_shell.specs.Inputs.{IsInputRefused, TellsRead}
 use Rattle.spp_shell.specs.Checked.{IsChecked, checked_by}
 use Rattle.spp_shell.specs.RecordStreams.{HasStreamed}
-use Rattle.spp_shell.specs.Streams.{IsStopped}
 use Rattle.spp_shell.specs.declared.checked_records.CheckedRecords.{CheckedRecords}
 use Rattle.spp_shell.specs.Tasks.{IfLine}
 use Rattle.spp_shell.specs.declared.place.Place.{Place}
@@ -72,11 +71,6 @@ pub read_refused : (g : Giving) (place : Place) (LineFor : List ℕ → List ℕ
 read_refused g place LineFor Device told is refused within = subst (λ (r : Refusal). IsInputRefused g place LineFor r) (sym is.1) (Device, is.2, refused)
 read_refused g place LineFor TooLong told is refused within = subst (λ (r : Refusal). IsInputRefused g place LineFor r) (sym is.1) (TooLong, is.2, refused)
 read_refused g place LineFor Memory told is refused within = subst (λ (r : Refusal). IsInputRefused g place LineFor r) (sym is) (within refused)
-
--- the same where all may have been read, and an allocation failed besides
-pub read_stopped : (g : Giving) (place : Place) (LineFor : List ℕ → List ℕ → Type 0) (fault : ReadFault) (told : Refusal) → TellsRead place fault told → IsStopped g fault → (g.Refused Memory → g.Within) → ((bytes : List ℕ) → g.Gave bytes → g.Within) → IsInputRefused g place LineFor told
-read_stopped g place LineFor fault told is (inl refused) within gave = read_refused g place LineFor fault told is refused within
-read_stopped g place LineFor fault told is (inr (e, got)) within gave = subst (λ (r : Refusal). IsInputRefused g place LineFor r) (sym (subst (λ (f : ReadFault). TellsRead place f told) e is)) (gave got.0 got.1)
 
 -- what is answered for the bytes that an input gave
 module _ {T : Type 0} (items : T → List ℕ) (g : Giving) (bytes : List ℕ) (gave : g.Gave bytes) where

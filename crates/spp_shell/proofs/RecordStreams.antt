@@ -1,6 +1,6 @@
 -- How bytes that were read lie in a header, whole records and the rest.
-use Rattle.std.proofs.Common.{◌≡◌, ℕ, ◌+◌, ◌-◌, ◌*◌, ◌≤◌, List, ◌++◌, length, take, drop, Option, refl, sym, ap, subst, ◌∙◌, append_assoc, length-append, arith}
-use Rattle.std.proofs.lemmas.List.{take-append-drop, take-take, drop-take, length-drop, length-take-le}
+use Rattle.std.proofs.Common.{◌≡◌, ℕ, ◌+◌, ◌-◌, ◌*◌, ◌≤◌, List, ◌++◌, length, take, drop, Option, sym, ap, subst, ◌∙◌, append_assoc, length-append, arith}
+use Rattle.std.proofs.lemmas.List.{take-append-drop, length-take-le}
 use Rattle.spp_event.specs.Recordings.{Record, records_of}
 use Rattle.spp_event.specs.declared.version.Version.TheVariants.{One}
 use Rattle.spp_event.proofs.JoinedRecords.{records_joined}
@@ -23,24 +23,6 @@ parts_moved h d new rest more left le is =
     ap (λ (l : List ℕ). (h ++ d) ++ l) split
     ∙ sym (append_assoc (h ++ d) (take j (take more new)) rest)
     ∙ ap (λ (l : List ℕ). l ++ rest) (append_assoc h d (take j (take more new)))
-
--- the first whole bytes of a buffer, of which f came, and a copy of those behind them
-module _ (old now : List ℕ) (whole f : ℕ) (is : now ≡ old) (le : whole ≤ f) (held : f ≤ length old) where
-  pub whole_front : take whole now ≡ take (f - (f - whole)) (take f old)
-  whole_front =
-      let e : whole ≡ f - (f - whole) = omega arith in
-      ap (λ (l : List ℕ). take whole l) is ∙ sym (take-take whole f old le) ∙ ap (λ (j : ℕ). take j (take f old)) e
-
-  pub whole_len : length (take whole now) ≡ whole
-  whole_len = length-take-le whole now (omega (arith, ap (λ (l : List ℕ). length l) is))
-
-  pub whole_behind : (copied : List ℕ) → take (length (take (f - whole) (drop whole now))) copied ≡ take (f - whole) (drop whole now) → take (f - whole) copied ≡ drop (f - (f - whole)) (take f old)
-  whole_behind copied kept =
-      let n : length (take (f - whole) (drop whole now)) ≡ f - whole = length-take-le (f - whole) (drop whole now) (omega (arith, length-drop whole now, ap (λ (l : List ℕ). length l) is)) in
-      let all : whole + (f - whole) ≡ f = omega arith in
-      let e : whole ≡ f - (f - whole) = omega arith in
-      ap (λ (j : ℕ). take j copied) (sym n) ∙ kept ∙ ap (λ (l : List ℕ). take (f - whole) (drop whole l)) is ∙ sym (drop-take whole (f - whole) old)
-      ∙ ap (λ (j : ℕ). drop whole (take j old)) all ∙ ap (λ (j : ℕ). drop j (take f old)) e
 
 module _ {V : Type 0} (seen_by : V → ℕ) (has_seen : V → V → List ℕ → Type 0) (first now : V) (head : Head) (header rest all : List ℕ) (p : HasStreamed seen_by has_seen first now head header rest all) where
   pub before_rest : (before : ℕ) → before ≡ head.len + 16 * seen_by now → length (header ++ p.done) ≡ before
@@ -68,28 +50,3 @@ module _ {V : Type 0} (seen_by : V → ℕ) (has_seen : V → V → List ℕ →
         whole = omega (arith, length-append p.done (take j (take filled old)));
         seen = seen;
       }
-
-  -- the rest begins with whole records, which are let go, and goes on in another buffer
-  module _ (old : List ℕ) (filled left : ℕ) (is : rest ≡ take filled old) (held : filled ≤ length old) (le : left ≤ filled) where
-    abbrev pub gone : List ℕ
-    gone = p.done ++ take (filled - left) (take filled old)
-
-    gone_len : length gone ≡ length p.done + (filled - left)
-    gone_len =
-        let n : length (take filled old) ≡ filled = length-take-le filled old held in
-        let m : length (take (filled - left) (take filled old)) ≡ filled - left = length-take-le (filled - left) (take filled old) (omega arith) in
-        omega (arith, length-append p.done (take (filled - left) (take filled old)))
-
-    pub before_behind : (before : ℕ) → before ≡ head.len + 16 * seen_by now → length (header ++ gone) ≡ before + (filled - left)
-    before_behind before e = let a = p.len in let b = p.whole in let c = gone_len in omega (arith, length-append header gone)
-
-    pub read_behind : {S : Type 0} (answered : S → Option (List ℕ) → S → Type 0) (failed : S → S → Type 0) (failures : S → ℕ) (n : ℕ) (s t : S) (behind : List ℕ) → behind ≡ drop (filled - left) (take filled old)
-        → HasRead answered failed failures n s all t → HasRead answered failed failures n s ((header ++ gone) ++ behind) t
-    read_behind answered failed failures n s t behind kept h =
-        subst (λ (l : List ℕ). HasRead answered failed failures n s l t) (p.parts ∙ ap (λ (l : List ℕ). (header ++ p.done) ++ l) is ∙ parts_moved header p.done old behind filled left le kept) h
-
-    pub streamed_behind : (then : V) (more : List ℕ) → 16 * seen_by then + left ≡ 16 * seen_by now + filled → has_seen first then gone → HasStreamed seen_by has_seen first then head header more ((header ++ gone) ++ more)
-    streamed_behind then more counted seen =
-        let w = p.whole in
-        let n = gone_len in
-        record { done = gone; parts = refl; is_head = p.is_head; len = p.len; whole = omega arith; seen = seen }

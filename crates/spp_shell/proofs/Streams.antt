@@ -1,19 +1,12 @@
 -- One read more of an input that is read step by step, as a call of `pull_behind` tells it.
-use Rattle.std.proofs.Common.{◌≡◌, ◌≢◌, ℕ, ◌+◌, ◌≤◌, ◌<◌, ◌^◌, List, ◌++◌, length, take, drop, Bool, true, false, Option, None, Some, inl, inr, refl, sym, ap, subst, ◌∙◌, append_assoc, arith}
+use Rattle.std.proofs.Common.{◌≡◌, ◌≢◌, ℕ, ◌+◌, ◌≤◌, ◌<◌, ◌^◌, List, ◌++◌, length, take, drop, Option, None, Some, refl, sym, ap, subst, ◌∙◌, append_assoc, arith}
 use Rattle.std.specs.Option.{option_map}
-use Rattle.std.specs.Prelude.{Result, Ok, Err, IfErr}
 use Rattle.std.proofs.Math.Seq.{take-add}
 use Rattle.spp_report.specs.Devices.{Raised}
-use Rattle.spp_shell.specs.Devices.{Giving, giving_of}
-use Rattle.spp_shell.specs.Streams.{HasRead, HasFilled, IsStopped}
-use Rattle.spp_shell.specs.declared.reading.ReadFault.{ReadFault}
+use Rattle.spp_shell.specs.Devices.{giving_of}
+use Rattle.spp_shell.specs.Streams.{HasRead}
 use Rattle.spp_shell.specs.declared.reading.ReadFault.TheVariants.{Device, TooLong, Memory}
 use Rattle.spp_shell.proofs.Readings.{SoFar, so_far_none, so_far_some, so_far_ended, so_far_passed, so_far_start, so_far_turns, so_far_within}
-
--- why it could not be read is why it was stopped
-pub refused_stopped : {T : Type 0} (g : Giving) (r : Result T ReadFault) → IfErr r (λ fault. g.Refused fault) → IfErr r (IsStopped g)
-refused_stopped g (Ok end) is = tt
-refused_stopped g (Err fault) is = inl is
 
 module _ {S : Type 0} (answered : S → Option (List ℕ) → S → Type 0) (failed : S → S → Type 0) (failures : S → ℕ) where
   module _ (n : ℕ) (s m t : S) (xs old new : List ℕ) (f : ℕ) (o : Option ℕ) (h : HasRead answered failed failures n s (xs ++ take f old) m) (kept : take f new ≡ take f old) where
@@ -53,11 +46,6 @@ module _ {S : Type 0} (answered : S → Option (List ℕ) → S → Type 0) (fai
 
   pub stream_memory : (n : ℕ) (s t : S) (xs : List ℕ) → HasRead answered failed failures n s xs t → n < 2 ^ 33 → (giving_of answered failed failures s t).Refused Memory
   stream_memory n s t xs h lt = (so_far_within answered n (2 ^ 33) (2 ^ 33) s t xs h.reads h.few lt, h.same)
-
-  -- an allocation failed besides, whether the end was seen or not
-  pub stream_stopped : (ended : Bool) (n : ℕ) (s t : S) (xs : List ℕ) → HasFilled answered failed failures ended n s xs t → (ended ≡ false → n < 2 ^ 33) → IsStopped (giving_of answered failed failures s t) Memory
-  stream_stopped true n s t xs h lt = inr (refl, (xs, h))
-  stream_stopped false n s t xs h lt = inl (stream_memory n s t xs h (lt refl))
 
   pub stream_turns : (n : ℕ) (s t : S) (xs : List ℕ) → HasRead answered failed failures n s xs t → n ≤ 2 ^ 33 → 2 ^ 33 ≤ n → (giving_of answered failed failures s t).Refused TooLong
   stream_turns n s t xs h le ge = (so_far_turns answered n (2 ^ 33) (2 ^ 33) s t xs h.reads h.few le ge, h.same)

@@ -1,9 +1,7 @@
 -- Reading an input step by step: what came so far, and what is known where no more is read.
-use Rattle.std.specs.Prelude.{◌≡◌, ℕ, ◌≤◌, ◌^◌, ◌⊎◌, List, length, take, All, Bool, true, false, Option, ⊤}
+use Rattle.std.specs.Prelude.{◌≡◌, ℕ, ◌≤◌, ◌^◌, List, length, take, All, Option, ⊤}
 use Rattle.spp_shell.specs.Reading.{Reads, given, IsNoEnd}
-use Rattle.spp_shell.specs.Devices.{Giving, giving_of}
-use Rattle.spp_shell.specs.declared.reading.ReadFault.{ReadFault}
-use Rattle.spp_shell.specs.declared.reading.ReadFault.TheVariants.{Memory}
+use Rattle.spp_shell.specs.Devices.{giving_of}
 use Rattle.spp_shell.specs.declared.reading_on.Front.{Front}
 use Rattle.spp_shell.specs.declared.reading_on.Front.TheVariants.{Whole, Part}
 
@@ -11,10 +9,6 @@ use Rattle.spp_shell.specs.declared.reading_on.Front.TheVariants.{Whole, Part}
 abbrev pub IsWhole : Front → Type 0
 IsWhole (Whole bytes) = ⊤
 IsWhole (Part came) = ⊥
-
--- it could not be read whole, for this reason, or it was, and an allocation failed besides
-abbrev pub IsStopped : Giving → ReadFault → Type 0
-IsStopped g fault = g.Refused fault ⊎ ((fault ≡ Memory) × ((bytes : List ℕ) × g.Gave bytes))
 
 module _ {S : Type 0} (answered : S → Option (List ℕ) → S → Type 0) (failed : S → S → Type 0) (failures : S → ℕ) where
   -- n reads gave these bytes, which are not too many; the end was not seen, and no read failed
@@ -27,8 +21,3 @@ module _ {S : Type 0} (answered : S → Option (List ℕ) → S → Type 0) (fai
   abbrev pub IsFront : S → S → Front → Type 0
   IsFront s t (Whole bytes) = (giving_of answered failed failures s t).Gave bytes.items
   IsFront s t (Part came) = HasRead came.reads s (take came.filled came.bytes.items) t
-
-  -- these are all the bytes, where the end was seen, and else those that n reads gave
-  abbrev pub HasFilled : Bool → ℕ → S → List ℕ → S → Type 0
-  HasFilled true n s xs t = (giving_of answered failed failures s t).Gave xs
-  HasFilled false n s xs t = HasRead n s xs t

@@ -25,17 +25,22 @@ impl Records for CheckedRecords {
     fn followed_by<R: Threads + Wait + Sync>(
         self,
         _rt: &R,
-        bytes: &[u8],
-    ) -> Result<Self, AllocError> {
+        bytes: Vec<u8>,
+        len: usize,
+    ) -> Result<(Self, Vec<u8>), AllocError> {
         let CheckedRecords {
             check,
             sites,
             funcs,
         } = self;
-        Ok(CheckedRecords {
-            check: check.followed_by(bytes, sites, funcs),
+        let records = CheckedRecords {
+            check: check.followed_by(&bytes[..len], sites, funcs),
             sites,
             funcs,
-        })
+        };
+        Ok((records, bytes))
     }
+
+    /// It starts none.
+    fn let_go<R: Threads + Wait + Sync>(self, _rt: &R) {}
 }

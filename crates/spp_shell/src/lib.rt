@@ -1,14 +1,12 @@
 //! The shell of the program: reads a request's inputs, answers it, and writes the answer or one line of fault.
 #![tactic(auto)]
 
-mod beside;
 mod came;
 mod check_task;
 mod checked_records;
 mod compare_task;
 mod encode_task;
 mod figures_task;
-mod filling;
 mod header_end;
 mod in_source;
 mod input;

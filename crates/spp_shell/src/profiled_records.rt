@@ -12,7 +12,7 @@ use std::thread::Threads;
 pub(crate) struct ProfiledRecords {
     pub(crate) profile: RecordProfile,
     pub(crate) alloc: Global,
-    /// How many workers share a block.
+    /// How many workers there are, each of which reads a block.
     pub(crate) workers: u32,
 }
 
@@ -24,17 +24,24 @@ impl Records for ProfiledRecords {
     fn followed_by<R: Threads + Wait + Sync>(
         self,
         rt: &R,
-        bytes: &[u8],
-    ) -> Result<Self, AllocError> {
+        bytes: Vec<u8>,
+        len: usize,
+    ) -> Result<(Self, Vec<u8>), AllocError> {
         let ProfiledRecords {
             profile,
             alloc,
             workers,
         } = self;
-        Ok(ProfiledRecords {
-            profile: profile.followed_by(rt, alloc, bytes, workers)?,
+        let (profile, room) = profile.followed_by_block(rt, alloc, bytes, len, workers)?;
+        let records = ProfiledRecords {
+            profile,
             alloc,
             workers,
-        })
+        };
+        Ok((records, room))
+    }
+
+    fn let_go<R: Threads + Wait + Sync>(self, rt: &R) {
+        self.profile.let_go(rt);
     }
 }

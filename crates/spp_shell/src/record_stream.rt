@@ -1,5 +1,5 @@
 //! A trace of version 1 whose records are gone over as they come.
-ghost use Rattle.std.specs.Prelude.{◌≡◌, ◌+◌, ◌-◌, ◌*◌, ◌^◌, ◌<◌, ◌≤◌, ◌++◌, ℕ, List, [], length, take, drop, slice_range, IfOk, IfSome, IfErr};
+ghost use Rattle.std.specs.Prelude.{◌≡◌, ◌+◌, ◌-◌, ◌*◌, ◌^◌, ◌<◌, ◌≤◌, ◌++◌, ℕ, List, [], length, take, drop, slice_range, IfOk, OnOk, IfSome, IfErr};
 ghost use Rattle.spp_event.specs.Heads.{IsRecordHead};
 
 use crate::came::Came;
@@ -60,8 +60,31 @@ fn move_to_front(bytes: &mut Vec<u8>, from: usize, filled: usize)
     bytes.copy_within(from..filled, 0);
 }
 
-/// Goes over the whole records in the first `filled` of these bytes, and moves what is left of a record to their front: how
-/// many bytes that are.
+/// Writes these bytes over the first of others.
+fn write_over(bytes: &[u8], others: &mut [u8])
+    requires { length bytes.now ≤ length others.old }
+    ensures room { length others.new ≡ length others.old }
+    ensures kept { take (length bytes.now) others.new ≡ bytes.now }
+{
+    others[..bytes.len()].copy_from_slice(bytes);
+}
+
+/// Copies these bytes to the front of others, which have room for them then.
+///
+/// # Errors
+///
+/// Where an allocation failed.
+fn copy_to_front(bytes: &[u8], others: &mut Vec<u8>) -> Result<(), AllocError>
+    ensures room { OnOk result (length bytes.now ≤ length others.new.items) }
+    ensures kept { OnOk result (take (length bytes.now) others.new.items ≡ bytes.now) }
+{
+    others.resize(others.len().max(bytes.len()), 0)?;
+    write_over(bytes, others);
+    Ok(())
+}
+
+/// Goes over the whole records in the first `filled` of these bytes. Gives room for more, at whose front is what is left of a
+/// record, and how many bytes that are.
 ///
 /// # Errors
 ///
@@ -69,23 +92,26 @@ fn move_to_front(bytes: &mut Vec<u8>, from: usize, filled: usize)
 fn go_over<V: Records, R: Threads + Wait + Sync>(
     rt: &R,
     records: V,
-    bytes: &mut Vec<u8>,
+    bytes: Vec<u8>,
     filled: usize,
-) -> Result<(V, usize), AllocError>
-    requires end { filled ≤ length bytes.old.items }
+) -> Result<(V, Vec<u8>, usize), AllocError>
+    requires end { filled ≤ length bytes.items }
     requires few { 16 * V.seen_by records + filled < 2 ^ 35 }
     requires seen { (first : V) × (xs : List ℕ) × (length xs ≡ 16 * V.seen_by records) × V.has_seen first records xs }
-    ensures left { IfOk result (λ r. r.1 < 16) }
-    ensures within { IfOk result (λ r. r.1 ≤ filled) }
-    ensures count { IfOk result (λ r. 16 * V.seen_by r.0 + r.1 ≡ 16 * V.seen_by records + filled) }
-    ensures room { length bytes.new.items ≡ length bytes.old.items }
-    ensures kept { IfOk result (λ r. take r.1 bytes.new.items ≡ drop (filled - r.1) (take filled bytes.old.items)) }
-    ensures seen { IfOk result (λ r. (first : V) (xs : List ℕ) → length xs ≡ 16 * V.seen_by records → V.has_seen first records xs → V.has_seen first r.0 (xs ++ take (filled - r.1) (take filled bytes.old.items))) }
+    ensures left { IfOk result (λ r. r.2 < 16) }
+    ensures within { IfOk result (λ r. r.2 ≤ filled) }
+    ensures held { IfOk result (λ r. r.2 ≤ length r.1.items) }
+    ensures count { IfOk result (λ r. 16 * V.seen_by r.0 + r.2 ≡ 16 * V.seen_by records + filled) }
+    ensures kept { IfOk result (λ r. take r.2 r.1.items ≡ drop (filled - r.2) (take filled bytes.items)) }
+    ensures seen { IfOk result (λ r. (first : V) (xs : List ℕ) → length xs ≡ 16 * V.seen_by records → V.has_seen first records xs → V.has_seen first r.0 (xs ++ take (filled - r.2) (take filled bytes.items))) }
 {
     let whole = filled / 16 * 16;
-    let records = records.followed_by(rt, &bytes[..whole])?;
-    move_to_front(bytes, whole, filled);
-    Ok((records, filled - whole))
+    let left = filled - whole;
+    let mut rest = [0; 16];
+    write_over(&bytes[whole..filled], &mut rest);
+    let (records, mut room) = records.followed_by(rt, bytes, whole)?;
+    copy_to_front(&rest[..left], &mut room)?;
+    Ok((records, room, left))
 }
 
 /// Goes over them as [`go_over`] where they are so many bytes or more; else all of them are left.
@@ -96,21 +122,21 @@ fn go_over<V: Records, R: Threads + Wait + Sync>(
 fn go_over_block<V: Records, R: Threads + Wait + Sync>(
     rt: &R,
     records: V,
-    bytes: &mut Vec<u8>,
+    bytes: Vec<u8>,
     filled: usize,
     block: usize,
-) -> Result<(V, usize), AllocError>
-    requires end { filled ≤ length bytes.old.items }
+) -> Result<(V, Vec<u8>, usize), AllocError>
+    requires end { filled ≤ length bytes.items }
     requires few { 16 * V.seen_by records + filled < 2 ^ 35 }
     requires seen { (first : V) × (xs : List ℕ) × (length xs ≡ 16 * V.seen_by records) × V.has_seen first records xs }
-    ensures within { IfOk result (λ r. r.1 ≤ filled) }
-    ensures count { IfOk result (λ r. 16 * V.seen_by r.0 + r.1 ≡ 16 * V.seen_by records + filled) }
-    ensures room { length bytes.new.items ≡ length bytes.old.items }
-    ensures kept { IfOk result (λ r. take r.1 bytes.new.items ≡ drop (filled - r.1) (take filled bytes.old.items)) }
-    ensures seen { IfOk result (λ r. (first : V) (xs : List ℕ) → length xs ≡ 16 * V.seen_by records → V.has_seen first records xs → V.has_seen first r.0 (xs ++ take (filled - r.1) (take filled bytes.old.items))) }
+    ensures within { IfOk result (λ r. r.2 ≤ filled) }
+    ensures held { IfOk result (λ r. r.2 ≤ length r.1.items) }
+    ensures count { IfOk result (λ r. 16 * V.seen_by r.0 + r.2 ≡ 16 * V.seen_by records + filled) }
+    ensures kept { IfOk result (λ r. take r.2 r.1.items ≡ drop (filled - r.2) (take filled bytes.items)) }
+    ensures seen { IfOk result (λ r. (first : V) (xs : List ℕ) → length xs ≡ 16 * V.seen_by records → V.has_seen first records xs → V.has_seen first r.0 (xs ++ take (filled - r.2) (take filled bytes.items))) }
 {
     if filled < block {
-        return Ok((records, filled));
+        return Ok((records, bytes, filled));
     }
     go_over(rt, records, bytes, filled)
 }
@@ -200,17 +226,22 @@ impl<V: Records> RecordStream<V> {
             mut before,
         } = self;
         for _ in reads..INPUT_LIMIT {
-            let Ok((behind, left)) = go_over_block(rt, records, &mut bytes, filled, block) else {
+            let Ok((behind, room, left)) = go_over_block(rt, records, bytes, filled, block) else {
                 return Err(ReadFault::Memory);
             };
             records = behind;
+            bytes = room;
             before += (filled - left) as u64;
             filled = left;
             let Ok(()) = make_room(&mut bytes, filled, None) else {
+                records.let_go(rt);
                 return Err(ReadFault::Memory);
             };
             match read_more(source, &mut bytes, filled, before) {
-                Err(fault) => return Err(fault),
+                Err(fault) => {
+                    records.let_go(rt);
+                    return Err(fault);
+                }
                 Ok(None) => {
                     return Ok(RecordStream {
                         head,
@@ -223,6 +254,7 @@ impl<V: Records> RecordStream<V> {
                 Ok(Some(more)) => filled = more,
             }
         }
+        records.let_go(rt);
         Err(ReadFault::TooLong)
     }
 
@@ -240,11 +272,11 @@ impl<V: Records> RecordStream<V> {
         let RecordStream {
             head,
             records,
-            mut bytes,
+            bytes,
             filled,
             before,
         } = self;
-        let (records, left) = go_over(rt, records, &mut bytes, filled)?;
+        let (records, bytes, left) = go_over(rt, records, bytes, filled)?;
         Ok(RecordStream {
             head,
             records,

@@ -8,7 +8,7 @@ ghost use Rattle.spp_shell.specs.Devices.{giving_of};
 ghost use Rattle.spp_shell.specs.Inputs.{IsInputRefused};
 ghost use Rattle.spp_shell.specs.Profiled.{IsBeginning, IsProfiled, IsProfiledBy, IsRunOf, IsTold, profiled_by};
 ghost use Rattle.spp_shell.specs.RecordStreams.{HasStreamed};
-ghost use Rattle.spp_shell.specs.Streams.{HasRead, IsStopped};
+ghost use Rattle.spp_shell.specs.Streams.{HasRead};
 ghost use Rattle.spp_shell.specs.Tasks.{IfLine};
 ghost use Rattle.spp_shell.specs.declared.profiled_records.ProfiledRecords.{ProfiledRecords as ProfiledRecordsValue};
 
@@ -19,9 +19,10 @@ use crate::opening::{open_or_refuse, refusal_of_event, refusal_of_header};
 use crate::place::Place;
 use crate::profile_task::profile_or_refuse;
 use crate::profiled_records::ProfiledRecords;
-use crate::reading::{INPUT_LIMIT, ReadFault, make_first_room};
+use crate::reading::{INPUT_LIMIT, make_first_room};
 use crate::reading_on::{Front, read_on};
 use crate::record_stream::{Head, RecordStream};
+use crate::records::Records;
 use crate::refusal::Refusal;
 use crate::source::Source;
 use crate::telling::Telling;
@@ -35,8 +36,8 @@ use std::alloc::{AllocError, Global};
 use std::sync::Wait;
 use std::thread::Threads;
 
-/// How many bytes of a block each worker has: those of 131,072 records.
-const SHARE: usize = 1 << 21;
+/// How many bytes a block has, or some more, which one worker reads: those of 65,536 records.
+const BLOCK: usize = 1 << 20;
 
 /// What is told of the run whose trace these bytes are, or why nothing is.
 fn tell_bytes<R: Threads + Wait + Sync, T: Telling>(
@@ -90,40 +91,9 @@ fn tell_whole<R: Threads + Wait + Sync, S: Source, T: Telling>(
     }
 }
 
-/// Reads a stream on to its end, behind so many reads, by blocks of which each worker has its share. By two workers or more the
-/// next block is read while one is profiled.
-///
-/// # Errors
-///
-/// Those of [`read_within`](crate::read_within); `Memory` also where the input ended and an allocation failed besides.
-fn read_records<R: Threads + Wait + Sync, S: Source>(
-    rt: &R,
-    alloc: Global,
-    source: &mut S,
-    stream: RecordStream<ProfiledRecords>,
-    reads: u64,
-    workers: u32,
-) -> Result<RecordStream<ProfiledRecords>, ReadFault>
-    requires workers { workers ≤ 64 }
-    requires reads { reads ≤ 2 ^ 33 }
-    requires seen { (first : ProfiledRecordsValue) × (header xs : List ℕ) × HasStreamed profiled_by IsProfiled first stream.records stream.head header (take stream.filled stream.bytes.items) xs }
-    ensures head { IfOk result (λ end. end.head ≡ stream.head) }
-    ensures streamed { (first : ProfiledRecordsValue) (header xs : List ℕ) → HasStreamed profiled_by IsProfiled first stream.records stream.head header (take stream.filled stream.bytes.items) xs → IfOk result (λ end. (all : List ℕ) × HasStreamed profiled_by IsProfiled first end.records end.head header (take end.filled end.bytes.items) all) }
-    ensures read { (s : S) (first : ProfiledRecordsValue) (header xs : List ℕ) → HasRead S.answered S.failed S.failures reads s xs source.old → HasStreamed profiled_by IsProfiled first stream.records stream.head header (take stream.filled stream.bytes.items) xs
-        → IfOk result (λ end. (all : List ℕ) × (giving_of S.answered S.failed S.failures s source.new).Gave all × HasStreamed profiled_by IsProfiled first end.records end.head header (take end.filled end.bytes.items) all) }
-    ensures stopped { (s : S) (first : ProfiledRecordsValue) (header xs : List ℕ) → HasRead S.answered S.failed S.failures reads s xs source.old → HasStreamed profiled_by IsProfiled first stream.records stream.head header (take stream.filled stream.bytes.items) xs
-        → IfErr result (IsStopped (giving_of S.answered S.failed S.failures s source.new)) }
-{
-    let block = workers as usize * SHARE;
-    if workers > 1 {
-        stream.read_beside(rt, alloc, source, reads, block)
-    } else {
-        stream.read_rest(rt, source, reads, block)
-    }
-}
-
 /// The profile of a run whose records came as a stream, or why there is none.
-fn profile_of_stream(
+fn profile_of_stream<R: Threads + Wait + Sync>(
+    rt: &R,
     alloc: Global,
     stream: RecordStream<ProfiledRecords>,
 ) -> Result<Profile, Refusal>
@@ -136,9 +106,10 @@ fn profile_of_stream(
         → IfErr result (λ refusal. IfLine refusal (IsOneCheckLine bytes)) }
 {
     if 16 * u64::from(stream.head.count) < stream.body_len() {
+        stream.records.let_go(rt);
         return Err(refusal_of_header(alloc, HeaderFault::Trailing));
     }
-    match stream.records.profile.end(alloc) {
+    match stream.records.profile.end(rt, alloc) {
         Ok(profile) => Ok(profile),
         Err(ProfileFault::Bad(fault)) => Err(refusal_of_event(alloc, fault)),
         Err(ProfileFault::Memory) => Err(Refusal::Memory),
@@ -160,7 +131,6 @@ fn tell_records<R: Threads + Wait + Sync, S: Source, T: Telling>(
     telling: &T,
 ) -> Result<T::Told, Refusal>
     requires records { IsBeginning trace.now request.now.burdens records }
-    requires workers { records.workers ≤ 64 }
     requires head { IsRecordHead (take head.len (take came.filled came.bytes.items)) head.sites head.funcs head.count }
     requires trace { IsTraceOf (take head.len (take came.filled came.bytes.items)) trace.now }
     requires within { head.len ≤ came.filled }
@@ -168,13 +138,12 @@ fn tell_records<R: Threads + Wait + Sync, S: Source, T: Telling>(
     ensures refused { (s : S) → HasRead S.answered S.failed S.failures came.reads s (take came.filled came.bytes.items) source.old → IfErr result (IsInputRefused (giving_of S.answered S.failed S.failures s source.new) place IsOneCheckLine) }
 {
     let reads = came.reads;
-    let workers = records.workers;
     let stream = RecordStream::start(head, came, records);
-    let stream = match read_records(rt, alloc, source, stream, reads, workers) {
+    let stream = match stream.read_rest(rt, source, reads, BLOCK) {
         Ok(stream) => stream.end(rt)?,
         Err(fault) => return Err(refusal_of_read(fault, place)),
     };
-    let profile = profile_of_stream(alloc, stream)?;
+    let profile = profile_of_stream(rt, alloc, stream)?;
     let named = Named {
         trace,
         profile: &profile,
@@ -194,7 +163,6 @@ fn records_of(
 ) -> Result<ProfiledRecords, AllocError>
     ensures beginning { IfOk result (IsBeginning trace.now request.now.burdens) }
     ensures asked { IfOk result (λ records. records.workers ≡ request.now.workers) }
-    ensures workers { IfOk result (λ records. records.workers ≤ 64) }
 {
     trace.keeps_limits();
     let run = RecordHead {
@@ -237,9 +205,9 @@ fn header_of(alloc: Global, bytes: &[u8]) -> Option<(Head, Vec<u8>)>
 
 /// What is told of the run whose trace an input gives, or why nothing is.
 ///
-/// The records of a trace of version 1 that names few call sites are profiled as they come, in blocks of which each worker
-/// has 131,072 records, and let go; by two workers or more the next block is read while one is profiled. Any other input is
-/// read whole first, and so is one where memory is refused for its header or for the beginning of its profile.
+/// The records of a trace of version 1 that names few call sites are profiled as they come, in blocks of 65,536 records, and let
+/// go; by two workers or more each block is read by a thread of its own, while the next ones come. Any other input is read
+/// whole first, and so is one where memory is refused for its header or for the beginning of its profile.
 pub(crate) fn tell_input<R: Threads + Wait + Sync, S: Source, T: Telling>(
     rt: &R,
     alloc: Global,

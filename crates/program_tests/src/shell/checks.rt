@@ -372,7 +372,7 @@ fn spoil(bytes: &mut [u8], from_last: usize) {
     }
 }
 
-/// Blocks of a profile have 131,072 records for each worker: faults in the last record of one, in the first of the next, in two
+/// Blocks of a profile have 65,536 records: faults in the last record of one, in the first of the next, in two
 /// at once, and bytes that end there or within a record.
 #[test]
 fn a_bad_event_is_told_wherever_blocks_end(rt: HostRuntime) -> Result<(), Fail> {

@@ -12,7 +12,7 @@ use Rattle.spp_shell.proofs.StreamProfiles.{came, came_is, came_sites, many, end
 use Rattle.spp_shell.proofs.tell_input.profile_of_stream.Goals as goal
 
 pub returns-then-from-body_len-clause-line : goal.returns-then-from-body_len-clause-line
-returns-then-from-body_len-clause-line c = λ first names header bytes run is st.
+returns-then-from-body_len-clause-line g c = λ first names header bytes run is st.
     let stream = c.args.stream in
     let rest : List ℕ = take stream.filled stream.bytes.items in
     let n : length rest ≡ stream.filled = length-take-le stream.filled stream.bytes.items stream.held in
@@ -22,7 +22,7 @@ returns-then-from-body_len-clause-line c = λ first names header bytes run is st
     line_then _ _ (IsOneCheckLine bytes) c.refusal_of_header.ensures (λ line said. (bytes, refl, inl (Trailing, stream_trails profiled_by IsProfiled first stream.records stream.head header rest bytes st over, said.1)))
 
 pub end-requires-clause-few : goal.end-requires-clause-few
-end-requires-clause-few c =
+end-requires-clause-few g c =
     let stream = c.args.stream in
     let q = c.requires.some in
     let st = q.6 in
@@ -36,7 +36,7 @@ end-requires-clause-few c =
     omega arith
 
 pub returns-in-Ok-clause-profile : goal.returns-in-Ok-clause-profile
-returns-in-Ok-clause-profile c = λ first names header bytes run is st.
+returns-in-Ok-clause-profile g c = λ first names header bytes run is st.
     let stream = c.args.stream in
     let rest : List ℕ = take stream.filled stream.bytes.items in
     let n : length rest ≡ stream.filled = length-take-le stream.filled stream.bytes.items stream.held in
@@ -56,7 +56,7 @@ returns-in-Ok-clause-profile c = λ first names header bytes run is st.
     }
 
 pub returns-in-Err-Bad-clause-line : goal.returns-in-Err-Bad-clause-line
-returns-in-Err-Bad-clause-line c = λ first names header bytes run is st.
+returns-in-Err-Bad-clause-line g c = λ first names header bytes run is st.
     let stream = c.args.stream in
     let rest : List ℕ = take stream.filled stream.bytes.items in
     let n : length rest ≡ stream.filled = length-take-le stream.filled stream.bytes.items stream.held in

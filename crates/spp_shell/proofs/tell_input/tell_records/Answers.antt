@@ -3,14 +3,14 @@ use Rattle.spp_site.specs.Profiles.{IsProfileOf}
 use Rattle.spp_shell.specs.Check.{IsOneCheckLine}
 use Rattle.spp_shell.specs.Devices.{Giving, giving_of}
 use Rattle.spp_shell.specs.declared.refusal.Refusal.TheVariants.{Memory}
-use Rattle.spp_shell.proofs.Checks.{read_stopped}
+use Rattle.spp_shell.proofs.Checks.{read_refused}
 use Rattle.spp_shell.proofs.Inputs.{err_again}
 use Rattle.spp_shell.proofs.Told.{line_of_given}
 use Rattle.spp_shell.proofs.tell_input.tell_records.Goals as goal
 
 pub returns-in_err-stream-in-Ok-clause-refused : goal.returns-in_err-stream-in-Ok-clause-refused
 returns-in_err-stream-in-Ok-clause-refused g c = λ s h.
-    let input : Giving = giving_of g.S.Source.answered g.S.Source.failed g.S.Source.failures s c.read_records.new.source in
+    let input : Giving = giving_of g.S.Source.answered g.S.Source.failed g.S.Source.failures s c.read_rest.new.source in
     let came : List ℕ = take c.args.came.filled c.args.came.bytes.items in
     let header : List ℕ = take c.args.head.len came in
     let first = c.args.records in
@@ -19,10 +19,10 @@ returns-in_err-stream-in-Ok-clause-refused g c = λ s h.
 
 pub returns-in-Err-clause-refused : goal.returns-in-Err-clause-refused
 returns-in-Err-clause-refused g c = λ s h.
-    let input : Giving = giving_of g.S.Source.answered g.S.Source.failed g.S.Source.failures s c.read_records.new.source in
+    let input : Giving = giving_of g.S.Source.answered g.S.Source.failed g.S.Source.failures s c.read_rest.new.source in
     let came : List ℕ = take c.args.came.filled c.args.came.bytes.items in
     let header : List ℕ = take c.args.head.len came in
-    read_stopped input c.args.place IsOneCheckLine c.in-Err.fault c.refusal_of_read.result c.refusal_of_read.ensures (c.in-Err.ensures.stopped s c.args.records header came h c.start-stream.ensures.streamed) (λ r. inl r.0) (λ bytes gave. inr (bytes, gave))
+    read_refused input c.args.place IsOneCheckLine c.in-Err.fault c.refusal_of_read.result c.refusal_of_read.ensures (c.in-Err.ensures.refused s c.args.records header came h c.start-stream.ensures.streamed) (λ r. inl r.0)
 
 pub end-requires-after_bounds : goal.end-requires-after_bounds
 end-requires-after_bounds g c κs within =
@@ -32,7 +32,7 @@ end-requires-after_bounds g c κs within =
     (c.args.records, header, q.0, q.1)
 
 pub profile_of_stream-requires-clause-some : goal.profile_of_stream-requires-clause-some
-profile_of_stream-requires-clause-some g c =
+profile_of_stream-requires-clause-some g c κs within =
     let came : List ℕ = take c.args.came.filled c.args.came.bytes.items in
     let header : List ℕ = take c.args.head.len came in
     let q = c.in-Ok.ensures.streamed c.args.records header came c.start-stream.ensures.streamed in
@@ -41,7 +41,7 @@ profile_of_stream-requires-clause-some g c =
 
 pub returns-in_err-profile-clause-refused : goal.returns-in_err-profile-clause-refused
 returns-in_err-profile-clause-refused g c = λ s h.
-    let input : Giving = giving_of g.S.Source.answered g.S.Source.failed g.S.Source.failures s c.read_records.new.source in
+    let input : Giving = giving_of g.S.Source.answered g.S.Source.failed g.S.Source.failures s c.read_rest.new.source in
     let came : List ℕ = take c.args.came.filled c.args.came.bytes.items in
     let header : List ℕ = take c.args.head.len came in
     let first = c.args.records in
@@ -52,7 +52,7 @@ returns-in_err-profile-clause-refused g c = λ s h.
 
 pub returns-in_err-tell-clause-refused : goal.returns-in_err-tell-clause-refused
 returns-in_err-tell-clause-refused g c = λ s h.
-    let input : Giving = giving_of g.S.Source.answered g.S.Source.failed g.S.Source.failures s c.read_records.new.source in
+    let input : Giving = giving_of g.S.Source.answered g.S.Source.failed g.S.Source.failures s c.read_rest.new.source in
     let came : List ℕ = take c.args.came.filled c.args.came.bytes.items in
     let header : List ℕ = take c.args.head.len came in
     let first = c.args.records in
@@ -62,7 +62,7 @@ returns-in_err-tell-clause-refused g c = λ s h.
 
 pub returns-clause-told : goal.returns-clause-told
 returns-clause-told g c = λ s h.
-    let input : Giving = giving_of g.S.Source.answered g.S.Source.failed g.S.Source.failures s c.read_records.new.source in
+    let input : Giving = giving_of g.S.Source.answered g.S.Source.failed g.S.Source.failures s c.read_rest.new.source in
     let came : List ℕ = take c.args.came.filled c.args.came.bytes.items in
     let header : List ℕ = take c.args.head.len came in
     let first = c.args.records in

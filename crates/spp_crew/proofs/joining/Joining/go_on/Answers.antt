@@ -1,11 +1,15 @@
-use Rattle.std.proofs.Common.{◌+◌, ◌/◌, length, sym, subst, refl}
-use Rattle.spp_jobs.specs.ProfilePieces.{Follow}
 use Rattle.spp_crew.proofs.joining.Joining.go_on.Goals as goal
 
-pub returns-then-workers-lt2-clause-come : goal.returns-then-workers-lt2-clause-come
-returns-then-workers-lt2-clause-come g c trace k come has =
-    let n = length c.args.bytes.now / 16 in (
-      k + n,
-      c.in_ok-read_records.ensures.so_far trace k (c.in_ok-so_far.ensures.so_far trace come.0 k come.1 come.2) has,
-      subst (λ parts. Follow trace c.args.burdens (k + n) parts (k + n)) (sym c.new.ensures.items) refl,
-    )
+pub start-requires-clause-come : goal.start-requires-clause-come
+start-requires-clause-come g c =
+    let come = c.requires.come in
+    (come.0, come.1, c.in-Ok.ensures.come come.0 come.1 come.2, come.3)
+
+pub returns-in-Ok-start-clause-come : goal.returns-in-Ok-start-clause-come
+returns-in-Ok-start-clause-come g c trace k come at = c.in-Ok-start.ensures.come trace k (c.in-Ok.ensures.come trace k come) at
+
+pub returns-in-Err-start-clause-fault : goal.returns-in-Err-start-clause-fault
+returns-in-Err-start-clause-fault g c trace k come at = c.in-Err-start.ensures.fault trace k (c.in-Ok.ensures.come trace k come) at
+
+pub returns-in-Err-clause-fault : goal.returns-in-Err-clause-fault
+returns-in-Err-clause-fault g c trace k come at = c.in-Err.ensures.fault trace k come

@@ -1,4 +1,4 @@
-use Rattle.std.proofs.Common.{◌/◌, length}
+use Rattle.std.proofs.Common.{◌/◌, ◌++◌, ℕ, List, length, take, subst}
 use Rattle.spp_event.specs.declared.version.Version.TheVariants.{One}
 use Rattle.spp_event.specs.Recordings.{records_of}
 use Rattle.spp_frame.specs.RecordChecks.{HasSeen, seen_by}
@@ -12,6 +12,7 @@ returns-clause-seen g c = λ first xs whole is.
     record {
       sites = is.sites;
       funcs = is.funcs;
-      seen = seen_more (λ rs. HasSeen c.followed_by.result rs) self.sites self.funcs (checked_by self) (length c.args.bytes.now / 16) (seen_by c.followed_by.result) xs c.args.bytes.now whole c.followed_by.ensures.count
-          (c.followed_by.ensures.seen (records_of One self.sites self.funcs (checked_by self) xs) is.seen);
+      seen = subst (λ (l : List ℕ). HasSeen c.followed_by.result (records_of One self.sites self.funcs (seen_by c.followed_by.result) (xs ++ take c.args.len l))) c.deref.ensures.value
+          (seen_more (λ rs. HasSeen c.followed_by.result rs) self.sites self.funcs (checked_by self) (length (take c.args.len c.deref.result.now) / 16) (seen_by c.followed_by.result) xs (take c.args.len c.deref.result.now) whole
+          c.followed_by.ensures.count (c.followed_by.ensures.seen (records_of One self.sites self.funcs (checked_by self) xs) is.seen));
     }

@@ -1,0 +1,11 @@
+use Rattle.std.proofs.Common.{ℕ, length}
+use Rattle.spp_event.specs.Recordings.{Recording}
+use Rattle.spp_crew.specs.Joinings.{HasCome}
+use Rattle.spp_crew.proofs.joining.Joining.end.Given as goal
+
+-- all that has come still has
+abbrev pub invariant-loop-alloc : goal.invariant-loop-alloc
+invariant-loop-alloc g l = (trace : Recording) (k : ℕ) → HasCome trace l.fn.burdens k l.fn.self → HasCome trace l.fn.burdens k l.joining
+
+abbrev pub decreases-loop-alloc : goal.decreases-loop-alloc
+decreases-loop-alloc g l = length l.joining.waiting.items
