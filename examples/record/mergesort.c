@@ -1,10 +1,13 @@
-/* A parallel merge sort to be recorded: `mergesort before` merges serially, `mergesort after` in parallel. */
+/* A parallel merge sort: `mergesort before` merges serially, `mergesort after` in parallel. With the recorder it
+ * records a run; with -fopenmp and -DREC_OFF it runs on threads, and prints the least time of some runs. */
+#define _XOPEN_SOURCE 700
 #include "spprof_record.h"
 
 #include <stddef.h>
 #include <stdio.h>
 #include <stdlib.h>
 #include <string.h>
+#include <time.h>
 
 /* How many numbers there are, and how many are sorted or merged without spawns. */
 enum { COUNT = 1000000, SORT_GRAIN = 8192, MERGE_GRAIN = 8192 };
@@ -44,8 +47,10 @@ static void merge(const uint32_t *a, size_t n, const uint32_t *b, size_t m, uint
         merge(b, m, a, n, to);
     } else {
         size_t i = n / 2, j = count_below(b, m, a[i]);
+#pragma omp task
         REC_SPAWN("merge: left", "merge", merge(a, i, b, j, to));
         REC_CALL("merge: right", "merge", merge(a + i, n - i, b + j, m - j, to + i + j));
+#pragma omp taskwait
         REC_SYNC();
     }
 }
@@ -66,8 +71,10 @@ static void sort(uint32_t *from, uint32_t *to, size_t n) {
         REC_CALL("sort: leaf", "sort_serially", sort_serially(from, to, n));
         return;
     }
+#pragma omp task
     REC_SPAWN("sort: left", "sort", sort(to, from, half));
     REC_CALL("sort: right", "sort", sort(to + half, from + half, n - half));
+#pragma omp taskwait
     REC_SYNC();
     if (merges_in_parallel)
         REC_CALL("sort: merge", "merge", merge(from, half, from + half, n - half, to));
@@ -94,6 +101,29 @@ static int is_sorted(const uint32_t *numbers, uint64_t sum) {
     return sum == 0;
 }
 
+static double seconds(void) {
+    struct timespec time;
+    clock_gettime(CLOCK_MONOTONIC, &time);
+    return (double)time.tv_sec + 1e-9 * (double)time.tv_nsec;
+}
+
+/* Sorts the numbers, and tells how many seconds that took. */
+static double time_sort(uint32_t *spare, uint32_t *numbers) {
+    double from = seconds();
+    REC_START("main");
+#pragma omp parallel
+#pragma omp single
+    REC_CALL("main: sort", "sort", sort(spare, numbers, COUNT));
+    REC_FINISH();
+    return seconds() - from;
+}
+
+#ifdef REC_OFF
+enum { RUNS = 30 };
+#else
+enum { RUNS = 1 }; /* one recording in a run */
+#endif
+
 int main(int argc, char **argv) {
     merges_in_parallel = argc == 2 && strcmp(argv[1], "after") == 0;
     if (!merges_in_parallel && (argc != 2 || strcmp(argv[1], "before") != 0)) {
@@ -105,14 +135,16 @@ int main(int argc, char **argv) {
         fprintf(stderr, "mergesort: out of memory\n");
         return 4;
     }
-    uint64_t sum = fill(numbers, spare);
-
-    REC_START("main");
-    REC_CALL("main: sort", "sort", sort(spare, numbers, COUNT));
-    REC_FINISH();
-
-    int good = is_sorted(numbers, sum);
+    double least = 0;
+    int good = 1;
+    for (int run = 0; run < RUNS && good; run++) {
+        uint64_t sum = fill(numbers, spare);
+        double took = time_sort(spare, numbers);
+        if (run == 0 || took < least) least = took;
+        good = is_sorted(numbers, sum);
+    }
     if (!good) fprintf(stderr, "mergesort: not sorted\n");
+    if (RUNS > 1) printf("%.1f ms\n", 1e3 * least);
     free(numbers);
     free(spare);
     return good ? 0 : 1;

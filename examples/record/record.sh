@@ -4,12 +4,12 @@ set -euo pipefail
 cd "$(dirname "${BASH_SOURCE[0]}")"
 mkdir -p out
 
-options=(-std=c11 -O2 -Wall -Wextra)
+options=(-std=c11 -O2 -Wall -Wextra -Wno-unknown-pragmas)
 gcc "${options[@]}" -fsanitize-coverage=trace-pc -c mergesort.c -o out/mergesort.o
 gcc "${options[@]}" -c spprof_record.c -o out/spprof_record.o
 gcc out/mergesort.o out/spprof_record.o -o out/mergesort
 
 for variant in before after; do
-    SPPROF_TRACE=out/$variant.sptrace out/mergesort $variant
+    SPTRACE=out/$variant.sptrace out/mergesort $variant
     echo "recorded examples/record/out/$variant.sptrace"
 done

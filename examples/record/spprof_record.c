@@ -1,17 +1,36 @@
-/* The recorder. Compile the program's files with -fsanitize-coverage=trace-pc, and this one without. */
+/* The recorder. Compile the program's files with -fsanitize-coverage=trace-pc, and this one with it or without. */
 #define _XOPEN_SOURCE 700 /* POSIX.2008, and realpath where the C library wants this for it */
 #include "spprof_record.h"
 
 #include <errno.h>
 #include <fcntl.h>
+#include <stdatomic.h>
 #include <stdio.h>
 #include <stdlib.h>
 #include <string.h>
 #include <sys/stat.h>
 #include <unistd.h>
 
+/* Functions that count nothing themselves, if this file is compiled with -fsanitize-coverage=trace-pc. */
+#ifdef __clang__
+#if __clang_major__ >= 13
+#define UNCOUNTED __attribute__((no_sanitize("coverage")))
+#endif
+#elif defined __has_attribute
+#if __has_attribute(no_sanitize_coverage) /* from gcc 12 on */
+#define UNCOUNTED __attribute__((no_sanitize_coverage))
+#endif
+#endif
+#ifndef UNCOUNTED
+#ifndef REC_APART
+#error "with this compiler, compile the recorder by itself, without -fsanitize-coverage and with -DREC_APART"
+#endif
+#define UNCOUNTED
+#endif
+
 /* What a trace can hold: an event is a record of 16 bytes, or in version 2 an item of at most 13. */
 enum { RECORD_BYTES = 16, HEAD_BYTES = 24, MOST_NAME_BYTES = 200, MOST_NAMES = 65536, MOST_EVENTS = 1 << 28 };
+enum { PLACE_BYTES = 512 }; /* of a place in a message */
 enum tag { STRAND, CALL, SPAWN, RETURN, SYNC };
 
 /* Exit statuses, as spprof has them. */
@@ -26,31 +45,93 @@ static struct names functions, sites;
 static unsigned char *body; /* the events, as they will stand in the file */
 static size_t events, used, room;
 static int compact; /* they stand there as items, of version 2 */
-static uint64_t blocks, total; /* run since the last event, and before it */
-static uint64_t depth;         /* of open frames, without the root */
-static enum { BEFORE, RECORDING, WRITING, AFTER } state;
-static pid_t process;      /* the one that records: its forks run clean_up too */
+static _Thread_local uint64_t blocks; /* that this thread has run since the last event */
+static uint64_t *_Atomic counter;     /* that of the thread which records, while it does */
+static atomic_int others;             /* whether other threads have run blocks meanwhile */
+static uint64_t total;                /* blocks before the last event */
+enum { BEFORE, RECORDING, WRITING, AFTER };
+static atomic_int state;
+static pid_t process; /* the one that records: its forks run clean_up too */
+
+/* The open frames without the root, by which places they were entered, and in which function of the program the first
+ * spawn or call of each stands; of the root, REC_START. */
+static struct open {
+    const void *frame;
+    const struct rec_place *place;
+    const char *within;
+} *frames;
+static size_t depth, frame_room;
+static const char *root_within;
+
+/* The first spawn or call that stands in another function than what its frame runs, and that function. */
+static const struct rec_place *stray;
+static const char *stray_from;
+
+/* Where in the program the recorder is, or was last, and where it began; without a file in other recorders. */
+static struct at {
+    const char *file;
+    int line;
+    const char *what; /* a macro or a site */
+    int is_site;
+} here, start;
+
 static const char *wanted; /* the trace's file, as it was named */
 static const char *target; /* its name from the root and behind links, for the program may change its folder */
 static char *part;         /* the new file beside it, until it has that name; NULL if there is none */
 
 /* gcc makes the program call this in each basic block. */
 void __sanitizer_cov_trace_pc(void);
-void __sanitizer_cov_trace_pc(void) {
-    blocks++;
+UNCOUNTED void __sanitizer_cov_trace_pc(void) {
+    uint64_t *counting = atomic_load_explicit(&counter, memory_order_relaxed);
+    if (counting == &blocks)
+        blocks++;
+    else if (counting)
+        atomic_store_explicit(&others, 1, memory_order_relaxed);
+}
+
+UNCOUNTED void rec_count(uint64_t units) {
+    blocks += units;
+}
+
+/* The place, such as `sort.c:20 "sort: left"`, and what follows it; nothing where there is none. */
+static const char *text_of(const struct at *at, const char *after, char text[PLACE_BYTES]) {
+    const char *mark = at->is_site ? "\"" : "";
+    int length = at->file ? snprintf(text, PLACE_BYTES, "%.200s:%d ", at->file, at->line) : 0;
+    text[length] = '\0';
+    if (at->what) snprintf(text + length, (size_t)(PLACE_BYTES - length), "%s%.200s%s%s", mark, at->what, mark, after);
+    return text;
+}
+
+static void say_at(const struct at *at, const char *what, const char *detail) {
+    char place[PLACE_BYTES];
+    fprintf(stderr, "spprof_record: %s%s%s\n", text_of(at, ": ", place), what, detail);
 }
 
 static _Noreturn void fail(int status, const char *what, const char *detail) {
     state = AFTER;
-    fprintf(stderr, "spprof_record: %s%s\n", what, detail);
+    say_at(&here, what, detail);
     exit(status);
 }
 
 static _Noreturn void fail_to_write(const char *where) {
+    char place[PLACE_BYTES];
     const char *why = strerror(errno);
     state = AFTER;
-    fprintf(stderr, "spprof_record: cannot write %s%s, so no trace was kept: %s\n", where, wanted, why);
+    fprintf(stderr, "spprof_record: %scannot write %s%s, so no trace was kept: %s\n",
+            text_of(&here, ": ", place), where, wanted, why);
     exit(NO_FILE);
+}
+
+int rec_is_on(void) {
+    return state == RECORDING;
+}
+
+void rec_say(const char *what, const char *detail) {
+    say_at(&(struct at){NULL, 0, NULL, 0}, what, detail);
+}
+
+void rec_fail(const char *what, const char *detail) {
+    fail(WRONG_USE, what, detail);
 }
 
 static void put_word(unsigned char *at, uint32_t word) {
@@ -101,10 +182,9 @@ static void add(enum tag tag, uint32_t first, uint32_t second) {
 }
 
 /* Adds the blocks since the last event as a strand, if there were any. */
-static void add_strand(void) {
-    if (blocks > 0) add(STRAND, (uint32_t)(blocks >> 32), (uint32_t)blocks);
-    total += blocks;
-    blocks = 0;
+static void add_strand(uint64_t count) {
+    if (count > 0) add(STRAND, (uint32_t)(count >> 32), (uint32_t)count);
+    total += count;
 }
 
 static int is_name(const char *name) {
@@ -124,47 +204,110 @@ static uint32_t number_of(struct names *names, const char *name) {
     return names->count++;
 }
 
-void rec_enter(struct rec_place *place, int spawned) {
-    if (state != RECORDING) return;
-    add_strand();
-    if (!place->is_known) {
-        place->site_number = number_of(&sites, place->site);
-        place->function_number = number_of(&functions, place->function);
-        place->is_known = 1;
+/* The place of a spawn or call. */
+static struct at at_place(const struct rec_place *place) {
+    return (struct at){place->file, place->line, place->site, 1};
+}
+
+/* Whether the run is recorded; the program ends where this is another thread than the one that records. */
+static int is_recorded(struct at at) {
+    if (state != RECORDING) return 0;
+    if (atomic_load_explicit(&counter, memory_order_relaxed) != &blocks) {
+        state = AFTER;
+        say_at(&at, "this is another thread than that of REC_START, so no trace was kept", "");
+        exit(WRONG_USE);
     }
-    add(spawned ? SPAWN : CALL, place->site_number, place->function_number);
-    depth++;
+    here = at;
+    return 1;
 }
 
-void rec_leave(void) {
-    if (state != RECORDING) return;
-    if (depth == 0) fail(WRONG_USE, "REC_START stands within a spawn or call", "");
-    add_strand();
-    add(RETURN, 0, 0);
-    depth--;
+static void open_frame(const void *frame, const struct rec_place *place) {
+    if (depth == frame_room) {
+        size_t more = frame_room == 0 ? 1024 : 2 * frame_room;
+        struct open *larger = realloc(frames, more * sizeof *frames);
+        if (!larger) fail(NO_MEMORY, "out of memory", "");
+        frames = larger;
+        frame_room = more;
+    }
+    frames[depth++] = (struct open){frame, place, NULL};
 }
 
-void rec_sync(void) {
-    if (state != RECORDING) return;
-    add_strand();
-    add(SYNC, 0, 0);
+/* Notes in which function the open frame spawns or calls. */
+static void look_within(const struct rec_place *place) {
+    const char **within = depth > 0 ? &frames[depth - 1].within : &root_within;
+    if (!*within) *within = place->within;
+    if (stray || *within == place->within || !place->within || strcmp(*within, place->within) == 0) return;
+    stray = place;
+    stray_from = *within;
+}
+
+/* What the functions here count themselves, where they are counted, goes with `blocks = 0`. */
+UNCOUNTED void rec_enter(const void *frame, struct rec_place *place, int spawned) {
+    uint64_t count = blocks;
+    if (is_recorded(at_place(place))) {
+        add_strand(count);
+        if (!place->is_known) {
+            place->site_number = number_of(&sites, place->site);
+            place->function_number = number_of(&functions, place->function);
+            place->is_known = 1;
+        }
+        look_within(place);
+        add(spawned ? SPAWN : CALL, place->site_number, place->function_number);
+        open_frame(frame, place);
+    }
+    blocks = 0;
+}
+
+UNCOUNTED void rec_leave(const void *frame) {
+    uint64_t count = blocks;
+    if (is_recorded(here)) {
+        if (depth > 0) here = at_place(frames[depth - 1].place);
+        if (depth == 0) here = start;
+        if (depth == 0) fail(WRONG_USE, "it stands within a spawn or call", "");
+        if (frames[depth - 1].frame != frame) fail(WRONG_USE, "its statement was left, as by longjmp", "");
+        add_strand(count);
+        add(RETURN, 0, 0);
+        depth--;
+    }
+    blocks = 0;
+}
+
+/* Runs however the statement of a spawn or call is left, but for longjmp. */
+UNCOUNTED void rec_left(struct rec_frame *frame) {
+    if (!frame->is_done && state == RECORDING && depth > 0 && frames[depth - 1].frame == frame) {
+        here = at_place(frames[depth - 1].place);
+        fail(WRONG_USE, "its statement was left by return, break, continue, goto or an exception", "");
+    }
+    rec_leave(frame);
+}
+
+UNCOUNTED void rec_sync(const char *file, int line) {
+    uint64_t count = blocks;
+    if (is_recorded((struct at){file, line, file ? "REC_SYNC" : NULL, 0})) {
+        add_strand(count);
+        add(SYNC, 0, 0);
+    }
+    blocks = 0;
 }
 
 /* Runs when the program ends, after the functions that it gave to atexit. */
 __attribute__((destructor)) static void clean_up(void) {
+    char place[PLACE_BYTES];
     if (getpid() != process) return;
     if (part) unlink(part);
-    const char *when = state == WRITING ? "the program ended within REC_FINISH" : "no REC_FINISH was reached";
-    if (state == RECORDING || state == WRITING) fprintf(stderr, "spprof_record: %s, so no trace was kept\n", when);
+    if (state == WRITING) say_at(&here, "the program ended within it, so no trace was kept", "");
+    if (state != RECORDING) return;
+    const char *what = "no REC_FINISH was reached, so no trace was kept; the last event was at ";
+    say_at(&start, what, text_of(&here, "", place));
 }
 
 /* The first bytes of a text, and another text. */
 static char *joined(const char *first, size_t bytes, const char *second) {
-    size_t others = strlen(second) + 1;
-    char *text = malloc(bytes + others);
+    size_t rest = strlen(second) + 1;
+    char *text = malloc(bytes + rest);
     if (!text) fail(NO_MEMORY, "out of memory", "");
     memcpy(text, first, bytes);
-    memcpy(text + bytes, second, others);
+    memcpy(text + bytes, second, rest);
     return text;
 }
 
@@ -179,19 +322,19 @@ static char *resolved(const char *name) {
     char to[4096], *found = realpath(name, NULL);
     if (found || errno != ENOENT) return found;
     struct stat there;
-    size_t start = folder_bytes(name);
+    size_t before = folder_bytes(name);
     ssize_t bytes = stat(name, &there) == 0 ? -1 : readlink(name, to, sizeof to - 1);
     if (bytes >= 0) { /* a link to a missing file */
         to[bytes] = '\0';
-        char *next = joined(name, to[0] == '/' ? 0 : start, to);
+        char *next = joined(name, to[0] == '/' ? 0 : before, to);
         found = resolved(next);
         free(next);
         return found;
     }
-    char *here = joined(name, start, "."), *folder = realpath(here, NULL);
-    free(here);
+    char *dot = joined(name, before, "."), *folder = realpath(dot, NULL);
+    free(dot);
     if (!folder) return NULL;
-    char *last = joined("/", 1, name + start);
+    char *last = joined("/", 1, name + before);
     found = joined(folder, strlen(folder), last);
     free(last);
     free(folder);
@@ -236,11 +379,21 @@ static int look(struct stat *there) {
     return 1;
 }
 
-void rec_start(const char *function) {
-    if (state != BEFORE) fail(WRONG_USE, "REC_START is reached twice", "");
-    const char *name = getenv("SPPROF_TRACE"), *version = getenv("SPPROF_VERSION");
+/* The first of these environment variables that has a value, or NULL. */
+static const char *value_of(const char *first, const char *second) {
+    const char *value = getenv(first);
+    if (!value || !*value) value = getenv(second);
+    return value && *value ? value : NULL;
+}
+
+UNCOUNTED void rec_start(const char *function, const char *within, const char *file, int line) {
+    const char *name = value_of("SPTRACE", "SPPROF_TRACE"), *version = getenv("SPPROF_VERSION");
     struct stat there;
-    wanted = joined("", 0, name && *name ? name : "spprof.sptrace");
+    here = (struct at){file, line, file ? "REC_START" : NULL, 0};
+    if (state != BEFORE) fail(WRONG_USE, "it is reached twice", "");
+    start = here;
+    root_within = within;
+    wanted = joined("", 0, name ? name : "spprof.sptrace");
     target = resolved(wanted);
     if (!target) fail_to_write("");
     look(&there);
@@ -248,6 +401,7 @@ void rec_start(const char *function) {
     process = getpid();
     number_of(&functions, function);
     state = RECORDING;
+    atomic_store(&counter, &blocks);
     blocks = 0;
 }
 
@@ -313,11 +467,15 @@ static void write_trace(void) {
     if (close(file) != 0 || (part && rename(part, target) != 0)) fail_to_write("");
 }
 
-void rec_finish(void) {
-    if (state != RECORDING) fail(WRONG_USE, "REC_FINISH is reached without REC_START", "");
-    if (getpid() != process) fail(WRONG_USE, "REC_FINISH is reached in a fork", "");
-    if (depth > 0) fail(WRONG_USE, "REC_FINISH stands within a spawn or call", "");
-    add_strand();
+/* Writes the trace, whose last strand has so many blocks. */
+static void finish(struct at at, uint64_t count) {
+    if (!is_recorded(at)) return;
+    if (depth > 0) {
+        here = at_place(frames[depth - 1].place);
+        fail(WRONG_USE, "REC_FINISH stands within it, or its statement was left, as by longjmp", "");
+    }
+    atomic_store(&counter, NULL);
+    add_strand(count);
     if (total == 0) fail(WRONG_USE, "nothing was counted: compile the program with -fsanitize-coverage=trace-pc", "");
     state = WRITING;
     write_trace();
@@ -326,4 +484,23 @@ void rec_finish(void) {
     part = NULL; /* no file any more, should a signal end the program here */
     free(renamed);
     free(body);
+    free(frames);
+    if (atomic_load(&others)) say_at(&at, "other threads have run too, and are not in the trace", "");
+    if (stray) {
+        char text[PLACE_BYTES];
+        snprintf(text, sizeof text, "%.200s was called without REC_CALL, so in the trace its children are those of %.200s",
+                 stray->within, stray_from);
+        at = at_place(stray);
+        say_at(&at, text, "");
+    }
+}
+
+UNCOUNTED void rec_finish(const char *file, int line) {
+    uint64_t count = blocks;
+    struct at at = {file, line, file ? "REC_FINISH" : NULL, 0};
+    if (state != RECORDING || getpid() != process) here = at;
+    if (state == BEFORE) fail(WRONG_USE, "no REC_START came before it", "");
+    if (state != RECORDING) fail(WRONG_USE, "it is reached twice", "");
+    if (getpid() != process) fail(WRONG_USE, "it is reached in a fork", "");
+    finish(at, count);
 }
