@@ -20,7 +20,7 @@ cloned() { # NAME STATUS OUT ERR WORDS..: what the script in the clone answers; 
     status=$?
     judge "the script in a clone: $name" "$wanted" "$out" "$err"
 }
-no_rt="the Rattle toolchain's command 'rt' isn't in PATH${lf}spprof: README.md, \"Run it, test it\", tells what to do$lf"
+no_rt="the Rattle toolchain's command 'rt' isn't in PATH${lf}spprof: docs/INSTALL.md tells what to do$lf"
 builds() { # NAME WHY: the script doesn't run the released program, tells why not, and would build
     cloned "$1" 125 '' "spprof: $2, and it can't be built here: $no_rt" check
 }

@@ -4,7 +4,7 @@ input leads.
 
 The toolchain proves and lowers the program as ever; its compiler is called by way of a script that asks for the counters,
 and the program is linked with the part of AFL++ that keeps them. `./spprof --build` must have built what the program
-stands on. Counts on the toolchain that README.md names, and on AFL++ as Debian's package afl++ has it."""
+stands on. Counts on the toolchain that docs/INSTALL.md names, and on AFL++ as Debian's package afl++ has it."""
 import glob
 import importlib.machinery
 import importlib.util
