@@ -109,7 +109,6 @@ pub(crate) fn ran<R: Threads + Wait + Sync + RandomSource>(
         parts: Parts::default(),
         workers,
         csv: asked.csv,
-        explain: false,
     };
     let mut out = OutSink::new(Vec::new(alloc));
     let mut err = OutSink::new(Vec::new(alloc));

@@ -86,17 +86,16 @@ AreBurdens rows b =
 
 -- what `clap` found, a command's name and the texts of its arguments, gives a request these values; an argument that the
 -- command hasn't got, as --parts has none at `check`, has no text
-abbrev pub Gives : Option (Text × List Row) → Command → List Text → Burdens → ℕ → ℕ → Bool → Bool → Type 0
-Gives None command files burdens parts workers csv explain = ⊥
-Gives (Some (name, rows)) command files burdens parts workers csv explain =
+abbrev pub Gives : Option (Text × List Row) → Command → List Text → Burdens → ℕ → ℕ → Bool → Type 0
+Gives None command files burdens parts workers csv = ⊥
+Gives (Some (name, rows)) command files burdens parts workers csv =
     IsNamed name command
     × (files ≡ paths_of (first_of (codes "FILE") rows) (first_of (codes "BEFORE") rows) (first_of (codes "AFTER") rows))
     × AreBurdens rows burdens
     × IsNumberOr 1 65536 16 (one_of (codes "parts") rows) parts
     × IsNumberOr 1 64 4 (one_of (codes "workers") rows) workers
     × IsFlag (one_of (codes "csv") rows) csv
-    × IsFlag (one_of (codes "explain") rows) explain
 
 -- the request is what `clap` found
 abbrev pub IsRequestOf : Option (Text × List Row) → Request → Type 0
-IsRequestOf found r = Gives found r.command (map string_bytes r.files.items) r.burdens r.parts r.workers r.csv r.explain
+IsRequestOf found r = Gives found r.command (map string_bytes r.files.items) r.burdens r.parts r.workers r.csv

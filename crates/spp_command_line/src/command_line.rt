@@ -2,7 +2,7 @@
 
 ghost use Rattle.std.specs.Prelude.{◌≡◌, ◌∷◌, [], IfOk, false, codes};
 ghost use Rattle.clap.specs.Words.{app_of, rule_of};
-ghost use Rattle.spp_command_line.specs.Spprof.{IsAt, burden_rule, csv_rule, explain_rule, file_rule, input_rule, join_burden_rule, over_both, over_file, parts_rule, spprof, workers_rule};
+ghost use Rattle.spp_command_line.specs.Spprof.{IsAt, burden_rule, csv_rule, file_rule, input_rule, join_burden_rule, over_both, over_file, parts_rule, spprof, workers_rule};
 
 use clap::{Arg, ArgAction, Command, value_parser};
 use spp_cut::Parts;
@@ -29,8 +29,7 @@ const AFTER_HELP: &str = "'spprof help COMMAND' tells more about a command, with
 
 Exit status:
   0  the answer stands on standard output, whole
-  1  the input is no good trace or text; standard error says why in one line, and
-     with --explain in a second one where, and what to do
+  1  the input is no good trace or text; standard error says why in one line
   2  the command line is wrong
   3  a file or stream could not be read or written
   4  out of memory";
@@ -132,21 +131,8 @@ fn csv<'a>(alloc: Global) -> Arg<'a>
         .help("Print the tables alone, as comma-separated values")
 }
 
-/// Whether a line of fault is to be explained.
-fn explain<'a>(alloc: Global) -> Arg<'a>
-    ensures rule { rule_of result ≡ explain_rule }
-    ensures local { result.global ≡ false }
-{
-    Arg::new(alloc, "explain")
-        .long("explain")
-        .action(ArgAction::SetTrue)
-        .help(
-            "Explain a fault in a second line: what was found and where, what was expected, what to do",
-        )
-}
-
 fn check<'a>(alloc: Global) -> Result<Command<'a>, AllocError>
-    ensures { IfOk result (IsAt (over_file (codes "check") (explain_rule ∷ []))) }
+    ensures { IfOk result (IsAt (over_file (codes "check") [])) }
 {
     command_over(
         alloc,
@@ -157,8 +143,7 @@ fn check<'a>(alloc: Global) -> Result<Command<'a>, AllocError>
   spprof check run.trace
 
 'spprof help' lists the exit statuses",
-    )?
-    .arg(explain(alloc))
+    )
 }
 
 /// A command over one trace, with the options of commands that go by parts of it.
@@ -178,7 +163,7 @@ fn command_by_parts<'a>(
 }
 
 fn figures<'a>(alloc: Global) -> Result<Command<'a>, AllocError>
-    ensures { IfOk result (IsAt (over_file (codes "figures") (burden_rule ∷ join_burden_rule ∷ parts_rule ∷ workers_rule ∷ explain_rule ∷ []))) }
+    ensures { IfOk result (IsAt (over_file (codes "figures") (burden_rule ∷ join_burden_rule ∷ parts_rule ∷ workers_rule ∷ []))) }
 {
     command_by_parts(
         alloc,
@@ -188,12 +173,11 @@ fn figures<'a>(alloc: Global) -> Result<Command<'a>, AllocError>
   spprof figures --burden 1000 run.trace
 
 'spprof help' lists the exit statuses",
-    )?
-    .arg(explain(alloc))
+    )
 }
 
 fn profile<'a>(alloc: Global) -> Result<Command<'a>, AllocError>
-    ensures { IfOk result (IsAt (over_file (codes "profile") (burden_rule ∷ join_burden_rule ∷ parts_rule ∷ workers_rule ∷ csv_rule ∷ explain_rule ∷ []))) }
+    ensures { IfOk result (IsAt (over_file (codes "profile") (burden_rule ∷ join_burden_rule ∷ parts_rule ∷ workers_rule ∷ csv_rule ∷ []))) }
 {
     command_by_parts(
         alloc,
@@ -204,8 +188,7 @@ fn profile<'a>(alloc: Global) -> Result<Command<'a>, AllocError>
 
 'spprof help' lists the exit statuses",
     )?
-    .arg(csv(alloc))?
-    .arg(explain(alloc))
+    .arg(csv(alloc))
 }
 
 /// A command over two files, both of which must be named: the trace of a run before a change, and that of a run after
@@ -225,26 +208,10 @@ fn command_over_both<'a>(
         .arg(input(alloc, "AFTER", "The trace of the run after it"))
 }
 
-/// A command over two files, with the options of commands that go by parts of a trace.
-fn command_over_both_by_parts<'a>(
-    alloc: Global,
-    name: &'a str,
-    about: &'a str,
-    example: &'a str,
-) -> Result<Command<'a>, AllocError>
-    ensures { IfOk result (IsAt (over_both name.now (burden_rule ∷ join_burden_rule ∷ parts_rule ∷ workers_rule ∷ []))) }
-{
-    command_over_both(alloc, name, about, example)?
-        .arg(burden(alloc))?
-        .arg(join_burden(alloc))?
-        .arg(parts(alloc))?
-        .arg(workers(alloc))
-}
-
 fn compare<'a>(alloc: Global) -> Result<Command<'a>, AllocError>
-    ensures { IfOk result (IsAt (over_both (codes "compare") (burden_rule ∷ join_burden_rule ∷ parts_rule ∷ workers_rule ∷ explain_rule ∷ []))) }
+    ensures { IfOk result (IsAt (over_both (codes "compare") (burden_rule ∷ join_burden_rule ∷ parts_rule ∷ workers_rule ∷ []))) }
 {
-    command_over_both_by_parts(
+    command_over_both(
         alloc,
         "compare",
         "Print the figures and the call sites of two runs beside each other",
@@ -253,11 +220,14 @@ fn compare<'a>(alloc: Global) -> Result<Command<'a>, AllocError>
 
 'spprof help' lists the exit statuses",
     )?
-    .arg(explain(alloc))
+    .arg(burden(alloc))?
+    .arg(join_burden(alloc))?
+    .arg(parts(alloc))?
+    .arg(workers(alloc))
 }
 
 fn encode<'a>(alloc: Global) -> Result<Command<'a>, AllocError>
-    ensures { IfOk result (IsAt (over_file (codes "encode") (explain_rule ∷ []))) }
+    ensures { IfOk result (IsAt (over_file (codes "encode") [])) }
 {
     command_over(
         alloc,
@@ -268,12 +238,11 @@ fn encode<'a>(alloc: Global) -> Result<Command<'a>, AllocError>
   spprof encode run.txt > run.trace
 
 'spprof help' lists the exit statuses",
-    )?
-    .arg(explain(alloc))
+    )
 }
 
 fn migrate<'a>(alloc: Global) -> Result<Command<'a>, AllocError>
-    ensures { IfOk result (IsAt (over_file (codes "migrate") (explain_rule ∷ []))) }
+    ensures { IfOk result (IsAt (over_file (codes "migrate") [])) }
 {
     command_over(
         alloc,
@@ -284,8 +253,7 @@ fn migrate<'a>(alloc: Global) -> Result<Command<'a>, AllocError>
   spprof migrate run.trace > run.compact
 
 'spprof help' lists the exit statuses",
-    )?
-    .arg(explain(alloc))
+    )
 }
 
 /// The whole command line. It lives as long as the words that it is to read.

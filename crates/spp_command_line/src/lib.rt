@@ -4,7 +4,6 @@
 mod command_line;
 mod laws;
 mod reading;
-mod tips;
 
 pub use laws::word_laws;
 pub use reading::read_request;

@@ -10,7 +10,6 @@ ghost use Rattle.spp_command_line.specs.Spprof.{spprof};
 ghost use Rattle.spp_command_line.specs.Usage.{EndsBy, IsNamed, IsRequestOf, paths_of, spoken};
 
 use crate::command_line::{DEFAULT_BURDEN, command_line};
-use crate::tips::text_in_place;
 use clap::Error;
 use clap::error::ErrorKind;
 use spp_cut::Parts;
@@ -19,8 +18,8 @@ use spp_request::{Command, Request, UsageFault, Workers};
 use std::alloc::{AllocError, Global};
 use std::convert::AsStr;
 
-/// What the user is shown where `clap` gives no matches for the words.
-fn shown<S: AsStr>(alloc: Global, words: &[S], error: Error) -> UsageFault
+/// What the user is shown where `clap` gives no matches.
+fn shown(alloc: Global, error: Error) -> UsageFault
     ensures ends { EndsBy (kind_of error ∷ []) result }
     ensures memory { kind_of error ≡ OutOfMemory → result ≡ Memory }
 {
@@ -28,14 +27,8 @@ fn shown<S: AsStr>(alloc: Global, words: &[S], error: Error) -> UsageFault
         return UsageFault::Memory;
     }
     let status = if error.use_stderr() { 2 } else { 0 };
-    let Ok(text) = error.to_string(alloc) else {
-        return UsageFault::Memory;
-    };
-    match text_in_place(alloc, words, text.as_str()) {
-        Ok(own) => UsageFault::Shown {
-            text: own.unwrap_or(text),
-            status,
-        },
+    match error.to_string(alloc) {
+        Ok(text) => UsageFault::Shown { text, status },
         Err(_) => UsageFault::Memory,
     }
 }
@@ -121,7 +114,7 @@ fn read_spoken<S: AsStr>(alloc: Global, words: &[S]) -> Result<Request, UsageFau
 {
     let matches = match command_line(alloc)?.try_get_matches_from(words) {
         Ok(matches) => matches,
-        Err(error) => return Err(shown(alloc, words, error)),
+        Err(error) => return Err(shown(alloc, error)),
     };
     let Some((name, given)) = matches.subcommand() else {
         return Err(no_command(alloc));
@@ -145,7 +138,6 @@ fn read_spoken<S: AsStr>(alloc: Global, words: &[S]) -> Result<Request, UsageFau
         parts: parts.unwrap_or_default(),
         workers: workers.unwrap_or_default(),
         csv: given.get_flag("csv"),
-        explain: given.get_flag("explain"),
     })
 }
 
@@ -154,8 +146,7 @@ fn read_spoken<S: AsStr>(alloc: Global, words: &[S]) -> Result<Request, UsageFau
 /// are by `clap`'s definitions, for the command line `spprof` of specs; `word_laws` says what they make of some words.
 /// `help COMMAND` is read as `COMMAND --help`.
 ///
-/// The texts of help and usage are those of `clap`, but where its advice would mislead (`tips`): which text is shown isn't
-/// said, and tests compare them.
+/// The texts of help and usage are those of `clap`: which text is shown isn't said, and tests compare them.
 ///
 /// # Errors
 ///

@@ -43,8 +43,6 @@ pub struct Request {
     pub workers: Workers,
     /// Whether comma-separated values are asked for.
     pub csv: bool,
-    /// Whether a second line is to explain a line of fault. It changes no answer, no line of fault and no exit status.
-    pub explain: bool,
 }
 
 /// Why words are no request.

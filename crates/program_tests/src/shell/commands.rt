@@ -19,7 +19,6 @@ pub fn request_for(alloc: Global, command: Command) -> Request {
         parts: Parts::default(),
         workers: Workers::default(),
         csv: false,
-        explain: false,
     }
 }
 

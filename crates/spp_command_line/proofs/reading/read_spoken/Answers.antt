@@ -41,7 +41,6 @@ returns-clause-found g c =
     let parts = one_text-rows f (codes "parts") in
     let workers = one_text-rows f (codes "workers") in
     let csv = one_text-rows f (codes "csv") in
-    let explain = one_text-rows f (codes "explain") in
     let said = c.unwrap_or-burden.ensures in
     let joined = c.unwrap_or-join_burden.ensures ∙ ap (unwrap_or c.get_one-2.result) said in
     let r : Request = record {
@@ -51,7 +50,6 @@ returns-clause-found g c =
       parts = c.unwrap_or_default.result;
       workers = c.unwrap_or_default-2.result;
       csv = c.get_flag.result;
-      explain = c.get_flag-2.result;
     } in
     subst (λ o. IsRequestOf o r) here (
       c.in-Some-command_of.ensures.named,
@@ -69,11 +67,6 @@ returns-clause-found g c =
         (λ e. c.get_flag.ensures.none (csv ∙ e)),
         (λ e. c.get_flag.ensures.other (csv ∙ e)),
         (λ e. c.get_flag.ensures.value (csv ∙ e)),
-      ),
-      (
-        (λ e. c.get_flag-2.ensures.none (explain ∙ e)),
-        (λ e. c.get_flag-2.ensures.other (explain ∙ e)),
-        (λ e. c.get_flag-2.ensures.value (explain ∙ e)),
       ),
     )
 
