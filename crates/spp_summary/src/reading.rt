@@ -215,7 +215,7 @@ impl Reading {
 
     /// Reads one event.
     #[inline(always)]
-    fn read(&mut self, burdens: Burdens, at: u32, item: Event) -> Result<(), AllocError>
+    pub(crate) fn read(&mut self, burdens: Burdens, at: u32, item: Event) -> Result<(), AllocError>
         requires sound { self.old.fault ≡ None }
         requires laid { IsLaid self.old }
         requires work { self.old.before + self.old.run + 2 ^ 64 < 2 ^ 128 }

@@ -37,10 +37,10 @@ use std::marker::Model;
 /// were open at a time while it was made; a copy takes memory for its returns and frames alone.
 #[derive(Drop)]
 pub struct Summary {
-    burdens: Burdens,
-    first: u32,
-    events: u32,
-    storage: Storage,
+    pub(crate) burdens: Burdens,
+    pub(crate) first: u32,
+    pub(crate) events: u32,
+    pub(crate) storage: Storage,
 }
 
 impl Model for Summary {
