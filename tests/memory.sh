@@ -109,24 +109,27 @@ each_refused 'check, a recorded trace' 0 0 'work 136861' '' "$examples/cilksort.
 each_refused 'check, a file by name' 0 0 'work 17' '' /dev/null "$spprof" check "$examples/small.sptrace"
 each_refused 'check, a bad header' 1 0 '' 'bad header: short' "$folder/short" "$spprof" check
 each_refused 'check, a bad event' 1 0 '' 'bad event 4: tag' "$folder/tag" "$spprof" check
-each_refused 'figures, a recorded trace' 0 3 'work 136861*' '' "$examples/cilksort.sptrace" "$spprof" figures
-each_refused 'figures, in one part' 0 3 'work 136861*' '' "$examples/cilksort.sptrace" "$spprof" figures --parts 1
-each_refused 'figures, more parts than events' 0 3 'work 17*' '' "$examples/small.sptrace" "$spprof" figures --parts 20
-each_refused 'figures, a bad event' 1 3 '' 'bad event 4: tag' "$folder/tag" "$spprof" figures --burden 3
-each_refused 'figures, a bad event in the second part' 1 3 '' 'bad event 4: tag' "$folder/tag" "$spprof" figures --parts 2
+each_refused 'figures, a recorded trace' 0 1 'work 136861*' '' "$examples/cilksort.sptrace" "$spprof" figures
+each_refused 'figures by one worker' 0 0 'work 136861*' '' "$examples/cilksort.sptrace" "$spprof" figures --workers 1
+each_refused 'figures, a bad event' 1 1 '' 'bad event 4: tag' "$folder/tag" "$spprof" figures --burden 3
+each_refused 'figures, a bad event by one worker' 1 0 '' 'bad event 4: tag' "$folder/tag" "$spprof" figures --workers 1
+each_refused 'figures, version 2' 0 3 'work 136861*' '' "$examples/cilksort.compact" "$spprof" figures
+each_refused 'figures, in one part' 0 3 'work 136861*' '' "$examples/cilksort.compact" "$spprof" figures --parts 1
+each_refused 'figures, more parts than events' 0 3 'work 17*' '' "$examples/small.compact" "$spprof" figures --parts 20
 each_refused 'profile, a recorded trace' 0 1 'work 32744*' '' "$examples/nqueens.sptrace" "$spprof" profile
 each_refused 'profile as tables alone' 0 1 'name,count*' '' "$examples/nqueens.sptrace" "$spprof" profile --csv
-# Two children that are waited for: of `figures` in parts of one event, of `profile` in a block that a thread reads.
+# Two children that are waited for, in a block that a thread reads.
 printf '%s\n' 'func main' 'func f' 'site A' 'strand 1' 'spawn 0 1' 'strand 4' 'return' 'spawn 0 1' 'strand 2' 'return' \
     'sync' 'strand 3' | "$spprof" encode > "$folder/two"
-each_refused 'figures by workers' 0 1 'work 10*' '' "$folder/two" "$spprof" figures --parts 9 --workers 2
+each_refused 'figures by workers' 0 1 'work 10*' '' "$folder/two" "$spprof" figures --workers 2
 each_refused 'profile by workers' 0 1 'name,count*' '' "$folder/two" "$spprof" profile --csv --parts 9 --workers 2
 # The same run, where there are so many call sites that it is read whole, and a profile takes three rounds.
 { awk 'BEGIN { print "func main\nfunc f"; for (n = 0; n < 1025; n++) printf "site s%d\n", n }' && printf '%s\n' 'strand 1' \
     'spawn 0 1' 'strand 4' 'return' 'spawn 0 1' 'strand 2' 'return' 'sync' 'strand 3'; } | "$spprof" encode > "$folder/many"
 each_refused 'profile in three rounds' 0 4 'name,count*' '' "$folder/many" "$spprof" profile --csv --parts 9 --workers 2
-# The same in version 2, which is read whole: there a profile takes one round.
+# The same in version 2, which is read whole: there a profile takes one round, here in parts of one event.
 "$spprof" migrate < "$folder/two" > "$folder/two.compact"
+each_refused 'figures in parts' 0 1 'work 10*' '' "$folder/two.compact" "$spprof" figures --parts 9 --workers 2
 each_refused 'profile in one round' 0 1 'name,count*' '' "$folder/two.compact" "$spprof" profile --csv --parts 9 --workers 2
 each_refused 'profile by one worker' 0 0 'work 32744*' '' "$examples/nqueens.sptrace" "$spprof" profile --workers 1
 each_refused 'compare by one worker' 0 0 'work 10 17*' '' /dev/null "$spprof" compare --workers 1 "$folder/two" "$examples/small.sptrace"
@@ -155,8 +158,9 @@ each_refused 'check, a long header by name' 0 0 'work 5' '' /dev/null "$spprof" 
 each_refused 'check, a long header of version 2' 0 0 'work 5' '' "$folder/names.compact" "$spprof" check
 each_refused 'check, one of version 2 by name' 0 0 'work 5' '' /dev/null "$spprof" check "$folder/names.compact"
 each_refused 'profile, version 2' 0 3 'work 32744*' '' "$examples/nqueens.compact" "$spprof" profile
-# An input of 69 MB, for the peaks below.
-awk 'BEGIN { print "func f"; for (n = 0; n < 4300000; n++) print "strand", n % 7 }' | "$spprof" encode > "$folder/long"
+# An input of 69 MB, for the peaks below, with more call sites than a profile by blocks takes.
+awk 'BEGIN { print "func f"; for (n = 0; n < 1025; n++) print "site s" n
+    for (n = 0; n < 4300000; n++) print "strand", n % 7 }' | "$spprof" encode > "$folder/long"
 peak_of() { # STATUS WORDS..: the peak memory in KiB of the program, which reads standard input and ends with that status
     python3 -c 'import resource, subprocess, sys
 status = subprocess.run(sys.argv[2:], stdout=subprocess.DEVNULL, stderr=subprocess.DEVNULL).returncode
@@ -179,10 +183,13 @@ peaks_within() { # BOUND STATUS INPUT WORDS..: so many KiB are used at most, and
 }
 # Where all of an input is read, that takes at most 1.3 times its size from a pipe, and 1.1 times by name, where its length
 # is known. The size is a little more than 2^26 bytes: room that doubles would be nearly twice that, and room that isn't made
-# once passes 1.1. `figures` reads all, and `check` all of a trace of version 2.
+# once passes 1.1. `profile` reads all where there are many call sites, and `check` all of a trace of version 2.
 size=$(($(stat -c %s "$folder/long") / 1024))
-peaks_within $((size * 13 / 10)) 0 "$folder/long" figures --workers 1
-peaks_within $((size * 11 / 10)) 0 "$folder/long" figures --workers 1 "$folder/long"
+peaks_within $((size * 13 / 10)) 0 "$folder/long" profile --workers 1
+peaks_within $((size * 11 / 10)) 0 "$folder/long" profile --workers 1 "$folder/long"
+# Figures of version 1 go by blocks, and keep no trace.
+peaks_within 20000 0 "$folder/long" figures --workers 1
+peaks_within 20000 0 "$folder/long" figures "$folder/long"
 # A profile that goes by blocks keeps no trace, however many frames are on the path: some are called, and others spawned, each
 # of which is longer than the one before.
 awk 'BEGIN { print "func f"; for (n = 0; n < 40; n++) print "site s" n

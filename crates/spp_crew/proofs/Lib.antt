@@ -4,5 +4,7 @@ pub mod Halves
 pub mod Marked
 pub mod WholePiece
 pub mod Profiled
+pub mod BlockParts
+pub mod CutRecords
 pub mod Joinings
 pub mod RecordProfiles

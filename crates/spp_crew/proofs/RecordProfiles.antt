@@ -1,30 +1,29 @@
 -- What blocks of records come to, one behind the other.
-use Rattle.std.proofs.Common.{◌≡◌, ℕ, ◌+◌, ◌-◌, ◌/◌, ◌≤◌, ◌<◌, List, [], ◌++◌, length, replicate, Result, Ok, Err, IfOk, IfErr, refl, sym, ap, subst, ◌∙◌, arith, inl, inr}
+use Rattle.std.proofs.Common.{◌≡◌, ℕ, ◌+◌, ◌-◌, ◌/◌, ◌≤◌, ◌<◌, List, [], ◌++◌, length, get_or, replicate, Result, Ok, Err, IfOk, IfErr, refl, sym, ap, subst, ◌∙◌, arith, inl, inr}
 use Rattle.std.proofs.lemmas.Bool.{cases_lt}
-use Rattle.std.proofs.lemmas.List.{length-append, append_assoc, length-replicate, get_or-replicate, get_or_append_left, get_or-append_right}
+use Rattle.std.proofs.lemmas.List.{length-take-le, length-append, append_assoc, length-replicate, get_or-replicate, get_or_append_left, get_or-append_right}
 use Rattle.spp_event.specs.declared.records.EventFault.TheVariants.{Truncated}
 use Rattle.spp_event.specs.declared.version.Version.TheVariants.{One}
 use Rattle.spp_event.specs.Records.{IsEventOf}
 use Rattle.spp_event.specs.Recordings.{Record, Recording, AreEventsOf, records_of, record_at}
 use Rattle.spp_event.proofs.GoodRecords.{are_events_of}
-use Rattle.spp_event.proofs.TakenFromFront.{IsBytes}
+use Rattle.spp_event.proofs.TakenFromFront.{IsBytes-take}
 use Rattle.spp_event.proofs.RecordPlaces.{length-records_of}
 use Rattle.spp_frame.specs.Answers.{IsFaultOf}
 use Rattle.spp_frame.specs.declared.Fault.{Fault}
-use Rattle.spp_frame.specs.declared.profile_fault.ProfileFault.{ProfileFault}
 use Rattle.spp_frame.specs.declared.profile_fault.ProfileFault.TheVariants.{Bad}
 use Rattle.spp_maxplus.specs.declared.state.Burdens.{Burdens}
-use Rattle.spp_part.specs.declared.so_far.ProfileSoFar.{ProfileSoFar}
-use Rattle.spp_part.specs.Parts.{IsSoFar}
 use Rattle.spp_part.specs.RecordParts.{HasPart}
+use Rattle.spp_crew.specs.declared.block.Block.{Block}
 use Rattle.spp_crew.specs.declared.joining.Joining.{Joining}
 use Rattle.spp_crew.specs.declared.record_head.RecordHead.{RecordHead}
-use Rattle.spp_crew.specs.declared.record_profile.RecordProfile.{RecordProfile}
-use Rattle.spp_crew.specs.declared.record_profile.Shown.{Shown}
-use Rattle.spp_crew.specs.declared.record_profile.Shown.TheVariants.{Good, Bad as BadEvent}
-use Rattle.spp_crew.specs.Joinings.{HasCome}
+use Rattle.spp_crew.specs.declared.shown.Shown.{Shown}
+use Rattle.spp_crew.specs.declared.shown.Shown.TheVariants.{Good, Bad as BadEvent}
+use Rattle.spp_crew.specs.Blocks.{IsBlockAt, bytes_of, count_of, records_in}
+use Rattle.spp_crew.specs.Joinings.{HasCome, IsShown}
 use Rattle.spp_crew.specs.RecordHeads.{IsHead}
-use Rattle.spp_crew.specs.RecordProfiles.{BeginsWith, IsShown, HasSeen, EndsWith}
+use Rattle.spp_crew.specs.RecordFigures.{BeginsAs}
+use Rattle.spp_crew.specs.RecordProfiles.{BeginsWith}
 
 -- ---- traces that begin with some records
 
@@ -44,7 +43,7 @@ events_none sites funcs n i lt =
     subst (λ (r : Record). IfOk r (IsEventOf sites funcs)) (sym cut) tt
 
 -- one trace that begins with them, where there are no more than the header claims: the others are cut off
-sample_of : RecordHead → List Record → Recording
+pub sample_of : RecordHead → List Record → Recording
 sample_of head rs = record {
   funcs = replicate head.funcs [];
   sites = replicate head.sites [];
@@ -55,7 +54,7 @@ sample_of head rs = record {
 }
 
 module _ (head : RecordHead) (is : IsHead head) (rs : List Record) (good : AreEventsOf head.sites head.funcs rs) (few : length rs ≤ head.count) where
-  sample_begins : BeginsWith (sample_of head rs) head rs
+  pub sample_begins : BeginsWith (sample_of head rs) head rs
   unfolding sample_of
   sample_begins =
       let none : List ℕ = [] in
@@ -82,8 +81,13 @@ module _ (head : RecordHead) (is : IsHead head) (rs : List Record) (good : AreEv
         records = refl;
       }
 
+  -- whichever function the root runs
+  pub sample_begins_as : BeginsAs (sample_of head rs) head rs
+  unfolding sample_of
+  sample_begins_as = sample_begins
+
 module _ (t : Recording) (head : RecordHead) (rs ss : List Record) (h : BeginsWith t head (rs ++ ss)) where
-  begins_before : BeginsWith t head rs
+  pub begins_before : BeginsWith t head rs
   begins_before =
       record {
         root_is = h.root_is;
@@ -96,7 +100,7 @@ module _ (t : Recording) (head : RecordHead) (rs ss : List Record) (h : BeginsWi
         records = h.records ∙ append_assoc rs ss h.behind;
       }
 
-  has_part : HasPart t head.sites head.funcs (length rs) ss
+  pub has_part : HasPart t head.sites head.funcs (length rs) ss
   has_part =
       record {
         sites_are = h.sites_are;
@@ -109,124 +113,99 @@ module _ (t : Recording) (head : RecordHead) (rs ss : List Record) (h : BeginsWi
       }
 
   -- they are no more than the header claims
-  begins_within : length rs + length ss ≤ head.count
+  pub begins_within : length rs + length ss ≤ head.count
   begins_within =
       let count = h.count_is in
       let all : length t.records ≡ length ((rs ++ ss) ++ h.behind) = ap (λ (l : List Record). length l) h.records in
       omega (arith, count, all, length-append (rs ++ ss) h.behind, length-append rs ss)
 
--- ---- what was found
+-- ---- what is shown
 
-pub come_if : (t : Recording) (b : Burdens) (k : ℕ) (s : Shown) (j : Joining) → s ≡ Good j → IsShown t b k s → HasCome t b k j
-come_if t b k s j is = subst (λ (x : Shown). IsShown t b k x) is
+module _ {A P T : Type 0} (block_of : T → Block) (is_so_far : Recording → Burdens → ℕ → A → Type 0) (t : Recording) (b : Burdens) where
+  pub come_if : (k : ℕ) (s : Shown A P T) (j : Joining A P T) → s ≡ Good j → IsShown block_of is_so_far t b k s → HasCome block_of is_so_far t b k j
+  come_if k s j is = subst (λ (x : Shown A P T). IsShown block_of is_so_far t b k x) is
 
-pub fault_if : (t : Recording) (b : Burdens) (k : ℕ) (s : Shown) (f : Fault) → s ≡ BadEvent f → IsShown t b k s → IsFaultOf t.records (Bad f)
-fault_if t b k s f is = subst (λ (x : Shown). IsShown t b k x) is
+  pub fault_if : (k : ℕ) (s : Shown A P T) (f : Fault) → s ≡ BadEvent f → IsShown block_of is_so_far t b k s → IsFaultOf t.records (Bad f)
+  fault_if k s f is = subst (λ (x : Shown A P T). IsShown block_of is_so_far t b k x) is
 
-pub shown_still : (t : Recording) (b : Burdens) (k : ℕ) (s : Shown) (f : Fault) → s ≡ BadEvent f → IsFaultOf t.records (Bad f) → IsShown t b k s
-shown_still t b k s f is = subst (λ (x : Shown). IsShown t b k x) (sym is)
+  pub shown_good : (k : ℕ) (s : Shown A P T) (j : Joining A P T) → s ≡ Good j → HasCome block_of is_so_far t b k j → IsShown block_of is_so_far t b k s
+  shown_good k s j is = subst (λ (x : Shown A P T). IsShown block_of is_so_far t b k x) (sym is)
 
-pub shown_good : (t : Recording) (b : Burdens) (i k : ℕ) (s : Shown) (j : Joining) → s ≡ Good j → i ≡ k → HasCome t b i j → IsShown t b k s
-shown_good t b i k s j is to h = subst (λ (x : Shown). IsShown t b k x) (sym is) (subst (λ (n : ℕ). HasCome t b n j) to h)
-
-pub shown_bad : (t : Recording) (b : Burdens) (k : ℕ) (s : Shown) (f : Fault) (e : ProfileFault) → s ≡ BadEvent f → e ≡ Bad f → IsFaultOf t.records e → IsShown t b k s
-shown_bad t b k s f e is same h = shown_still t b k s f is (subst (λ x. IsFaultOf t.records x) same h)
+  pub shown_bad : (k : ℕ) (s : Shown A P T) (f : Fault) → s ≡ BadEvent f → IsFaultOf t.records (Bad f) → IsShown block_of is_so_far t b k s
+  shown_bad k s f is = subst (λ (x : Shown A P T). IsShown block_of is_so_far t b k x) (sym is)
 
 pub events_nil : (sites funcs : ℕ) → AreEventsOf sites funcs []
 events_nil sites funcs i lt = absurd (let z : ⊥ = omega (arith, lt) in z)
 
 -- ---- a block more
 
-module _ (p : RecordProfile) (bytes : List ℕ) (rs : List Record) (seen : HasSeen p rs) where
-  abbrev block : List Record
-  block = records_of One p.head.sites p.head.funcs (length bytes / 16) bytes
+module _ (block : Block) (rs : List Record) (at : block.first ≡ length rs) (within : block.len ≤ length block.bytes.items) where
+  -- its bytes are as many as it says
+  long : length (bytes_of block) ≡ block.len
+  long = length-take-le block.len block.bytes.items within
 
-  pub count_more : p.at + length bytes / 16 ≡ length (rs ++ block)
-  count_more =
-      let count = seen.count in
-      omega (arith, count, length-append rs block, length-records_of One p.head.sites p.head.funcs (length bytes / 16) bytes)
+  -- its records, by that number
+  abbrev more : List Record
+  more = records_of One block.sites block.funcs (block.len / 16) (bytes_of block)
 
-  pub length_more : length rs + length bytes / 16 ≡ length (rs ++ block)
-  length_more =
-      let count = seen.count in
-      omega (arith, count, count_more)
+  same : records_in block ≡ more
+  same = ap (λ (n : ℕ). records_of One block.sites block.funcs (n / 16) (bytes_of block)) long
 
-  pub good_more : IsBytes bytes → AreEventsOf p.head.sites p.head.funcs (rs ++ block)
-  good_more fits = events_both p.head.sites p.head.funcs rs block seen.good (are_events_of One p.head.sites p.head.funcs (length bytes / 16) bytes fits)
+  pub count_more : block.first + block.len / 16 ≡ length (rs ++ more)
+  count_more = omega (arith, at, length-append rs more, length-records_of One block.sites block.funcs (block.len / 16) (bytes_of block))
 
-  -- a bad event that was met before stays the first one
-  pub found_before : (f : Fault) → p.shown ≡ BadEvent f → (t : Recording) → BeginsWith t p.head (rs ++ block) → IsFaultOf t.records (Bad f)
-  found_before f is t b = fault_if t p.burdens (length rs) p.shown f is (seen.found t (begins_before t p.head rs block b))
+  pub good_more : ((i : ℕ) → get_or block.bytes.items i 0 < 256) → AreEventsOf block.sites block.funcs rs → AreEventsOf block.sites block.funcs (rs ++ more)
+  good_more fits good = events_both block.sites block.funcs rs more good (are_events_of One block.sites block.funcs (block.len / 16) (bytes_of block) (IsBytes-take block.len block.bytes.items fits))
 
-  -- more than the header claims are of no trace
-  pub past_head : p.head.count < p.at + length bytes / 16 → (t : Recording) → BeginsWith t p.head (rs ++ block) → ⊥
-  past_head more t b =
-      let count = seen.count in
-      omega (arith, more, count, begins_within t p.head rs block b, length-records_of One p.head.sites p.head.funcs (length bytes / 16) bytes)
+  module _ (t : Recording) (head : RecordHead) (sites : block.sites ≡ head.sites) (funcs : block.funcs ≡ head.funcs) (b : BeginsWith t head (rs ++ more)) where
+    -- it stands there in each trace that begins with these
+    pub block_at : IsBlockAt t block.burdens block.first block
+    block_at =
+        let part : HasPart t head.sites head.funcs (length rs) more = has_part t head rs more b in
+        let there : HasPart t block.sites block.funcs (length rs) more = subst (λ (n : ℕ). HasPart t n block.funcs (length rs) more) (sym sites) (subst (λ (n : ℕ). HasPart t head.sites n (length rs) more) (sym funcs) part) in
+        record {
+          under = refl;
+          first = refl;
+          part = subst (λ (i : ℕ). HasPart t block.sites block.funcs i (records_in block)) (sym at) (subst (λ (l : List Record). HasPart t block.sites block.funcs (length rs) l) (sym same) there);
+        }
 
-  -- else the block leads on
-  pub leads_on : (j : Joining) → p.shown ≡ Good j → (t : Recording) → BeginsWith t p.head (rs ++ block)
-      → HasCome t p.burdens (length rs) j × HasPart t p.head.sites p.head.funcs (length rs) block
-  leads_on j is t b = (come_if t p.burdens (length rs) p.shown j is (seen.found t (begins_before t p.head rs block b)), has_part t p.head rs block b)
+    pub before_block : BeginsWith t head rs
+    before_block = begins_before t head rs more b
 
-  -- and there is a trace that it is of
-  pub can_go_on : IsHead p.head → IsBytes bytes → p.at + length bytes / 16 ≤ p.head.count → (j : Joining) → p.shown ≡ Good j
-      → (t : Recording) × (k : ℕ) × HasCome t p.burdens k j × HasPart t p.head.sites p.head.funcs k block
-  can_go_on is fits few j good =
-      let within : length (rs ++ block) ≤ p.head.count = omega (arith, few, count_more) in
-      let on = leads_on j good (sample_of p.head (rs ++ block)) (sample_begins p.head is (rs ++ block) (good_more fits) within) in
-      (sample_of p.head (rs ++ block), length rs, on.0, on.1)
+    pub block_within : block.first + block.len / 16 ≤ head.count
+    block_within = omega (arith, at, begins_within t head rs more b, length-records_of One block.sites block.funcs (block.len / 16) (bytes_of block))
+
+  module _ {A P T : Type 0} (block_of : T → Block) (is_so_far : Recording → Burdens → ℕ → A → Type 0) (s : Shown A P T) where
+    -- what is shown of a trace that begins with the records before
+    pub shown_before : (t : Recording) → IsShown block_of is_so_far t block.burdens (length rs) s → IsShown block_of is_so_far t block.burdens block.first s
+    shown_before t = subst (λ (k : ℕ). IsShown block_of is_so_far t block.burdens k s) (sym at)
+
+    pub shown_behind : (t : Recording) → IsShown block_of is_so_far t block.burdens (block.first + count_of block) s → IsShown block_of is_so_far t block.burdens (length (rs ++ more)) s
+    shown_behind t = subst (λ (k : ℕ). IsShown block_of is_so_far t block.burdens k s) (ap (λ (n : ℕ). block.first + n / 16) long ∙ count_more)
 
 -- ---- the end
 
-module _ (p : RecordProfile) (j : Joining) (is : p.shown ≡ Good j) where
-  pub come_of : (rs : List Record) → HasSeen p rs → (t : Recording) → BeginsWith t p.head rs → HasCome t p.burdens (length rs) j
-  come_of rs seen t b = come_if t p.burdens (length rs) p.shown j is (seen.found t b)
+module _ {R : Type 0} (is_so_far : Recording → Burdens → ℕ → R → Type 0) (b : Burdens) (r : R) (t : Recording) (head : RecordHead) (before : List Record) (at : ℕ) (count : at ≡ length before) (begins : BeginsWith t head before) (so_far : is_so_far t b (length before) r) where
+  -- fewer have come than the header claims
+  pub cut_there : (0 < length begins.behind → record_at begins.behind 0 ≡ Err Truncated) → at < head.count
+      → is_so_far t b (length before) r × (length before < length t.records) × (record_at t.records (length before) ≡ Err Truncated)
+  cut_there cut less =
+      let all = begins.count_is in
+      let n = length before in
+      let some : 0 < length begins.behind = omega (arith, less, count, all, ap (λ (l : List Record). length l) begins.records, length-append before begins.behind) in
+      let zero : n - n ≡ 0 = omega arith in
+      let first : record_at t.records n ≡ record_at begins.behind 0 =
+      ap (λ (l : List Record). record_at l n) begins.records
+      ∙ get_or-append_right before begins.behind n n (Err Truncated) refl (omega arith)
+      ∙ ap (λ (k : ℕ). record_at begins.behind k) zero in
+      (so_far, omega (arith, less, count, all), first ∙ cut some)
 
-  -- there is a trace that they are of
-  pub can_join : (rs : List Record) → HasSeen p rs → IsHead p.head → p.at ≤ p.head.count → (t : Recording) × (k : ℕ) × HasCome t p.burdens k j
-  can_join rs seen head few =
-      let count = seen.count in
-      let t = sample_of p.head rs in
-      (t, length rs, come_of rs seen t (sample_begins p.head head rs seen.good (omega (arith, few, count))))
-
-  -- where all parts have been joined
-  module _ (r : ProfileSoFar) (told : (t : Recording) (k : ℕ) → HasCome t p.burdens k j → IsSoFar t p.burdens k r) where
-    so_far_of : (rs : List Record) → HasSeen p rs → (t : Recording) → BeginsWith t p.head rs → IsSoFar t p.burdens (length rs) r
-    so_far_of rs seen t b = told t (length rs) (come_of rs seen t b)
-
-    -- fewer have come than the header claims
-    pub cut_there : (t : Recording) (e : EndsWith p t) → p.at < p.head.count
-        → IsSoFar t p.burdens (length e.before) r × (length e.before < length t.records) × (record_at t.records (length e.before) ≡ Err Truncated)
-    cut_there t e less =
-        let count = e.seen.count in
-        let all = e.begins.count_is in
-        let n = length e.before in
-        let some : 0 < length e.begins.behind = omega (arith, less, count, all, ap (λ (l : List Record). length l) e.begins.records, length-append e.before e.begins.behind) in
-        let zero : n - n ≡ 0 = omega arith in
-        let first : record_at t.records n ≡ record_at e.begins.behind 0 =
-        ap (λ (l : List Record). record_at l n) e.begins.records
-        ∙ get_or-append_right e.before e.begins.behind n n (Err Truncated) refl (omega arith)
-        ∙ ap (λ (k : ℕ). record_at e.begins.behind k) zero in
-        (so_far_of e.before e.seen t e.begins, omega (arith, less, count, all), first ∙ e.cut some)
-
-    -- as many have come
-    pub whole_there : (t : Recording) (e : EndsWith p t) → p.head.count ≤ p.at → IsSoFar t p.burdens (length t.records) r
-    whole_there t e most =
-        let count = e.seen.count in
-        let all = e.begins.count_is in
-        let same : length e.before ≡ length t.records = omega (arith, most, count, all, ap (λ (l : List Record). length l) e.begins.records, length-append e.before e.begins.behind) in
-        subst (λ (k : ℕ). IsSoFar t p.burdens k r) same (so_far_of e.before e.seen t e.begins)
-
-    -- and there is a trace that they are of
-    pub can_end : (rs : List Record) → HasSeen p rs → IsHead p.head → p.at ≡ p.head.count → (t : Recording) × (b : Burdens) × IsSoFar t b (length t.records) r
-    can_end rs seen head same =
-        let count = seen.count in
-        let t = sample_of p.head rs in
-        let b = sample_begins p.head head rs seen.good (omega (arith, same, count)) in
-        let all = b.count_is in
-        let to : length rs ≡ length t.records = omega (arith, same, count, all) in
-        (t, p.burdens, subst (λ (k : ℕ). IsSoFar t p.burdens k r) to (so_far_of rs seen t b))
+  -- as many have come
+  pub whole_there : head.count ≤ at → is_so_far t b (length t.records) r
+  whole_there most =
+      let all = begins.count_is in
+      let same : length before ≡ length t.records = omega (arith, most, count, all, ap (λ (l : List Record). length l) begins.records, length-append before begins.behind) in
+      subst (λ (k : ℕ). is_so_far t b k r) same so_far
 
 -- what is said of a bad result
 pub if_err : {X E : Type 0} {P Q : E → Type 0} (x : Result X E) → ((e : E) → P e → Q e) → IfErr x P → IfErr x Q

@@ -1,31 +1,27 @@
 -- What has come of a run whose blocks are read by threads.
-use Rattle.std.specs.Prelude.{◌≡◌, ℕ, ◌+◌, ◌/◌, List, [], ◌∷◌, length, take, map}
-use Rattle.spp_event.specs.declared.version.Version.TheVariants.{One}
-use Rattle.spp_event.specs.Recordings.{Recording, records_of}
+use Rattle.std.specs.Prelude.{◌≡◌, ℕ, ◌+◌, List, [], ◌∷◌}
+use Rattle.spp_event.specs.Recordings.{Recording}
+use Rattle.spp_frame.specs.Answers.{IsFaultOf}
+use Rattle.spp_frame.specs.declared.profile_fault.ProfileFault.TheVariants.{Bad}
 use Rattle.spp_maxplus.specs.declared.state.Burdens.{Burdens}
-use Rattle.spp_part.specs.Parts.{IsSoFar}
-use Rattle.spp_part.specs.RecordParts.{HasPart}
-use Rattle.spp_crew.specs.declared.joining.Block.{Block}
-use Rattle.spp_crew.specs.declared.joining.PartOf.{PartOf}
+use Rattle.spp_crew.specs.Blocks.{IsBlockAt, count_of}
+use Rattle.spp_crew.specs.declared.block.Block.{Block}
 use Rattle.spp_crew.specs.declared.joining.Joining.{Joining}
+use Rattle.spp_crew.specs.declared.shown.Shown.{Shown}
+use Rattle.spp_crew.specs.declared.shown.Shown.TheVariants.{Good, Bad as BadEvent}
 
--- the bytes of a block's records
-abbrev pub bytes_of : Block → List ℕ
-bytes_of block = take block.len block.bytes.items
+module _ {T : Type 0} (block_of : T → Block) where
+  -- the blocks that these threads read have the records of the trace from the one at i up to that at k
+  abbrev pub AreBlocks : Recording → Burdens → ℕ → List T → ℕ → Type 0
+  AreBlocks trace burdens i [] k = k ≡ i
+  AreBlocks trace burdens i (t ∷ ts) k = IsBlockAt trace burdens i (block_of t) × AreBlocks trace burdens (i + count_of (block_of t)) ts k
 
--- how many records it has
-abbrev pub count_of : Block → ℕ
-count_of block = length (bytes_of block) / 16
+module _ {A P T : Type 0} (block_of : T → Block) (is_so_far : Recording → Burdens → ℕ → A → Type 0) where
+  -- the first k records have come: those that were joined, and those of the blocks behind them
+  abbrev pub HasCome : Recording → Burdens → ℕ → Joining A P T → Type 0
+  HasCome trace burdens k j = (i : ℕ) × is_so_far trace burdens i j.so_far × AreBlocks block_of trace burdens i j.waiting.items k
 
--- the block is read under these burdens, and its records are those of the trace from the one at i on
-abbrev pub IsBlockAt : Recording → Burdens → ℕ → Block → Type 0
-IsBlockAt trace burdens i block = (block.burdens ≡ burdens) × HasPart trace block.sites block.funcs i (records_of One block.sites block.funcs (count_of block) (bytes_of block))
-
--- the blocks, of which threads are to bring what they come to, have the records of the trace from the one at i up to that at k
-abbrev pub AreBlocks : Recording → Burdens → ℕ → List PartOf → ℕ → Type 0
-AreBlocks trace burdens i [] k = k ≡ i
-AreBlocks trace burdens i (p ∷ ps) k = IsBlockAt trace burdens i p.0.value × AreBlocks trace burdens (i + count_of p.0.value) ps k
-
--- the first k records have come: those of the profile so far, and those of the blocks behind it
-abbrev pub HasCome : Recording → Burdens → ℕ → Joining → Type 0
-HasCome trace burdens k j = (i : ℕ) × IsSoFar trace burdens i j.so_far × AreBlocks trace burdens i (map (λ thread. thread.promise) j.waiting.items) k
+  -- of the first k records of a trace that is shown: what they come to, or the first bad event
+  abbrev pub IsShown : Recording → Burdens → ℕ → Shown A P T → Type 0
+  IsShown trace burdens k (Good joining) = HasCome trace burdens k joining
+  IsShown trace burdens k (BadEvent fault) = IsFaultOf trace.records (Bad fault)

@@ -2,14 +2,11 @@
 use Rattle.std.specs.Prelude.{◌≡◌, ℕ, ◌<◌, List, ◌++◌, length, Err}
 use Rattle.spp_event.specs.declared.records.EventFault.TheVariants.{Truncated}
 use Rattle.spp_event.specs.Recordings.{Record, Recording, InLimits, AreEventsOf, record_at}
-use Rattle.spp_frame.specs.Answers.{IsFaultOf}
-use Rattle.spp_frame.specs.declared.profile_fault.ProfileFault.TheVariants.{Bad}
-use Rattle.spp_maxplus.specs.declared.state.Burdens.{Burdens}
-use Rattle.spp_crew.specs.Joinings.{HasCome}
+use Rattle.spp_part.specs.Parts.{IsSoFar}
+use Rattle.spp_crew.specs.Blocks.{profiled_by}
+use Rattle.spp_crew.specs.Joinings.{IsShown}
 use Rattle.spp_crew.specs.declared.record_head.RecordHead.{RecordHead}
 use Rattle.spp_crew.specs.declared.record_profile.RecordProfile.{RecordProfile}
-use Rattle.spp_crew.specs.declared.record_profile.Shown.{Shown}
-use Rattle.spp_crew.specs.declared.record_profile.Shown.TheVariants.{Good, Bad as BadEvent}
 
 -- the trace has a header of these numbers, and these are the first of its records
 pub record BeginsWith (t : Recording) (head : RecordHead) (rs : List Record) : Type 0 where
@@ -26,16 +23,11 @@ pub record BeginsWith (t : Recording) (head : RecordHead) (rs : List Record) : T
 abbrev pub seen_by : RecordProfile → ℕ
 seen_by p = p.at
 
--- of the first k records of a trace that is shown: what they come to, or the first bad event
-abbrev pub IsShown : Recording → Burdens → ℕ → Shown → Type 0
-IsShown t burdens k (Good joining) = HasCome t burdens k joining
-IsShown t burdens k (BadEvent fault) = IsFaultOf t.records (Bad fault)
-
 -- these have come: that is shown of each trace that begins with them
 pub record HasSeen (p : RecordProfile) (rs : List Record) : Type 0 where
   pub count : p.at ≡ length rs
   pub good : AreEventsOf p.head.sites p.head.funcs rs
-  pub found : (t : Recording) → BeginsWith t p.head rs → IsShown t p.burdens (length rs) p.shown
+  pub found : (t : Recording) → BeginsWith t p.head rs → IsShown profiled_by IsSoFar t p.burdens (length rs) p.shown
 
 -- these have come of the trace, and of the others, if there are any, the first is cut off
 pub record EndsWith (p : RecordProfile) (t : Recording) : Type 0 where

@@ -2,7 +2,7 @@
 
 use std::sync::Wait;
 
-/// A round of the crew: what its workers do with each part. Figures take the round `Summaries` alone; a profile takes
+/// A round of the crew: what its workers do with each part of a cut trace. Figures take the round `Summaries` alone; a profile takes
 /// `Profile` alone, or `Summaries`, `Tables` and `Paths` where there are many call sites; marks take `Summaries`, `Tables` and
 /// `Marks`, in this order.
 #[derive(Clone, Copy, Debug, PartialEq, Eq)]

@@ -1,100 +1,39 @@
 //! Joining what blocks of records come to, of which each is read by a thread of its own.
 
-ghost use Rattle.std.specs.Prelude.{◌≡◌, ◌+◌, ◌-◌, ◌*◌, ◌/◌, ◌≤◌, ◌^◌, ℕ, length, take, IfOk, IfErr};
+ghost use Rattle.std.specs.Prelude.{◌≡◌, ◌+◌, ◌-◌, ℕ, length, IfOk, IfErr};
 ghost use Rattle.spp_event.specs.Recordings.{Recording};
 ghost use Rattle.spp_frame.specs.Answers.{IsFaultOf};
-ghost use Rattle.spp_part.specs.Parts.{IsSoFar};
-ghost use Rattle.spp_crew.specs.BlockParts.{IsPartOf};
 ghost use Rattle.spp_maxplus.specs.declared.state.Burdens.{Burdens as BurdensValue};
+ghost use Rattle.spp_crew.specs.Blocks.{IsReadable, IsBlockAt, count_of};
 
+use crate::block::{Block, BlockRead, SoFar};
 use spp_frame::ProfileFault;
 use spp_maxplus::Burdens;
-use spp_part::{PartProfile, ProfileSoFar};
 use std::alloc::{AllocError, Global};
 use std::collections::VecDeque;
-use std::snapshot::Snapshot;
-use std::thread::{Promise, PromisedHandle, Threads, spawn_with};
-
-/// The bytes of a record.
-pub(crate) const RECORD: usize = 16;
-
-/// The records of a block, and how they are read.
-#[derive(Drop)]
-pub(crate) struct Block {
-    /// Their bytes, and others behind them.
-    pub(crate) bytes: Vec<u8>,
-    /// How many bytes they have.
-    pub(crate) len: usize,
-    /// How many sites the trace has.
-    pub(crate) sites: u32,
-    /// How many functions.
-    pub(crate) funcs: u32,
-    /// The burdens under which they are read.
-    pub(crate) burdens: Burdens,
-}
-
-/// What a thread brings that has read a block.
-#[derive(Drop)]
-pub(crate) struct BlockRead {
-    /// What the block comes to.
-    pub(crate) part: Result<PartProfile, AllocError>,
-    /// Its bytes, as room for those of another.
-    pub(crate) room: Vec<u8>,
-}
-
-/// That a thread brings what this block comes to. Contracts alone see the block.
-#[derive(Drop)]
-pub(crate) struct PartOf(pub(crate) Snapshot<Block>);
-
-impl Promise<BlockRead> for PartOf {
-    ghost kept_by = { λ p read. IfOk read.part (IsPartOf p.0.value.sites p.0.value.funcs p.0.value.burdens (take p.0.value.len p.0.value.bytes.items)) };
-}
-
-/// A thread that reads a block.
-type Reading = PromisedHandle<BlockRead, PartOf>;
-
-impl Block {
-    /// Reads it.
-    fn read(self, alloc: Global) -> BlockRead
-        requires sites { self.sites ≤ 65536 }
-        requires funcs { self.funcs ≤ 65536 }
-        requires within { self.len ≤ length self.bytes.items }
-        requires few { self.len / 16 ≤ 2 ^ 28 }
-        ensures { IfOk result.part (IsPartOf self.sites self.funcs self.burdens (take self.len self.bytes.items)) }
-    {
-        let Block {
-            bytes,
-            len,
-            sites,
-            funcs,
-            burdens,
-        } = self;
-        let part = PartProfile::of_records(alloc, &bytes[..len], sites, funcs, burdens);
-        BlockRead { part, room: bytes }
-    }
-}
+use std::thread::Threads;
 
 /// Waits for these threads, and lets go of what they bring.
-fn let_go<R: Threads>(rt: &R, waiting: VecDeque<Reading>) {
+fn let_go<A: SoFar, R: Threads>(rt: &R, waiting: VecDeque<A::Thread>) {
     let mut waiting = waiting;
     while let Some(thread) = waiting.pop_front() {
-        drop(thread.join(rt));
+        drop(A::wait(rt, thread));
     }
 }
 
-/// The profile of a run so far, and the threads that read the blocks behind it, which are to be joined onto it.
+/// What the first records of a run come to, and the threads that read the blocks behind them, which are to be joined onto it.
 #[derive(Drop)]
-pub(crate) struct Joining {
-    pub(crate) so_far: ProfileSoFar,
-    pub(crate) waiting: VecDeque<Reading>,
+pub(crate) struct Joining<A: SoFar> {
+    pub(crate) so_far: A,
+    pub(crate) waiting: VecDeque<A::Thread>,
 }
 
-impl Joining {
-    ghost use Rattle.spp_crew.specs.Joinings.{HasCome, IsBlockAt, count_of};
+impl<A: SoFar> Joining<A> {
+    ghost use Rattle.spp_crew.specs.Joinings.{HasCome};
 
-    /// Behind a profile so far, with no thread.
-    pub(crate) fn behind(alloc: Global, so_far: ProfileSoFar) -> Self
-        ensures { (trace : Recording) (burdens : BurdensValue) (k : ℕ) → IsSoFar trace burdens k so_far → HasCome trace burdens k result }
+    /// Behind some records, with no thread.
+    pub(crate) fn behind(alloc: Global, so_far: A) -> Self
+        ensures { (trace : Recording) (burdens : BurdensValue) (k : ℕ) → A.is_so_far trace burdens k so_far → HasCome A.block_of A.is_so_far trace burdens k result }
     {
         Joining {
             so_far,
@@ -104,7 +43,7 @@ impl Joining {
 
     /// Waits for the threads, and lets go of all.
     pub(crate) fn let_go<R: Threads>(self, rt: &R) {
-        let_go(rt, self.waiting);
+        let_go::<A, R>(rt, self.waiting);
     }
 
     /// Waits for the first of the threads, if there is one, and joins what it brings; gives the room of its block too, or none.
@@ -118,34 +57,34 @@ impl Joining {
         alloc: Global,
         burdens: Burdens,
     ) -> Result<(Self, Vec<u8>), ProfileFault>
-        requires come { (trace : Recording) × (k : ℕ) × HasCome trace burdens k self }
-        ensures come { IfOk result (λ j. (trace : Recording) (k : ℕ) → HasCome trace burdens k self → HasCome trace burdens k j.0) }
+        requires come { (trace : Recording) × (k : ℕ) × HasCome A.block_of A.is_so_far trace burdens k self }
+        ensures come { IfOk result (λ j. (trace : Recording) (k : ℕ) → HasCome A.block_of A.is_so_far trace burdens k self → HasCome A.block_of A.is_so_far trace burdens k j.0) }
         ensures fewer { IfOk result (λ j. length j.0.waiting.items ≡ length self.waiting.items - 1) }
-        ensures fault { IfErr result (λ f. (trace : Recording) (k : ℕ) → HasCome trace burdens k self → IsFaultOf trace.records f) }
+        ensures fault { IfErr result (λ f. (trace : Recording) (k : ℕ) → HasCome A.block_of A.is_so_far trace burdens k self → IsFaultOf trace.records f) }
     {
         let Joining {
-            mut so_far,
+            so_far,
             mut waiting,
         } = self;
         let Some(thread) = waiting.pop_front() else {
             return Ok((Joining { so_far, waiting }, Vec::new(alloc)));
         };
-        let BlockRead { part, room } = thread.join(rt);
+        let BlockRead { part, room } = A::wait(rt, thread);
         let Ok(part) = part else {
-            let_go(rt, waiting);
+            let_go::<A, R>(rt, waiting);
             return Err(ProfileFault::Memory);
         };
-        match so_far.join(alloc, &part, burdens) {
-            Ok(()) => Ok((Joining { so_far, waiting }, room)),
+        match so_far.join(alloc, part, burdens) {
+            Ok(so_far) => Ok((Joining { so_far, waiting }, room)),
             Err(fault) => {
-                let_go(rt, waiting);
+                let_go::<A, R>(rt, waiting);
                 Err(fault)
             }
         }
     }
 
-    /// The same with fewer threads than that, where there were no more: else it waits for the first of them. Gives the room of
-    /// its block too, or none.
+    /// Makes room for a thread more: where so many are at work it waits for the first of them, and joins what it brings. Gives
+    /// the room of its block too, or none.
     ///
     /// # Errors
     ///
@@ -157,9 +96,9 @@ impl Joining {
         burdens: Burdens,
         workers: u32,
     ) -> Result<(Self, Vec<u8>), ProfileFault>
-        requires come { (trace : Recording) × (k : ℕ) × HasCome trace burdens k self }
-        ensures come { IfOk result (λ j. (trace : Recording) (k : ℕ) → HasCome trace burdens k self → HasCome trace burdens k j.0) }
-        ensures fault { IfErr result (λ f. (trace : Recording) (k : ℕ) → HasCome trace burdens k self → IsFaultOf trace.records f) }
+        requires come { (trace : Recording) × (k : ℕ) × HasCome A.block_of A.is_so_far trace burdens k self }
+        ensures come { IfOk result (λ j. (trace : Recording) (k : ℕ) → HasCome A.block_of A.is_so_far trace burdens k self → HasCome A.block_of A.is_so_far trace burdens k j.0) }
+        ensures fault { IfErr result (λ f. (trace : Recording) (k : ℕ) → HasCome A.block_of A.is_so_far trace burdens k self → IsFaultOf trace.records f) }
     {
         if self.waiting.len() < workers as usize {
             return Ok((self, Vec::new(alloc)));
@@ -167,7 +106,7 @@ impl Joining {
         self.join_first(rt, alloc, burdens)
     }
 
-    /// The profile so far, with what all threads bring joined onto it.
+    /// What all records come to, with what all threads bring joined onto it.
     ///
     /// # Errors
     ///
@@ -177,10 +116,10 @@ impl Joining {
         rt: &R,
         alloc: Global,
         burdens: Burdens,
-    ) -> Result<ProfileSoFar, ProfileFault>
-        requires { (trace : Recording) × (k : ℕ) × HasCome trace burdens k self }
-        ensures so_far { IfOk result (λ r. (trace : Recording) (k : ℕ) → HasCome trace burdens k self → IsSoFar trace burdens k r) }
-        ensures fault { IfErr result (λ f. (trace : Recording) (k : ℕ) → HasCome trace burdens k self → IsFaultOf trace.records f) }
+    ) -> Result<A, ProfileFault>
+        requires { (trace : Recording) × (k : ℕ) × HasCome A.block_of A.is_so_far trace burdens k self }
+        ensures so_far { IfOk result (λ r. (trace : Recording) (k : ℕ) → HasCome A.block_of A.is_so_far trace burdens k self → A.is_so_far trace burdens k r) }
+        ensures fault { IfErr result (λ f. (trace : Recording) (k : ℕ) → HasCome A.block_of A.is_so_far trace burdens k self → IsFaultOf trace.records f) }
     {
         let mut joining = self;
         while !joining.waiting.is_empty() {
@@ -203,25 +142,46 @@ impl Joining {
         alloc: Global,
         block: Block,
     ) -> Result<(Self, Vec<u8>), ProfileFault>
-        requires within { block.len ≤ length block.bytes.items }
-        requires few { block.len / 16 ≤ 2 ^ 28 }
-        requires come { (trace : Recording) × (k : ℕ) × HasCome trace block.burdens k self × IsBlockAt trace block.burdens k block }
-        ensures come { IfOk result (λ j. (trace : Recording) (k : ℕ) → HasCome trace block.burdens k self → IsBlockAt trace block.burdens k block → HasCome trace block.burdens (k + count_of block) j.0) }
-        ensures fault { IfErr result (λ f. (trace : Recording) (k : ℕ) → HasCome trace block.burdens k self → IsBlockAt trace block.burdens k block → IsFaultOf trace.records f) }
+        requires readable { IsReadable block }
+        requires come { (trace : Recording) × (k : ℕ) × HasCome A.block_of A.is_so_far trace block.burdens k self × IsBlockAt trace block.burdens k block }
+        ensures come { IfOk result (λ j. (trace : Recording) (k : ℕ) → HasCome A.block_of A.is_so_far trace block.burdens k self → IsBlockAt trace block.burdens k block → HasCome A.block_of A.is_so_far trace block.burdens (k + count_of block) j.0) }
+        ensures fault { IfErr result (λ f. (trace : Recording) (k : ℕ) → HasCome A.block_of A.is_so_far trace block.burdens k self → IsBlockAt trace block.burdens k block → IsFaultOf trace.records f) }
     {
-        let Block {
-            bytes,
-            len,
-            sites,
-            funcs,
-            burdens,
-        } = block;
-        let mut so_far = match self.end(rt, alloc, burdens) {
+        let so_far = match self.end(rt, alloc, block.burdens) {
             Ok(so_far) => so_far,
             Err(fault) => return Err(fault),
         };
-        match so_far.read_records(alloc, &bytes[..len], sites, funcs, burdens) {
-            Ok(()) => Ok((Joining::behind(alloc, so_far), bytes)),
+        match so_far.read(alloc, &block) {
+            Ok(so_far) => Ok((Joining::behind(alloc, so_far), block.bytes)),
+            Err(fault) => Err(fault),
+        }
+    }
+
+    /// Joins what a block came to that this thread has read, behind those that other threads read.
+    ///
+    /// # Errors
+    ///
+    /// The first bad event, if it was met, or `Memory` where an allocation failed. No thread is left then.
+    fn join_read<R: Threads>(
+        self,
+        rt: &R,
+        alloc: Global,
+        part: Result<A::Part, AllocError>,
+        burdens: Burdens,
+    ) -> Result<Self, ProfileFault>
+        requires come { (trace : Recording) × (k : ℕ) × (block : Block) × HasCome A.block_of A.is_so_far trace burdens k self × IsBlockAt trace burdens k block × IfOk part (A.is_part block) }
+        ensures come { IfOk result (λ j. (trace : Recording) (k : ℕ) (block : Block) → HasCome A.block_of A.is_so_far trace burdens k self → IsBlockAt trace burdens k block → IfOk part (A.is_part block) → HasCome A.block_of A.is_so_far trace burdens (k + count_of block) j) }
+        ensures fault { IfErr result (λ f. (trace : Recording) (k : ℕ) (block : Block) → HasCome A.block_of A.is_so_far trace burdens k self → IsBlockAt trace burdens k block → IfOk part (A.is_part block) → IsFaultOf trace.records f) }
+    {
+        let so_far = match self.end(rt, alloc, burdens) {
+            Ok(so_far) => so_far,
+            Err(fault) => return Err(fault),
+        };
+        let Ok(part) = part else {
+            return Err(ProfileFault::Memory);
+        };
+        match so_far.join(alloc, part, burdens) {
+            Ok(so_far) => Ok(Joining::behind(alloc, so_far)),
             Err(fault) => Err(fault),
         }
     }
@@ -232,47 +192,26 @@ impl Joining {
     ///
     /// The first bad event, if it was met, or `Memory` where an allocation failed. No thread is left then.
     fn start<R: Threads>(self, rt: &R, alloc: Global, block: Block) -> Result<Self, ProfileFault>
-        requires sites { block.sites ≤ 65536 }
-        requires funcs { block.funcs ≤ 65536 }
-        requires within { block.len ≤ length block.bytes.items }
-        requires few { block.len / 16 ≤ 2 ^ 28 }
-        requires come { (trace : Recording) × (k : ℕ) × HasCome trace block.burdens k self × IsBlockAt trace block.burdens k block }
-        ensures come { IfOk result (λ j. (trace : Recording) (k : ℕ) → HasCome trace block.burdens k self → IsBlockAt trace block.burdens k block → HasCome trace block.burdens (k + count_of block) j) }
-        ensures fault { IfErr result (λ f. (trace : Recording) (k : ℕ) → HasCome trace block.burdens k self → IsBlockAt trace block.burdens k block → IsFaultOf trace.records f) }
+        requires readable { IsReadable block }
+        requires come { (trace : Recording) × (k : ℕ) × HasCome A.block_of A.is_so_far trace block.burdens k self × IsBlockAt trace block.burdens k block }
+        ensures come { IfOk result (λ j. (trace : Recording) (k : ℕ) → HasCome A.block_of A.is_so_far trace block.burdens k self → IsBlockAt trace block.burdens k block → HasCome A.block_of A.is_so_far trace block.burdens (k + count_of block) j) }
+        ensures fault { IfErr result (λ f. (trace : Recording) (k : ℕ) → HasCome A.block_of A.is_so_far trace block.burdens k self → IsBlockAt trace block.burdens k block → IsFaultOf trace.records f) }
     {
+        let burdens = block.burdens;
+        let thread = match A::start(rt, alloc, block) {
+            Ok(thread) => thread,
+            Err(BlockRead { part, .. }) => return self.join_read(rt, alloc, part, burdens),
+        };
         let Joining {
             so_far,
             mut waiting,
         } = self;
-        let burdens = block.burdens;
-        let promise = PartOf(Snapshot::of(&block));
-        let read = move || -> BlockRead
-            requires { (block.sites ≤ 65536) × (block.funcs ≤ 65536) × (block.len ≤ length block.bytes.items) × (block.len / 16 ≤ 2 ^ 28) }
-            ensures { IfOk result.part (IsPartOf block.sites block.funcs block.burdens (take block.len block.bytes.items)) }
-        { block.read(alloc) };
-        match spawn_with(rt, promise, read) {
-            Ok(thread) => match waiting.push_back(thread) {
-                Ok(()) => Ok(Joining { so_far, waiting }),
-                Err(refused) => {
-                    drop(refused.value.join(rt));
-                    let_go(rt, waiting);
-                    Err(ProfileFault::Memory)
-                }
-            },
-            // No thread can be started: this one reads the block, and joins it behind the others.
+        match waiting.push_back(thread) {
+            Ok(()) => Ok(Joining { so_far, waiting }),
             Err(refused) => {
-                let BlockRead { part, .. } = (refused.value)();
-                let mut so_far = match (Joining { so_far, waiting }).end(rt, alloc, burdens) {
-                    Ok(so_far) => so_far,
-                    Err(fault) => return Err(fault),
-                };
-                let Ok(part) = part else {
-                    return Err(ProfileFault::Memory);
-                };
-                match so_far.join(alloc, &part, burdens) {
-                    Ok(()) => Ok(Joining::behind(alloc, so_far)),
-                    Err(fault) => Err(fault),
-                }
+                drop(A::wait(rt, refused.value));
+                let_go::<A, R>(rt, waiting);
+                Err(ProfileFault::Memory)
             }
         }
     }
@@ -291,13 +230,10 @@ impl Joining {
         block: Block,
         workers: u32,
     ) -> Result<(Self, Vec<u8>), ProfileFault>
-        requires sites { block.sites ≤ 65536 }
-        requires funcs { block.funcs ≤ 65536 }
-        requires within { block.len ≤ length block.bytes.items }
-        requires few { block.len / 16 ≤ 2 ^ 28 }
-        requires come { (trace : Recording) × (k : ℕ) × HasCome trace block.burdens k self × IsBlockAt trace block.burdens k block }
-        ensures come { IfOk result (λ j. (trace : Recording) (k : ℕ) → HasCome trace block.burdens k self → IsBlockAt trace block.burdens k block → HasCome trace block.burdens (k + count_of block) j.0) }
-        ensures fault { IfErr result (λ f. (trace : Recording) (k : ℕ) → HasCome trace block.burdens k self → IsBlockAt trace block.burdens k block → IsFaultOf trace.records f) }
+        requires readable { IsReadable block }
+        requires come { (trace : Recording) × (k : ℕ) × HasCome A.block_of A.is_so_far trace block.burdens k self × IsBlockAt trace block.burdens k block }
+        ensures come { IfOk result (λ j. (trace : Recording) (k : ℕ) → HasCome A.block_of A.is_so_far trace block.burdens k self → IsBlockAt trace block.burdens k block → HasCome A.block_of A.is_so_far trace block.burdens (k + count_of block) j.0) }
+        ensures fault { IfErr result (λ f. (trace : Recording) (k : ℕ) → HasCome A.block_of A.is_so_far trace block.burdens k self → IsBlockAt trace block.burdens k block → IsFaultOf trace.records f) }
     {
         if workers < 2 {
             return self.read_here(rt, alloc, block);

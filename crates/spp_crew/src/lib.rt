@@ -1,4 +1,4 @@
-//! The answers to a trace, made by worker threads that share its parts.
+//! The answers to a trace, made by worker threads that share its parts or its blocks.
 //!
 //! A crew of workers goes through the parts of a cut trace in rounds. In each round the workers draw the numbers of the
 //! parts, each once, do the round's job on them, and put what came of it at one desk, whose book joins the pieces in
@@ -6,18 +6,27 @@
 //! trace names more than 1,024 call sites. Marks take three: two of those, and the marking of events, which has no desk: each
 //! worker is given neighbouring parts and the bytes of their events.
 //!
-//! Where there are three, little is done between them, and that by one thread or two: after the first it finds the frames that are open where
-//! each part begins, and before the last it settles the paths.
+//! Where there are three, little is done between them, and that by one thread or two: after the first it finds the frames
+//! that are open where each part begins, and before the last it settles the paths.
+//!
+//! A trace of version 1 can also come block by block, and need not be kept: [`RecordFigures`], [`RecordProfile`]. Each block
+//! is read by a thread of its own, whose handle promises that what it brings is of that block, and the calling thread joins
+//! in order what they bring; there is no desk and no round.
 #![tactic(auto)]
 
+mod block;
+mod figured_blocks;
 mod gate;
 mod joining;
 mod marking;
 mod once;
+mod profiled_blocks;
 mod profiling;
+mod record_figures;
 mod record_head;
 mod record_profile;
 mod round;
+mod shown;
 mod surveying;
 mod whole_profile;
 
@@ -25,6 +34,7 @@ pub use gate::{Gate, OpenGate, Round};
 pub use marking::marks;
 pub use once::profile_once;
 pub use profiling::{profile_in_rounds, tabled};
+pub use record_figures::RecordFigures;
 pub use record_head::RecordHead;
 pub use record_profile::RecordProfile;
 pub use round::run_round;

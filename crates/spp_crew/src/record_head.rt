@@ -1,6 +1,6 @@
 //! What a header of version 1 says.
 
-/// What a profile needs of a header of version 1.
+/// What is needed of a header of version 1 to read the records behind it.
 #[derive(Clone, Copy)]
 pub struct RecordHead {
     /// The function of the root frame.

@@ -8,25 +8,18 @@ ghost use Rattle.spp_frame.specs.Answers.{IsFaultOf};
 ghost use Rattle.spp_site.specs.Profiles.{IsProfileOf};
 ghost use Rattle.spp_crew.specs.RecordHeads.{IsHead};
 
-use crate::joining::{Block, Joining, RECORD};
+use crate::block::{Block, RECORD};
+use crate::joining::Joining;
 use crate::record_head::RecordHead;
+use crate::shown::Shown;
 use spp_event::EventFault;
-use spp_frame::{Fault, ProfileFault};
+use spp_frame::ProfileFault;
 use spp_maxplus::Burdens;
 use spp_part::ProfileSoFar;
 use spp_site::Profile;
 use std::alloc::{AllocError, Global};
 use std::sync::Wait;
 use std::thread::Threads;
-
-/// What the records that have come of a run show.
-#[derive(Drop)]
-enum Shown {
-    /// None of those that were joined is bad.
-    Good(Joining),
-    /// The first bad event.
-    Bad(Fault),
-}
 
 /// The profile of a run whose records come block by block, in a trace of version 1: what those that have come show. It keeps
 /// none of them.
@@ -36,14 +29,14 @@ pub struct RecordProfile {
     head: RecordHead,
     burdens: Burdens,
     /// What they show; nothing is meant by it where more have come than the header claims.
-    shown: Shown,
+    shown: Shown<ProfileSoFar>,
     /// How many records have come.
     at: u32,
     ghost limits: { IsHead head },
 }
 
 /// Bytes are numbers of 8 bits. Its contract is what it is for.
-fn are_bytes(bytes: &[u8])
+pub(crate) fn are_bytes(bytes: &[u8])
     ensures { (i : ℕ) → slice_index bytes.now i < 256 }
 {}
 
@@ -132,40 +125,27 @@ impl RecordProfile {
             at,
         } = self;
         are_bytes(bytes.as_slice());
-        let behind = at + (len / RECORD) as u32;
         let block = Block {
             bytes,
             len,
+            first: at,
             sites: head.sites,
             funcs: head.funcs,
             burdens,
         };
-        let (shown, room) = match shown {
-            // More than the header claims are of no trace.
-            shown if behind > head.count => (shown, block.bytes),
-            Shown::Bad(fault) => (Shown::Bad(fault), block.bytes),
-            Shown::Good(joining) => match joining.go_on(rt, alloc, block, workers) {
-                Ok((joining, room)) => (Shown::Good(joining), room),
-                Err(ProfileFault::Bad(fault)) => (Shown::Bad(fault), Vec::new(alloc)),
-                Err(ProfileFault::Memory) => return Err(AllocError),
-            },
-        };
+        let (shown, room) = shown.followed_by(rt, alloc, block, head.count, workers)?;
         let profile = RecordProfile {
             head,
             burdens,
             shown,
-            at: behind,
+            at: at + (len / RECORD) as u32,
         };
         Ok((profile, room))
     }
 
     /// Waits for the threads that still read records, and lets go of all.
     pub fn let_go<R: Threads>(self, rt: &R) {
-        let RecordProfile { shown, .. } = self;
-        match shown {
-            Shown::Good(joining) => joining.let_go(rt),
-            Shown::Bad(_) => {}
-        }
+        self.shown.let_go(rt);
     }
 
     /// The profile of the run, where all records of its trace have come. Where fewer have than the header claims, the bytes end

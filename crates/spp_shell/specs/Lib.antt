@@ -9,6 +9,7 @@ pub mod RecordStreams
 pub mod Checked
 pub mod Encode
 pub mod Migrate
+pub mod Figured
 pub mod Figures
 pub mod Profiles
 pub mod Profiled

@@ -39,6 +39,13 @@ impl<R: Read> InSource<R> {
             hint,
         }
     }
+
+    /// The reader again.
+    pub fn into_inner(self) -> R
+        ensures { result ≡ reader_of self }
+    {
+        self.reader
+    }
 }
 
 impl<R: Read> Source for InSource<R> {

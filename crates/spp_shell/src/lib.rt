@@ -6,6 +6,7 @@ mod check_task;
 mod checked_records;
 mod compare_task;
 mod encode_task;
+mod figured_records;
 mod figures_task;
 mod header_end;
 mod in_source;

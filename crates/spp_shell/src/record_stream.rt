@@ -12,6 +12,9 @@ use std::alloc::{AllocError, Global};
 use std::sync::Wait;
 use std::thread::Threads;
 
+/// How many bytes a block has, or some more, which one worker reads: those of 65,536 records.
+pub(crate) const BLOCK: usize = 1 << 20;
+
 /// What a header of version 1 says of the records behind it.
 #[derive(Clone, Copy)]
 pub(crate) struct Head {
@@ -110,7 +113,10 @@ fn go_over<V: Records, R: Threads + Wait + Sync>(
     let mut rest = [0; 16];
     write_over(&bytes[whole..filled], &mut rest);
     let (records, mut room) = records.followed_by(rt, bytes, whole)?;
-    copy_to_front(&rest[..left], &mut room)?;
+    let Ok(()) = copy_to_front(&rest[..left], &mut room) else {
+        records.let_go(rt);
+        return Err(AllocError);
+    };
     Ok((records, room, left))
 }
 
@@ -145,7 +151,7 @@ fn go_over_block<V: Records, R: Threads + Wait + Sync>(
 #[derive(Drop)]
 pub(crate) struct RecordStream<V: Records> {
     pub(crate) head: Head,
-    /// The check or the profile of the records that were gone over.
+    /// What the records show that were gone over.
     pub(crate) records: V,
     /// The bytes that came behind these records, and then room for more.
     pub(crate) bytes: Vec<u8>,

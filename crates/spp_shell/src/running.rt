@@ -9,7 +9,7 @@ ghost use Rattle.spp_shell.specs.Tasks.{IfLine};
 use crate::check_task::check_input;
 use crate::compare_task::answer_compare;
 use crate::encode_task::answer_encode;
-use crate::figures_task::answer_figures;
+use crate::figures_task::figures_input;
 use crate::input::read_or_refuse;
 use crate::migrate_task::answer_migrate;
 use crate::place::Place;
@@ -39,10 +39,7 @@ fn answer<R: Threads + Wait + Sync + RandomSource, S: Source, T: Source>(
 {
     match request.command {
         Command::Check => check_input(rt, alloc, first),
-        Command::Figures => {
-            let bytes = read_or_refuse(alloc, first, Place::Only)?;
-            answer_figures(rt, alloc, request, bytes.as_slice())
-        }
+        Command::Figures => figures_input(rt, alloc, request, first),
         Command::Profile => answer_profile(rt, alloc, request, first),
         Command::Compare => answer_compare(rt, alloc, request, first, second),
         Command::Encode => {

@@ -21,7 +21,7 @@ use crate::profile_task::profile_or_refuse;
 use crate::profiled_records::ProfiledRecords;
 use crate::reading::{INPUT_LIMIT, make_first_room};
 use crate::reading_on::{Front, read_on};
-use crate::record_stream::{Head, RecordStream};
+use crate::record_stream::{BLOCK, Head, RecordStream};
 use crate::records::Records;
 use crate::refusal::Refusal;
 use crate::source::Source;
@@ -35,9 +35,6 @@ use spp_site::Profile;
 use std::alloc::{AllocError, Global};
 use std::sync::Wait;
 use std::thread::Threads;
-
-/// How many bytes a block has, or some more, which one worker reads: those of 65,536 records.
-const BLOCK: usize = 1 << 20;
 
 /// What is told of the run whose trace these bytes are, or why nothing is.
 fn tell_bytes<R: Threads + Wait + Sync, T: Telling>(

@@ -1,10 +1,11 @@
-//! Runs of `check` and `profile` over inputs that come in pieces of all sizes, beside what is said of all their bytes at once.
+//! Runs of `check`, `figures` and `profile` over inputs that come in pieces of all sizes, beside what is said of all their bytes
+//! at once.
 
 use super::commands::request_for;
 use super::fakes::{empty_cup, unread};
 use spp_event::{Event, Trace, open_trace, record_of};
 use spp_frame::{ProfileFault, check};
-use spp_report::{Named, plain_text};
+use spp_report::{Named, figures_text, plain_text};
 use spp_request::{Command, Request, Workers};
 use spp_serial::profile_serial;
 use spp_shell::{InSource, run};
@@ -76,9 +77,11 @@ impl Ending {
 /// What is asked: a command, by so many workers.
 type Asked = (Command, u32);
 
-/// The same work of all commands that read records as they come, and for `profile` by one worker and by several.
+/// The same work of all commands that read records as they come, by one worker and by several.
 const ASKED: &[Asked] = &[
     (Command::Check, 1),
+    (Command::Figures, 1),
+    (Command::Figures, 4),
     (Command::Profile, 1),
     (Command::Profile, 4),
 ];
@@ -98,8 +101,11 @@ fn told(
     trace: &Trace<'_>,
 ) -> Result<Result<Vec<u8>, String>, AllocError> {
     let fault = match request.command {
-        Command::Profile => match profile_serial(alloc, trace, request.burdens) {
+        Command::Figures | Command::Profile => match profile_serial(alloc, trace, request.burdens) {
             Ok(profile) => {
+                if matches!(request.command, Command::Figures) {
+                    return Ok(Ok(figures_text(alloc, &profile.figures)?));
+                }
                 let named = Named {
                     trace,
                     profile: &profile,
@@ -372,12 +378,14 @@ fn spoil(bytes: &mut [u8], from_last: usize) {
     }
 }
 
-/// Blocks of a profile have 65,536 records: faults in the last record of one, in the first of the next, in two
-/// at once, and bytes that end there or within a record.
+/// Blocks have 65,536 records: faults in the last record of one, in the first of the next, in two at once, and bytes that end
+/// there or within a record.
 #[test]
 fn a_bad_event_is_told_wherever_blocks_end(rt: HostRuntime) -> Result<(), Fail> {
     let sizes: &[&[usize]] = &[&[65536]];
     for (asked, events) in [
+        ((Command::Figures, 1), 131572),
+        ((Command::Figures, 2), 262644),
         ((Command::Profile, 1), 131572),
         ((Command::Profile, 2), 262644),
     ] {

@@ -21,21 +21,17 @@ returns-in-Check-clause-refused g c =
     let second : Giving = giving_of g.T.Source.answered g.T.Source.failed g.T.Source.failures c.args.second.now c.args.second.now in
     rw c.in-Check.is (told_by (λ text. text.items) first second refl Only IsCheckLine c.check_input.result c.check_input.ensures.refused)
 
-pub returns-in_ok-bytes-in-Figures-clause-text : goal.returns-in_ok-bytes-in-Figures-clause-text
-returns-in_ok-bytes-in-Figures-clause-text g c =
-    let first : Giving = giving_of g.S.Source.answered g.S.Source.failed g.S.Source.failures c.args.first.now c.read_or_refuse.new.input in
+pub returns-in-Figures-clause-text : goal.returns-in-Figures-clause-text
+returns-in-Figures-clause-text g c =
+    let first : Giving = giving_of g.S.Source.answered g.S.Source.failed g.S.Source.failures c.args.first.now c.figures_input.new.source in
     let second : Giving = giving_of g.T.Source.answered g.T.Source.failed g.T.Source.failures c.args.second.now c.args.second.now in
-    let bytes = c.in_ok-bytes-in-Figures.bytes.items in
-    let gave = c.in_ok-bytes-in-Figures.ensures.read in
-    rw c.in-Figures.is (answered_first (λ text. text.items) first second bytes gave refl (IsFiguresText c.args.request.now.burdens) c.answer_figures.result (rw c.as_slice.ensures.value at c.answer_figures.ensures.text))
+    rw c.in-Figures.is (answered_by (λ text. text.items) first second refl (IsFiguresText c.args.request.now.burdens) c.figures_input.result c.figures_input.ensures.text)
 
-pub returns-in_ok-bytes-in-Figures-clause-refused : goal.returns-in_ok-bytes-in-Figures-clause-refused
-returns-in_ok-bytes-in-Figures-clause-refused g c =
-    let first : Giving = giving_of g.S.Source.answered g.S.Source.failed g.S.Source.failures c.args.first.now c.read_or_refuse.new.input in
+pub returns-in-Figures-clause-refused : goal.returns-in-Figures-clause-refused
+returns-in-Figures-clause-refused g c =
+    let first : Giving = giving_of g.S.Source.answered g.S.Source.failed g.S.Source.failures c.args.first.now c.figures_input.new.source in
     let second : Giving = giving_of g.T.Source.answered g.T.Source.failed g.T.Source.failures c.args.second.now c.args.second.now in
-    let bytes = c.in_ok-bytes-in-Figures.bytes.items in
-    let gave = c.in_ok-bytes-in-Figures.ensures.read in
-    rw c.in-Figures.is (told_first (λ text. text.items) first second bytes gave refl Only IsCheckLine c.answer_figures.result (inr (bytes, gave)) (rw c.as_slice.ensures.value at c.answer_figures.ensures.line))
+    rw c.in-Figures.is (told_by (λ text. text.items) first second refl Only IsCheckLine c.figures_input.result c.figures_input.ensures.refused)
 
 pub returns-in-Profile-clause-text : goal.returns-in-Profile-clause-text
 returns-in-Profile-clause-text g c =
@@ -51,19 +47,19 @@ returns-in-Profile-clause-refused g c =
 
 pub returns-in_ok-bytes-in-Encode-clause-text : goal.returns-in_ok-bytes-in-Encode-clause-text
 returns-in_ok-bytes-in-Encode-clause-text g c =
-    let first : Giving = giving_of g.S.Source.answered g.S.Source.failed g.S.Source.failures c.args.first.now c.read_or_refuse-in-Encode.new.input in
+    let first : Giving = giving_of g.S.Source.answered g.S.Source.failed g.S.Source.failures c.args.first.now c.read_or_refuse.new.input in
     let second : Giving = giving_of g.T.Source.answered g.T.Source.failed g.T.Source.failures c.args.second.now c.args.second.now in
     let bytes = c.in_ok-bytes-in-Encode.bytes.items in
     let gave = c.in_ok-bytes-in-Encode.ensures.read in
-    rw c.in-Encode.is (answered_first (λ text. text.items) first second bytes gave refl IsEncodeText c.answer_encode.result (rw c.as_slice-in-Encode.ensures.value at c.answer_encode.ensures.text))
+    rw c.in-Encode.is (answered_first (λ text. text.items) first second bytes gave refl IsEncodeText c.answer_encode.result (rw c.as_slice.ensures.value at c.answer_encode.ensures.text))
 
 pub returns-in_ok-bytes-in-Encode-clause-refused : goal.returns-in_ok-bytes-in-Encode-clause-refused
 returns-in_ok-bytes-in-Encode-clause-refused g c =
-    let first : Giving = giving_of g.S.Source.answered g.S.Source.failed g.S.Source.failures c.args.first.now c.read_or_refuse-in-Encode.new.input in
+    let first : Giving = giving_of g.S.Source.answered g.S.Source.failed g.S.Source.failures c.args.first.now c.read_or_refuse.new.input in
     let second : Giving = giving_of g.T.Source.answered g.T.Source.failed g.T.Source.failures c.args.second.now c.args.second.now in
     let bytes = c.in_ok-bytes-in-Encode.bytes.items in
     let gave = c.in_ok-bytes-in-Encode.ensures.read in
-    rw c.in-Encode.is (told_first (λ text. text.items) first second bytes gave refl Only IsEncodeLine c.answer_encode.result (inr (bytes, gave)) (rw c.as_slice-in-Encode.ensures.value at c.answer_encode.ensures.line))
+    rw c.in-Encode.is (told_first (λ text. text.items) first second bytes gave refl Only IsEncodeLine c.answer_encode.result (inr (bytes, gave)) (rw c.as_slice.ensures.value at c.answer_encode.ensures.line))
 
 pub returns-in_ok-bytes-in-Migrate-clause-text : goal.returns-in_ok-bytes-in-Migrate-clause-text
 returns-in_ok-bytes-in-Migrate-clause-text g c =

@@ -13,4 +13,4 @@ loop-alloc-preserved g c trace k come = c.in-Ok.ensures.come trace k (c.loop-all
 pub returns-clause-so_far : goal.returns-clause-so_far
 returns-clause-so_far g c trace k come =
     let here = c.loop-alloc.invariant trace k come in
-    none_left trace c.args.burdens here.0 k c.loop-alloc.joining.waiting.items c.loop-alloc.joining.so_far (nil_from_length _ (sym c.loop-alloc.joining.waiting.ok.0 ∙ eqb-true c.loop-alloc.joining.waiting.len 0 (sym c.is_empty.ensures ∙ c.loop-alloc-test.false))) here.2 here.1
+    none_left g.A.SoFar.block_of trace c.args.burdens g.A.SoFar.is_so_far here.0 k c.loop-alloc.joining.waiting.items c.loop-alloc.joining.so_far (nil_from_length _ (sym c.loop-alloc.joining.waiting.ok.0 ∙ eqb-true c.loop-alloc.joining.waiting.len 0 (sym c.is_empty.ensures ∙ c.loop-alloc-test.false))) here.2 here.1

@@ -5,7 +5,7 @@ use Rattle.spp_crew.proofs.joining.Joining.end.Given as goal
 
 -- all that has come still has
 abbrev pub invariant-loop-alloc : goal.invariant-loop-alloc
-invariant-loop-alloc g l = (trace : Recording) (k : ℕ) → HasCome trace l.fn.burdens k l.fn.self → HasCome trace l.fn.burdens k l.joining
+invariant-loop-alloc g l = (trace : Recording) (k : ℕ) → HasCome g.A.SoFar.block_of g.A.SoFar.is_so_far trace l.fn.burdens k l.fn.self → HasCome g.A.SoFar.block_of g.A.SoFar.is_so_far trace l.fn.burdens k l.joining
 
 abbrev pub decreases-loop-alloc : goal.decreases-loop-alloc
 decreases-loop-alloc g l = length l.joining.waiting.items

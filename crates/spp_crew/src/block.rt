@@ -1,0 +1,98 @@
+//! Blocks of records, and what the first records of a run come to, onto which blocks are joined.
+
+ghost use Rattle.std.specs.Prelude.{◌≡◌, ◌+◌, ℕ, IfOk, IfErr};
+ghost use Rattle.spp_event.specs.Recordings.{Recording};
+ghost use Rattle.spp_frame.specs.Answers.{IsFaultOf};
+ghost use Rattle.spp_maxplus.specs.declared.state.Burdens.{Burdens as BurdensValue};
+ghost use Rattle.spp_crew.specs.Blocks.{IsReadable, IsBlockAt, count_of};
+
+use spp_frame::ProfileFault;
+use spp_maxplus::Burdens;
+use std::alloc::{AllocError, Global};
+use std::thread::Threads;
+
+/// The bytes of a record.
+pub(crate) const RECORD: usize = 16;
+
+/// The records of a block, and how they are read.
+#[derive(Drop)]
+pub(crate) struct Block {
+    /// Their bytes, and others behind them.
+    pub(crate) bytes: Vec<u8>,
+    /// How many bytes they have.
+    pub(crate) len: usize,
+    /// The position of the first.
+    pub(crate) first: u32,
+    /// How many sites the trace has.
+    pub(crate) sites: u32,
+    /// How many functions.
+    pub(crate) funcs: u32,
+    /// The burdens under which they are read.
+    pub(crate) burdens: Burdens,
+}
+
+/// What a thread brings that has read a block.
+#[derive(Drop)]
+pub(crate) struct BlockRead<P> {
+    /// What the block comes to.
+    pub(crate) part: Result<P, AllocError>,
+    /// Its bytes, as room for those of another.
+    pub(crate) room: Vec<u8>,
+}
+
+/// What the first records of a run come to, onto which blocks are joined.
+///
+/// A type says by its [`SoFar::start`] how a thread is started, since what goes to a thread must be known to the borrow checker.
+pub(crate) trait SoFar: Drop {
+    ghost use Rattle.spp_crew.specs.declared.block.Block.{Block};
+
+    /// What a block comes to.
+    type Part: Drop;
+
+    /// A thread that reads a block.
+    type Thread: Drop;
+
+    // that is what the block comes to, in whichever trace it stands
+    ghost is_part: { Block → Self.Part → Type 0 };
+
+    // that is what so many records come to, which are the first of a trace, under these burdens
+    ghost is_so_far: { Recording → BurdensValue → ℕ → Self → Type 0 };
+
+    // the block that a thread reads
+    ghost block_of: { Self.Thread → Block };
+
+    /// Starts a thread that reads a block. Where none can be started, this one reads it.
+    fn start<R: Threads>(
+        rt: &R,
+        alloc: Global,
+        block: Block,
+    ) -> Result<Self::Thread, BlockRead<Self::Part>>
+        requires { IsReadable block }
+        ensures thread { IfOk result (λ t. block_of t ≡ block) }
+        ensures read { IfErr result (λ read. IfOk read.part (is_part block)) };
+
+    /// What a thread brings, for which this one waits.
+    fn wait<R: Threads>(rt: &R, thread: Self::Thread) -> BlockRead<Self::Part>
+        ensures { IfOk result.part (is_part (block_of thread)) };
+
+    /// Goes on by what the next block comes to.
+    ///
+    /// # Errors
+    ///
+    /// The first bad event, if it was met, or `Memory` where an allocation failed.
+    fn join(self, alloc: Global, part: Self::Part, burdens: Burdens) -> Result<Self, ProfileFault>
+        requires { (trace : Recording) × (i : ℕ) × (block : Block) × is_so_far trace burdens i self × IsBlockAt trace burdens i block × is_part block part }
+        ensures so_far { IfOk result (λ s. (trace : Recording) (i : ℕ) (block : Block) → is_so_far trace burdens i self → IsBlockAt trace burdens i block → is_part block part → is_so_far trace burdens (i + count_of block) s) }
+        ensures fault { IfErr result (λ f. (trace : Recording) (i : ℕ) (block : Block) → is_so_far trace burdens i self → IsBlockAt trace burdens i block → is_part block part → IsFaultOf trace.records f) };
+
+    /// Goes on by the next block, which this thread reads.
+    ///
+    /// # Errors
+    ///
+    /// The first bad event, if it was met, or `Memory` where an allocation failed.
+    fn read(self, alloc: Global, block: &Block) -> Result<Self, ProfileFault>
+        requires readable { IsReadable block.now }
+        requires so_far { (trace : Recording) × (i : ℕ) × is_so_far trace block.now.burdens i self × IsBlockAt trace block.now.burdens i block.now }
+        ensures so_far { IfOk result (λ s. (trace : Recording) (i : ℕ) → is_so_far trace block.now.burdens i self → IsBlockAt trace block.now.burdens i block.now → is_so_far trace block.now.burdens (i + count_of block.now) s) }
+        ensures fault { IfErr result (λ f. (trace : Recording) (i : ℕ) → is_so_far trace block.now.burdens i self → IsBlockAt trace block.now.burdens i block.now → IsFaultOf trace.records f) };
+}

@@ -1,0 +1,165 @@
+//! The figures of a run whose records come block by block.
+
+ghost use Rattle.std.specs.Prelude.{◌≡◌, ◌+◌, ◌*◌, ◌/◌, ◌≤◌, ◌<◌, ◌^◌, ◌++◌, ℕ, List, [], length, take, Err as AsErr, IfOk, IfErr};
+ghost use Rattle.spp_event.specs.declared.version.Version.TheVariants.{One};
+ghost use Rattle.spp_event.specs.declared.records.EventFault.TheVariants.{Truncated};
+ghost use Rattle.spp_event.specs.Recordings.{Record, Recording, record_at, records_of};
+ghost use Rattle.spp_dag.specs.Figures.{AreFigures};
+ghost use Rattle.spp_frame.specs.Answers.{IsFaultOf};
+ghost use Rattle.spp_frame.specs.Nesting.{IsFirstBad, IsWellFormed};
+ghost use Rattle.spp_crew.specs.RecordHeads.{IsHead};
+
+use crate::block::{Block, RECORD};
+use crate::joining::Joining;
+use crate::record_head::RecordHead;
+use crate::record_profile::are_bytes;
+use crate::shown::Shown;
+use spp_dag::Figures;
+use spp_event::EventFault;
+use spp_frame::{Fault, ProfileFault, Why};
+use spp_maxplus::Burdens;
+use spp_summary::Summary;
+use std::alloc::{AllocError, Global};
+use std::thread::Threads;
+
+/// The figures of a run whose records come block by block, in a trace of version 1: what those that have come show. It keeps
+/// none of them.
+#[derive(Drop)]
+pub struct RecordFigures {
+    /// What the trace's header says. The function of the root doesn't matter.
+    head: RecordHead,
+    burdens: Burdens,
+    /// What they show; nothing is meant by it where more have come than the header claims.
+    shown: Shown<Summary>,
+    /// How many records have come.
+    at: u32,
+    ghost limits: { IsHead head },
+}
+
+/// What is wrong first with a run whose record at `at` is cut off, where that was found of those before.
+fn cut_off(found: Result<Figures, Fault>, at: u32) -> Fault
+    ensures { (rs behind : List Record) → length rs ≡ at → IfOk found (λ f. IsWellFormed rs) → IfErr found (λ f. IsFirstBad rs f) → 0 < length behind → record_at behind 0 ≡ AsErr Truncated → IsFirstBad (rs ++ behind) result }
+{
+    match found {
+        Err(fault) if fault.at < at => fault,
+        _ => Fault {
+            at,
+            why: Why::Event(EventFault::Truncated),
+        },
+    }
+}
+
+impl RecordFigures {
+    ghost use Rattle.spp_crew.specs.RecordFigures.{HasSeen, EndsWith, seen_by};
+
+    /// Before the first record of a trace with that header.
+    ///
+    /// # Errors
+    ///
+    /// Where an allocation failed.
+    pub fn new(alloc: Global, head: RecordHead, burdens: Burdens) -> Result<Self, AllocError>
+        requires { IsHead head }
+        ensures seen { IfOk result (λ f. HasSeen f []) }
+        ensures head { IfOk result (λ f. f.head ≡ head) }
+        ensures burdens { IfOk result (λ f. f.burdens ≡ burdens) }
+    {
+        let summary = Summary::of_records(alloc, &[], head.sites, head.funcs, burdens, 0)?;
+        Ok(RecordFigures {
+            head,
+            burdens,
+            shown: Shown::Good(Joining::behind(alloc, summary)),
+            at: 0,
+        })
+    }
+
+    /// The figures behind the whole records of the first `len` of these bytes as well, and room for the bytes of other records. The
+    /// threads, the time and the memory are those of `RecordProfile::followed_by_block`, but the records are read by
+    /// `Summary::of_records`, and what that finds is joined by `Summary::join`, for one worker too.
+    ///
+    /// # Errors
+    ///
+    /// Where an allocation failed. A thread that can't be started is no error: this one reads the records.
+    pub fn followed_by_block<R: Threads>(
+        self,
+        rt: &R,
+        alloc: Global,
+        bytes: Vec<u8>,
+        len: usize,
+        workers: u32,
+    ) -> Result<(Self, Vec<u8>), AllocError>
+        requires within { len ≤ length bytes.items }
+        requires room { seen_by self + len / 16 < 2 ^ 32 }
+        requires seen { (rs : List Record) × HasSeen self rs }
+        ensures count { IfOk result (λ f. seen_by f.0 ≡ seen_by self + len / 16) }
+        ensures head { IfOk result (λ f. f.0.head ≡ self.head) }
+        ensures burdens { IfOk result (λ f. f.0.burdens ≡ self.burdens) }
+        ensures seen { IfOk result (λ f. (rs : List Record) → HasSeen self rs → HasSeen f.0 (rs ++ records_of One self.head.sites self.head.funcs (len / 16) (take len bytes.items))) }
+    {
+        let RecordFigures {
+            head,
+            burdens,
+            shown,
+            at,
+        } = self;
+        are_bytes(bytes.as_slice());
+        let block = Block {
+            bytes,
+            len,
+            first: at,
+            sites: head.sites,
+            funcs: head.funcs,
+            burdens,
+        };
+        let (shown, room) = shown.followed_by(rt, alloc, block, head.count, workers)?;
+        let figures = RecordFigures {
+            head,
+            burdens,
+            shown,
+            at: at + (len / RECORD) as u32,
+        };
+        Ok((figures, room))
+    }
+
+    /// Waits for the threads that still read records, and lets go of all.
+    pub fn let_go<R: Threads>(self, rt: &R) {
+        self.shown.let_go(rt);
+    }
+
+    /// The work, span and burdened span of the run, where all records of its trace have come. Where fewer have than the header
+    /// claims, the bytes end before the next one does, and it is told as cut off. The time is that of waiting for the threads
+    /// that still read records, and of joining what they find, by `Summary::join`.
+    ///
+    /// # Errors
+    ///
+    /// The first bad event, or `Memory` where an allocation failed.
+    pub fn end<R: Threads>(self, rt: &R, alloc: Global) -> Result<Figures, ProfileFault>
+        requires few { seen_by self ≤ self.head.count }
+        requires seen { (rs : List Record) × HasSeen self rs }
+        ensures small { IfOk result (λ f. f.work < 2 ^ 92) }
+        ensures figures { (trace : Recording) → EndsWith self trace → IfOk result (λ f. AreFigures trace.records self.burdens f) }
+        ensures fault { (trace : Recording) → EndsWith self trace → IfErr result (λ f. IsFaultOf trace.records f) }
+    {
+        let RecordFigures {
+            head,
+            burdens,
+            shown,
+            at,
+        } = self;
+        let joining = match shown {
+            Shown::Good(joining) => joining,
+            Shown::Bad(fault) => return Err(ProfileFault::Bad(fault)),
+        };
+        let summary = match joining.end(rt, alloc, burdens) {
+            Ok(summary) => summary,
+            Err(fault) => return Err(fault),
+        };
+        let found = summary.finish();
+        if at < head.count {
+            return Err(ProfileFault::Bad(cut_off(found, at)));
+        }
+        match found {
+            Ok(figures) => Ok(figures),
+            Err(fault) => Err(ProfileFault::Bad(fault)),
+        }
+    }
+}

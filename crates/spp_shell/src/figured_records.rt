@@ -1,0 +1,47 @@
+//! Finding the figures of a run from the records of its trace as they come.
+ghost use Rattle.spp_shell.specs.Figured.{IsFigured, figured_by};
+
+use crate::records::Records;
+use spp_crew::RecordFigures;
+use std::alloc::{AllocError, Global};
+use std::sync::Wait;
+use std::thread::Threads;
+
+/// The figures of the records that have come of a trace.
+#[derive(Drop)]
+pub(crate) struct FiguredRecords {
+    pub(crate) figures: RecordFigures,
+    pub(crate) alloc: Global,
+    /// How many workers there are, each of which reads a block.
+    pub(crate) workers: u32,
+}
+
+impl Records for FiguredRecords {
+    ghost seen_by = { figured_by };
+
+    ghost has_seen = { IsFigured };
+
+    fn followed_by<R: Threads + Wait + Sync>(
+        self,
+        rt: &R,
+        bytes: Vec<u8>,
+        len: usize,
+    ) -> Result<(Self, Vec<u8>), AllocError> {
+        let FiguredRecords {
+            figures,
+            alloc,
+            workers,
+        } = self;
+        let (figures, room) = figures.followed_by_block(rt, alloc, bytes, len, workers)?;
+        let records = FiguredRecords {
+            figures,
+            alloc,
+            workers,
+        };
+        Ok((records, room))
+    }
+
+    fn let_go<R: Threads + Wait + Sync>(self, rt: &R) {
+        self.figures.let_go(rt);
+    }
+}
