@@ -34,9 +34,9 @@ _spprof() {
             [[ -z $options ]] || mapfile -t COMPREPLY < <(compgen -W "$options" -- "$cur")
             return 0
             ;;
-        check | encode | migrate) options='-h --help' ;;
-        figures | compare) options='--burden --join-burden --parts --workers -h --help' ;;
-        profile) options='--burden --join-burden --parts --workers --csv -h --help' ;;
+        check | encode | migrate) options='--explain -h --help' ;;
+        figures | compare) options='--burden --join-burden --parts --workers --explain -h --help' ;;
+        profile) options='--burden --join-burden --parts --workers --csv --explain -h --help' ;;
         *) return 0 ;;
     esac
     if [[ -z $command ]]; then

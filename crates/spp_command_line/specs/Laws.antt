@@ -8,19 +8,23 @@ use Rattle.clap.specs.declared.error.kind.ErrorKind.{ErrorKind}
 use Rattle.clap.specs.declared.error.kind.ErrorKind.TheVariants.{DisplayHelp, DisplayVersion, MissingRequiredArgument, MissingSubcommand, UnknownArgument, ValueValidation}
 use Rattle.spp_request.specs.declared.request.Command.{Command}
 use Rattle.spp_request.specs.declared.request.Command.TheVariants.{Check, Figures, Profile, Compare, Encode, Migrate}
-use Rattle.spp_request.specs.declared.request.Request.{Request}
 use Rattle.spp_maxplus.specs.declared.state.Burdens.{Burdens}
 use Rattle.spp_maxplus.specs.State.{equal}
 use Rattle.spp_command_line.specs.Spprof.{spprof}
-use Rattle.spp_command_line.specs.Usage.{Gives, IsRequestOf, spoken}
+use Rattle.spp_command_line.specs.declared.asked.Asked.{Asked}
+use Rattle.spp_command_line.specs.Usage.{Gives, IsAskedBy, spoken}
 
--- the words have no fault, they give a request these values, and no request of them has others
-abbrev pub Ask : List Text → Command → List Text → Burdens → ℕ → ℕ → Bool → Type 0
-Ask words command files burdens parts workers csv =
+-- the words have no fault, they ask for these values, and nothing that they ask for has others
+abbrev pub AskFor : List Text → Command → List Text → Burdens → ℕ → ℕ → Bool → Bool → Type 0
+AskFor words command files burdens parts workers csv explain =
     (fault_of spprof (spoken (codes "spprof" ∷ words)) ≡ [])
-    × ((r : Request) → IsRequestOf (subcommand_of spprof (spoken (codes "spprof" ∷ words))) r
-    → (r.command ≡ command) × (map string_bytes r.files.items ≡ files) × (r.burdens ≡ burdens) × (r.parts ≡ parts) × (r.workers ≡ workers) × (r.csv ≡ csv))
-    × Gives (subcommand_of spprof (spoken (codes "spprof" ∷ words))) command files burdens parts workers csv
+    × ((a : Asked) → IsAskedBy (subcommand_of spprof (spoken (codes "spprof" ∷ words))) a
+    → (a.request.command ≡ command) × (map string_bytes a.request.files.items ≡ files) × (a.request.burdens ≡ burdens) × (a.request.parts ≡ parts) × (a.request.workers ≡ workers) × (a.request.csv ≡ csv) × (a.explain ≡ explain))
+    × Gives (subcommand_of spprof (spoken (codes "spprof" ∷ words))) command files burdens parts workers csv explain
+
+-- the same of words that ask for no explanation
+abbrev pub Ask : List Text → Command → List Text → Burdens → ℕ → ℕ → Bool → Type 0
+Ask words command files burdens parts workers csv = AskFor words command files burdens parts workers csv false
 
 -- the words have just this fault
 abbrev pub Fail : List Text → ErrorKind → Type 0
@@ -67,6 +71,16 @@ ProfileAsCsv = Ask (codes "profile" ∷ codes "--csv" ∷ codes "-" ∷ []) Prof
 abbrev pub ProfileByWorkers : Type 0
 ProfileByWorkers =
     Ask (codes "profile" ∷ codes "--workers" ∷ codes "2" ∷ codes "--parts=7" ∷ codes "a" ∷ []) Profile (codes "a" ∷ []) (equal 15000) 7 2 false
+
+-- every command explains its faults where it is asked to, before its file as behind it
+abbrev pub Explained : Type 0
+Explained =
+    AskFor (codes "check" ∷ codes "--explain" ∷ []) Check [] (equal 15000) 16 4 false true
+    × AskFor (codes "figures" ∷ codes "--explain" ∷ []) Figures [] (equal 15000) 16 4 false true
+    × AskFor (codes "profile" ∷ codes "--explain" ∷ codes "--csv" ∷ codes "a" ∷ []) Profile (codes "a" ∷ []) (equal 15000) 16 4 true true
+    × AskFor (codes "compare" ∷ codes "a" ∷ codes "b" ∷ codes "--explain" ∷ []) Compare (codes "a" ∷ codes "b" ∷ []) (equal 15000) 16 4 false true
+    × AskFor (codes "encode" ∷ codes "a" ∷ codes "--explain" ∷ []) Encode (codes "a" ∷ []) (equal 15000) 16 4 false true
+    × AskFor (codes "migrate" ∷ codes "--explain" ∷ []) Migrate [] (equal 15000) 16 4 false true
 
 -- --join-burden alone leaves the burden of continuation edges as it is
 abbrev pub JoinBurden : Type 0

@@ -54,6 +54,10 @@ workers_rule = record (new_rule (codes "workers")) {
 abbrev pub csv_rule : Rule
 csv_rule = record (new_rule (codes "csv")) { long = Some (codes "csv"); action = Some SetTrue }
 
+-- --explain, which takes no value
+abbrev pub explain_rule : Rule
+explain_rule = record (new_rule (codes "explain")) { long = Some (codes "explain"); action = Some SetTrue }
+
 -- a command over one file, with its options
 abbrev pub over_file : Text → List Rule → Shape
 over_file name options = record (new_shape name) { rules = file_rule ∷ options }
@@ -63,12 +67,12 @@ abbrev pub over_both : Text → List Rule → Shape
 over_both name options = record (new_shape name) { rules = input_rule (codes "BEFORE") ∷ input_rule (codes "AFTER") ∷ options }
 
 abbrev pub commands : List Shape
-commands = over_file (codes "check") []
-    ∷ over_file (codes "figures") (burden_rule ∷ join_burden_rule ∷ parts_rule ∷ workers_rule ∷ [])
-    ∷ over_file (codes "profile") (burden_rule ∷ join_burden_rule ∷ parts_rule ∷ workers_rule ∷ csv_rule ∷ [])
-    ∷ over_both (codes "compare") (burden_rule ∷ join_burden_rule ∷ parts_rule ∷ workers_rule ∷ [])
-    ∷ over_file (codes "encode") []
-    ∷ over_file (codes "migrate") []
+commands = over_file (codes "check") (explain_rule ∷ [])
+    ∷ over_file (codes "figures") (burden_rule ∷ join_burden_rule ∷ parts_rule ∷ workers_rule ∷ explain_rule ∷ [])
+    ∷ over_file (codes "profile") (burden_rule ∷ join_burden_rule ∷ parts_rule ∷ workers_rule ∷ csv_rule ∷ explain_rule ∷ [])
+    ∷ over_both (codes "compare") (burden_rule ∷ join_burden_rule ∷ parts_rule ∷ workers_rule ∷ explain_rule ∷ [])
+    ∷ over_file (codes "encode") (explain_rule ∷ [])
+    ∷ over_file (codes "migrate") (explain_rule ∷ [])
     ∷ []
 
 -- the command line: --version beside --help, one of the commands is wanted, and no word `help` is one

@@ -11,9 +11,9 @@ use Rattle.clap.specs.declared.error.kind.ErrorKind.TheVariants.{DisplayHelp, Di
 use Rattle.spp_maxplus.specs.declared.state.Burdens.{Burdens}
 use Rattle.spp_request.specs.declared.request.Command.{Command}
 use Rattle.spp_request.specs.declared.request.Command.TheVariants.{Check, Figures, Profile, Compare, Encode, Migrate}
-use Rattle.spp_request.specs.declared.request.Request.{Request}
 use Rattle.spp_request.specs.declared.request.UsageFault.{UsageFault}
 use Rattle.spp_request.specs.declared.request.UsageFault.TheVariants.{Shown, Memory}
+use Rattle.spp_command_line.specs.declared.asked.Asked.{Asked}
 
 -- the words as they are handed to `clap`: `help` before one more word asks for the help of that command, and alone for all
 -- help; the first word is the program's name
@@ -86,16 +86,18 @@ AreBurdens rows b =
 
 -- what `clap` found, a command's name and the texts of its arguments, gives a request these values; an argument that the
 -- command hasn't got, as --parts has none at `check`, has no text
-abbrev pub Gives : Option (Text × List Row) → Command → List Text → Burdens → ℕ → ℕ → Bool → Type 0
-Gives None command files burdens parts workers csv = ⊥
-Gives (Some (name, rows)) command files burdens parts workers csv =
+abbrev pub Gives : Option (Text × List Row) → Command → List Text → Burdens → ℕ → ℕ → Bool → Bool → Type 0
+Gives None command files burdens parts workers csv explain = ⊥
+Gives (Some (name, rows)) command files burdens parts workers csv explain =
     IsNamed name command
     × (files ≡ paths_of (first_of (codes "FILE") rows) (first_of (codes "BEFORE") rows) (first_of (codes "AFTER") rows))
     × AreBurdens rows burdens
     × IsNumberOr 1 65536 16 (one_of (codes "parts") rows) parts
     × IsNumberOr 1 64 4 (one_of (codes "workers") rows) workers
     × IsFlag (one_of (codes "csv") rows) csv
+    × IsFlag (one_of (codes "explain") rows) explain
 
--- the request is what `clap` found
-abbrev pub IsRequestOf : Option (Text × List Row) → Request → Type 0
-IsRequestOf found r = Gives found r.command (map string_bytes r.files.items) r.burdens r.parts r.workers r.csv
+-- what is asked for is what `clap` found
+abbrev pub IsAskedBy : Option (Text × List Row) → Asked → Type 0
+IsAskedBy found a =
+    Gives found a.request.command (map string_bytes a.request.files.items) a.request.burdens a.request.parts a.request.workers a.request.csv a.explain

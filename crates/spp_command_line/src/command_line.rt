@@ -2,7 +2,7 @@
 
 ghost use Rattle.std.specs.Prelude.{◌≡◌, ◌∷◌, [], IfOk, false, codes};
 ghost use Rattle.clap.specs.Words.{app_of, rule_of};
-ghost use Rattle.spp_command_line.specs.Spprof.{IsAt, burden_rule, csv_rule, file_rule, input_rule, join_burden_rule, over_both, over_file, parts_rule, spprof, workers_rule};
+ghost use Rattle.spp_command_line.specs.Spprof.{IsAt, burden_rule, csv_rule, explain_rule, file_rule, input_rule, join_burden_rule, over_both, over_file, parts_rule, spprof, workers_rule};
 
 use clap::{Arg, ArgAction, Command, value_parser};
 use spp_cut::Parts;
@@ -29,7 +29,8 @@ const AFTER_HELP: &str = "'spprof help COMMAND' tells more about a command, with
 
 Exit status:
   0  the answer stands on standard output, whole
-  1  the input is no good trace or text; standard error says why in one line
+  1  the input is no good trace or text; standard error says why in one line, and
+     with --explain in a second one where, and what to do
   2  the command line is wrong
   3  a file or stream could not be read or written
   4  out of memory";
@@ -73,7 +74,7 @@ fn burden<'a>(alloc: Global) -> Arg<'a>
         .value_name("N")
         .value_parser(value_parser!(u32))
         .default_value(DEFAULT_BURDEN_WORD)
-        .help("Instructions that each edge past a spawned child and each edge of its return bears")
+        .help("What each edge past a spawned child and each edge of its return bears, in the trace's unit")
 }
 
 /// The burden of the edges of returns alone. It has no default, since `--burden` decides where it isn't given.
@@ -86,7 +87,7 @@ fn join_burden<'a>(alloc: Global) -> Arg<'a>
         .value_name("N")
         .value_parser(value_parser!(u32))
         .help(
-            "Instructions that each edge of a spawned child's return bears; without it, what --burden says",
+            "What each edge of a spawned child's return bears, in the trace's unit; without it, what --burden says",
         )
 }
 
@@ -117,7 +118,7 @@ fn workers<'a>(alloc: Global) -> Arg<'a>
         .value_name("N")
         .value_parser(value_parser!(u32).range(1..=most))
         .default_value(DEFAULT_WORKERS_WORD)
-        .help("Threads that work on the parts, 1 to 64; the answer is the same for each number")
+        .help("Threads that share the work, 1 to 64; the answer is the same for each number")
 }
 
 /// Whether the values of the tables are asked for alone.
@@ -131,8 +132,21 @@ fn csv<'a>(alloc: Global) -> Arg<'a>
         .help("Print the tables alone, as comma-separated values")
 }
 
+/// Whether a line of fault is to be explained.
+fn explain<'a>(alloc: Global) -> Arg<'a>
+    ensures rule { rule_of result ≡ explain_rule }
+    ensures local { result.global ≡ false }
+{
+    Arg::new(alloc, "explain")
+        .long("explain")
+        .action(ArgAction::SetTrue)
+        .help(
+            "Explain a fault in a second line: what was found and where, what was expected, what to do",
+        )
+}
+
 fn check<'a>(alloc: Global) -> Result<Command<'a>, AllocError>
-    ensures { IfOk result (IsAt (over_file (codes "check") [])) }
+    ensures { IfOk result (IsAt (over_file (codes "check") (explain_rule ∷ []))) }
 {
     command_over(
         alloc,
@@ -143,7 +157,8 @@ fn check<'a>(alloc: Global) -> Result<Command<'a>, AllocError>
   spprof check run.trace
 
 'spprof help' lists the exit statuses",
-    )
+    )?
+    .arg(explain(alloc))
 }
 
 /// A command over one trace, with the options of commands that go by parts of it.
@@ -163,7 +178,7 @@ fn command_by_parts<'a>(
 }
 
 fn figures<'a>(alloc: Global) -> Result<Command<'a>, AllocError>
-    ensures { IfOk result (IsAt (over_file (codes "figures") (burden_rule ∷ join_burden_rule ∷ parts_rule ∷ workers_rule ∷ []))) }
+    ensures { IfOk result (IsAt (over_file (codes "figures") (burden_rule ∷ join_burden_rule ∷ parts_rule ∷ workers_rule ∷ explain_rule ∷ []))) }
 {
     command_by_parts(
         alloc,
@@ -173,11 +188,12 @@ fn figures<'a>(alloc: Global) -> Result<Command<'a>, AllocError>
   spprof figures --burden 1000 run.trace
 
 'spprof help' lists the exit statuses",
-    )
+    )?
+    .arg(explain(alloc))
 }
 
 fn profile<'a>(alloc: Global) -> Result<Command<'a>, AllocError>
-    ensures { IfOk result (IsAt (over_file (codes "profile") (burden_rule ∷ join_burden_rule ∷ parts_rule ∷ workers_rule ∷ csv_rule ∷ []))) }
+    ensures { IfOk result (IsAt (over_file (codes "profile") (burden_rule ∷ join_burden_rule ∷ parts_rule ∷ workers_rule ∷ csv_rule ∷ explain_rule ∷ []))) }
 {
     command_by_parts(
         alloc,
@@ -188,7 +204,8 @@ fn profile<'a>(alloc: Global) -> Result<Command<'a>, AllocError>
 
 'spprof help' lists the exit statuses",
     )?
-    .arg(csv(alloc))
+    .arg(csv(alloc))?
+    .arg(explain(alloc))
 }
 
 /// A command over two files, both of which must be named: the trace of a run before a change, and that of a run after
@@ -208,10 +225,26 @@ fn command_over_both<'a>(
         .arg(input(alloc, "AFTER", "The trace of the run after it"))
 }
 
-fn compare<'a>(alloc: Global) -> Result<Command<'a>, AllocError>
-    ensures { IfOk result (IsAt (over_both (codes "compare") (burden_rule ∷ join_burden_rule ∷ parts_rule ∷ workers_rule ∷ []))) }
+/// A command over two files, with the options of commands that go by parts of a trace.
+fn command_over_both_by_parts<'a>(
+    alloc: Global,
+    name: &'a str,
+    about: &'a str,
+    example: &'a str,
+) -> Result<Command<'a>, AllocError>
+    ensures { IfOk result (IsAt (over_both name.now (burden_rule ∷ join_burden_rule ∷ parts_rule ∷ workers_rule ∷ []))) }
 {
-    command_over_both(
+    command_over_both(alloc, name, about, example)?
+        .arg(burden(alloc))?
+        .arg(join_burden(alloc))?
+        .arg(parts(alloc))?
+        .arg(workers(alloc))
+}
+
+fn compare<'a>(alloc: Global) -> Result<Command<'a>, AllocError>
+    ensures { IfOk result (IsAt (over_both (codes "compare") (burden_rule ∷ join_burden_rule ∷ parts_rule ∷ workers_rule ∷ explain_rule ∷ []))) }
+{
+    command_over_both_by_parts(
         alloc,
         "compare",
         "Print the figures and the call sites of two runs beside each other",
@@ -220,14 +253,11 @@ fn compare<'a>(alloc: Global) -> Result<Command<'a>, AllocError>
 
 'spprof help' lists the exit statuses",
     )?
-    .arg(burden(alloc))?
-    .arg(join_burden(alloc))?
-    .arg(parts(alloc))?
-    .arg(workers(alloc))
+    .arg(explain(alloc))
 }
 
 fn encode<'a>(alloc: Global) -> Result<Command<'a>, AllocError>
-    ensures { IfOk result (IsAt (over_file (codes "encode") [])) }
+    ensures { IfOk result (IsAt (over_file (codes "encode") (explain_rule ∷ []))) }
 {
     command_over(
         alloc,
@@ -238,11 +268,12 @@ fn encode<'a>(alloc: Global) -> Result<Command<'a>, AllocError>
   spprof encode run.txt > run.trace
 
 'spprof help' lists the exit statuses",
-    )
+    )?
+    .arg(explain(alloc))
 }
 
 fn migrate<'a>(alloc: Global) -> Result<Command<'a>, AllocError>
-    ensures { IfOk result (IsAt (over_file (codes "migrate") [])) }
+    ensures { IfOk result (IsAt (over_file (codes "migrate") (explain_rule ∷ []))) }
 {
     command_over(
         alloc,
@@ -253,7 +284,8 @@ fn migrate<'a>(alloc: Global) -> Result<Command<'a>, AllocError>
   spprof migrate run.trace > run.compact
 
 'spprof help' lists the exit statuses",
-    )
+    )?
+    .arg(explain(alloc))
 }
 
 /// The whole command line. It lives as long as the words that it is to read.

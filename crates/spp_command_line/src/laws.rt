@@ -1,5 +1,5 @@
 //! What words of a command line ask for.
-ghost use Rattle.spp_command_line.specs.Laws.{CommandAlone, CompareBoth, CompareInParts, Dash, FiguresInParts, GreatBurdens, Help, HelpBefore, JoinBurden, NoCommand, NoCompare, NoParts, NoWorkers, OneWord, ProfileAsCsv, ProfileByWorkers, TwoBurdens, TwoWords, Version};
+ghost use Rattle.spp_command_line.specs.Laws.{CommandAlone, CompareBoth, CompareInParts, Dash, Explained, FiguresInParts, GreatBurdens, Help, HelpBefore, JoinBurden, NoCommand, NoCompare, NoParts, NoWorkers, OneWord, ProfileAsCsv, ProfileByWorkers, TwoBurdens, TwoWords, Version};
 
 /// What the definitions say of words: of some shapes of words, and of lists of words worked by hand. Its contract is what
 /// it is for.
@@ -10,6 +10,7 @@ pub fn word_laws()
     ensures figures_in_parts { FiguresInParts }
     ensures profile_as_csv { ProfileAsCsv }
     ensures profile_by_workers { ProfileByWorkers }
+    ensures explained { Explained }
     ensures join_burden { JoinBurden }
     ensures two_burdens { TwoBurdens }
     ensures great_burdens { GreatBurdens }

@@ -7,9 +7,11 @@ ghost use Rattle.clap.specs.declared.error.kind.ErrorKind.TheVariants.{MissingSu
 ghost use Rattle.spp_request.specs.declared.request.UsageFault.TheVariants.{Memory};
 ghost use Rattle.spp_request.specs.declared.request.Command.{Command};
 ghost use Rattle.spp_command_line.specs.Spprof.{spprof};
-ghost use Rattle.spp_command_line.specs.Usage.{EndsBy, IsNamed, IsRequestOf, paths_of, spoken};
+ghost use Rattle.spp_command_line.specs.Usage.{EndsBy, IsAskedBy, IsNamed, paths_of, spoken};
 
+use crate::asked::Asked;
 use crate::command_line::{DEFAULT_BURDEN, command_line};
+use crate::tips::text_in_place;
 use clap::Error;
 use clap::error::ErrorKind;
 use spp_cut::Parts;
@@ -18,8 +20,8 @@ use spp_request::{Command, Request, UsageFault, Workers};
 use std::alloc::{AllocError, Global};
 use std::convert::AsStr;
 
-/// What the user is shown where `clap` gives no matches.
-fn shown(alloc: Global, error: Error) -> UsageFault
+/// What the user is shown where `clap` gives no matches for the words.
+fn shown<S: AsStr>(alloc: Global, words: &[S], error: Error) -> UsageFault
     ensures ends { EndsBy (kind_of error ∷ []) result }
     ensures memory { kind_of error ≡ OutOfMemory → result ≡ Memory }
 {
@@ -27,8 +29,14 @@ fn shown(alloc: Global, error: Error) -> UsageFault
         return UsageFault::Memory;
     }
     let status = if error.use_stderr() { 2 } else { 0 };
-    match error.to_string(alloc) {
-        Ok(text) => UsageFault::Shown { text, status },
+    let Ok(text) = error.to_string(alloc) else {
+        return UsageFault::Memory;
+    };
+    match text_in_place(alloc, words, text.as_str()) {
+        Ok(own) => UsageFault::Shown {
+            text: own.unwrap_or(text),
+            status,
+        },
         Err(_) => UsageFault::Memory,
     }
 }
@@ -106,15 +114,15 @@ fn turn_help_into_option(words: &mut Vec<&str>)
     }
 }
 
-/// Reads a request from words as `clap` is to read them.
-fn read_spoken<S: AsStr>(alloc: Global, words: &[S]) -> Result<Request, UsageFault>
-    ensures found { IfOk result (IsRequestOf (subcommand_of spprof (map S.text words.now))) }
+/// Reads what is asked for from words as `clap` is to read them.
+fn read_spoken<S: AsStr>(alloc: Global, words: &[S]) -> Result<Asked, UsageFault>
+    ensures found { IfOk result (IsAskedBy (subcommand_of spprof (map S.text words.now))) }
     ensures good { IfOk result (λ _. fault_of spprof (map S.text words.now) ≡ []) }
     ensures refused { IfErr result (EndsBy (fault_of spprof (map S.text words.now))) }
 {
     let matches = match command_line(alloc)?.try_get_matches_from(words) {
         Ok(matches) => matches,
-        Err(error) => return Err(shown(alloc, error)),
+        Err(error) => return Err(shown(alloc, words, error)),
     };
     let Some((name, given)) = matches.subcommand() else {
         return Err(no_command(alloc));
@@ -131,28 +139,32 @@ fn read_spoken<S: AsStr>(alloc: Global, words: &[S]) -> Result<Request, UsageFau
     let parts = given.get_one::<u32>("parts").and_then(Parts::new);
     let workers = given.get_one::<u32>("workers").and_then(Workers::new);
     let (before, after) = (given.get_str("BEFORE"), given.get_str("AFTER"));
-    Ok(Request {
-        command,
-        files: paths(alloc, given.get_str("FILE"), before, after)?,
-        burdens,
-        parts: parts.unwrap_or_default(),
-        workers: workers.unwrap_or_default(),
-        csv: given.get_flag("csv"),
+    Ok(Asked {
+        request: Request {
+            command,
+            files: paths(alloc, given.get_str("FILE"), before, after)?,
+            burdens,
+            parts: parts.unwrap_or_default(),
+            workers: workers.unwrap_or_default(),
+            csv: given.get_flag("csv"),
+        },
+        explain: given.get_flag("explain"),
     })
 }
 
-/// Reads a request from the words of a command line, of which the first is the program's name. A request is what `clap`
-/// finds in the words, which are then without fault; a text is shown where they have a fault, and with its status. Both
-/// are by `clap`'s definitions, for the command line `spprof` of specs; `word_laws` says what they make of some words.
+/// Reads what the words of a command line ask for, of which the first is the program's name. It is what `clap` finds in
+/// the words, which are then without fault; a text is shown where they have a fault, and with its status. Both are by
+/// `clap`'s definitions, for the command line `spprof` of specs; `word_laws` says what they make of some words.
 /// `help COMMAND` is read as `COMMAND --help`.
 ///
-/// The texts of help and usage are those of `clap`: which text is shown isn't said, and tests compare them.
+/// The texts of help and usage are those of `clap`, but where its advice would mislead (`tips`): which text is shown isn't
+/// said, and tests compare them.
 ///
 /// # Errors
 ///
 /// The text that the user is to be shown, or that an allocation failed.
-pub fn read_request<S: AsStr>(alloc: Global, words: &[S]) -> Result<Request, UsageFault>
-    ensures found { IfOk result (IsRequestOf (subcommand_of spprof (spoken (map S.text words.now)))) }
+pub fn read_request<S: AsStr>(alloc: Global, words: &[S]) -> Result<Asked, UsageFault>
+    ensures found { IfOk result (IsAskedBy (subcommand_of spprof (spoken (map S.text words.now)))) }
     ensures good { IfOk result (λ _. fault_of spprof (spoken (map S.text words.now)) ≡ []) }
     ensures refused { IfErr result (EndsBy (fault_of spprof (spoken (map S.text words.now)))) }
 {

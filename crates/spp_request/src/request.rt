@@ -33,13 +33,13 @@ pub struct Request {
     /// The paths of its inputs, in order: two to compare, the run before and the run after; else one, or none where
     /// standard input is read.
     pub files: Vec<String>,
-    /// What continuation edges and return edges bear, in instructions: 15,000 where no number is given, and the same on
+    /// What continuation edges and return edges bear, in the trace's unit: 15,000 where no number is given, and the same on
     /// both where none is given for return edges alone.
     pub burdens: Burdens,
     /// Into how many parts each trace is cut, which changes no answer; 16 where no number is given.
     pub parts: Parts,
-    /// How many workers answer, which changes no answer; 4 where no number is given. Only commands that go by parts of
-    /// a trace have them.
+    /// How many workers answer, which changes no answer; 4 where no number is given. Only commands that share a trace among
+    /// threads have them.
     pub workers: Workers,
     /// Whether comma-separated values are asked for.
     pub csv: bool,

@@ -12,7 +12,7 @@ use Rattle.spp_command_line.specs.Laws.{Ask, CommandAlone, Dash, Fail, Help, Hel
 use Rattle.clap.proofs.OnLiterals.{clap_on_literals}
 use Rattle.spp_request.specs.declared.request.Command.{Command}
 use Rattle.spp_request.specs.declared.request.Command.TheVariants.{Check, Figures, Profile, Compare, Encode, Migrate}
-use Rattle.spp_command_line.specs.Usage.{Gives, IsFlag, IsNamed, IsNumberIn, IsNumberOr, IsRequestOf, number_of, paths_of}
+use Rattle.spp_command_line.specs.Usage.{Gives, IsAskedBy, IsFlag, IsNamed, IsNumberIn, IsNumberOr, number_of, paths_of}
 use Rattle.clap.specs.declared.error.kind.ErrorKind.TheVariants.{DisplayHelp}
 use Rattle.spp_command_line.proofs.laws.word_laws.Goals as goal
 
@@ -185,26 +185,37 @@ flag_on = ((λ e. cc), bad, (λ e. refl))
 
 pub returns-clause-figures_in_parts : goal.returns-clause-figures_in_parts
 unfolding clap_on_literals
-returns-clause-figures_in_parts c = (refl, (λ r h. (is_figures r.command h.0, h.1, as_given r.burdens (h.2.0.0 burden_7, h.2.1), h.3.0 parts_4, h.4.0 workers_unsaid, h.5.0 refl)), (refl, refl, (spells (codes "7") burden_7, refl), spells (codes "4") parts_4, spells (codes "4") workers_unsaid, no_flag))
+returns-clause-figures_in_parts c = (refl, (λ a h. (is_figures a.request.command h.0, h.1, as_given a.request.burdens (h.2.0.0 burden_7, h.2.1), h.3.0 parts_4, h.4.0 workers_unsaid, h.5.0 refl, h.6.1 refl)), (refl, refl, (spells (codes "7") burden_7, refl), spells (codes "4") parts_4, spells (codes "4") workers_unsaid, no_flag, flag_off))
 
 pub returns-clause-profile_as_csv : goal.returns-clause-profile_as_csv
 unfolding clap_on_literals
-returns-clause-profile_as_csv c = (refl, (λ r h. (is_profile r.command h.0, h.1, as_given r.burdens (h.2.0.0 burden_unsaid, h.2.1), h.3.0 parts_unsaid, h.4.0 workers_unsaid, h.5.2 refl)), (refl, refl, (spells (codes "15000") burden_unsaid, refl), spells (codes "16") parts_unsaid, spells (codes "4") workers_unsaid, flag_on))
+returns-clause-profile_as_csv c = (refl, (λ a h. (is_profile a.request.command h.0, h.1, as_given a.request.burdens (h.2.0.0 burden_unsaid, h.2.1), h.3.0 parts_unsaid, h.4.0 workers_unsaid, h.5.2 refl, h.6.1 refl)), (refl, refl, (spells (codes "15000") burden_unsaid, refl), spells (codes "16") parts_unsaid, spells (codes "4") workers_unsaid, flag_on, flag_off))
 
 pub returns-clause-profile_by_workers : goal.returns-clause-profile_by_workers
 unfolding clap_on_literals
 returns-clause-profile_by_workers c = (
   refl,
-  (λ r h. (is_profile r.command h.0, h.1, as_given r.burdens (h.2.0.0 burden_unsaid, h.2.1), h.3.0 parts_7, h.4.0 workers_2, h.5.1 refl)),
-  (refl, refl, (spells (codes "15000") burden_unsaid, refl), spells (codes "7") parts_7, spells (codes "2") workers_2, flag_off),
+  (λ a h. (is_profile a.request.command h.0, h.1, as_given a.request.burdens (h.2.0.0 burden_unsaid, h.2.1), h.3.0 parts_7, h.4.0 workers_2, h.5.1 refl, h.6.1 refl)),
+  (refl, refl, (spells (codes "15000") burden_unsaid, refl), spells (codes "7") parts_7, spells (codes "2") workers_2, flag_off, flag_off),
+)
+
+pub returns-clause-explained : goal.returns-clause-explained
+unfolding clap_on_literals
+returns-clause-explained c = (
+  (refl, (λ a h. (is_check a.request.command h.0, h.1, as_given a.request.burdens h.2, h.3, h.4, h.5.0 refl, h.6.2 refl)), (refl, refl, (refl, refl), refl, refl, no_flag, flag_on)),
+  (refl, (λ a h. (is_figures a.request.command h.0, h.1, as_given a.request.burdens (h.2.0.0 burden_unsaid, h.2.1), h.3.0 parts_unsaid, h.4.0 workers_unsaid, h.5.0 refl, h.6.2 refl)), (refl, refl, (spells (codes "15000") burden_unsaid, refl), spells (codes "16") parts_unsaid, spells (codes "4") workers_unsaid, no_flag, flag_on)),
+  (refl, (λ a h. (is_profile a.request.command h.0, h.1, as_given a.request.burdens (h.2.0.0 burden_unsaid, h.2.1), h.3.0 parts_unsaid, h.4.0 workers_unsaid, h.5.2 refl, h.6.2 refl)), (refl, refl, (spells (codes "15000") burden_unsaid, refl), spells (codes "16") parts_unsaid, spells (codes "4") workers_unsaid, flag_on, flag_on)),
+  (refl, (λ a h. (is_compare a.request.command h.0, h.1, as_given a.request.burdens (h.2.0.0 burden_unsaid, h.2.1), h.3.0 parts_unsaid, h.4.0 workers_unsaid, h.5.0 refl, h.6.2 refl)), (refl, refl, (spells (codes "15000") burden_unsaid, refl), spells (codes "16") parts_unsaid, spells (codes "4") workers_unsaid, no_flag, flag_on)),
+  (refl, (λ a h. (is_encode a.request.command h.0, h.1, as_given a.request.burdens h.2, h.3, h.4, h.5.0 refl, h.6.2 refl)), (refl, refl, (refl, refl), refl, refl, no_flag, flag_on)),
+  (refl, (λ a h. (is_migrate a.request.command h.0, h.1, as_given a.request.burdens h.2, h.3, h.4, h.5.0 refl, h.6.2 refl)), (refl, refl, (refl, refl), refl, refl, no_flag, flag_on)),
 )
 
 pub returns-clause-join_burden : goal.returns-clause-join_burden
 unfolding clap_on_literals
 returns-clause-join_burden c = (
   refl,
-  (λ r h. (is_figures r.command h.0, h.1, each_given r.burdens (h.2.0.0 burden_unsaid) (h.2.1.0 burden_3), h.3.0 parts_unsaid, h.4.0 workers_unsaid, h.5.0 refl)),
-  (refl, refl, (spells (codes "15000") burden_unsaid, spells (codes "3") burden_3), spells (codes "16") parts_unsaid, spells (codes "4") workers_unsaid, no_flag),
+  (λ a h. (is_figures a.request.command h.0, h.1, each_given a.request.burdens (h.2.0.0 burden_unsaid) (h.2.1.0 burden_3), h.3.0 parts_unsaid, h.4.0 workers_unsaid, h.5.0 refl, h.6.1 refl)),
+  (refl, refl, (spells (codes "15000") burden_unsaid, spells (codes "3") burden_3), spells (codes "16") parts_unsaid, spells (codes "4") workers_unsaid, no_flag, flag_off),
 )
 
 pub returns-clause-two_burdens : goal.returns-clause-two_burdens
@@ -212,24 +223,24 @@ unfolding clap_on_literals
 returns-clause-two_burdens c = (
   (
     refl,
-    (λ r h. (is_profile r.command h.0, h.1, each_given r.burdens (h.2.0.0 burden_3) (h.2.1.0 burden_0), h.3.0 parts_unsaid, h.4.0 workers_unsaid, h.5.1 refl)),
-    (refl, refl, (spells (codes "3") burden_3, spells (codes "0") burden_0), spells (codes "16") parts_unsaid, spells (codes "4") workers_unsaid, flag_off),
+    (λ a h. (is_profile a.request.command h.0, h.1, each_given a.request.burdens (h.2.0.0 burden_3) (h.2.1.0 burden_0), h.3.0 parts_unsaid, h.4.0 workers_unsaid, h.5.1 refl, h.6.1 refl)),
+    (refl, refl, (spells (codes "3") burden_3, spells (codes "0") burden_0), spells (codes "16") parts_unsaid, spells (codes "4") workers_unsaid, flag_off, flag_off),
   ),
   (
     refl,
-    (λ r h. (is_profile r.command h.0, h.1, each_given r.burdens (h.2.0.0 burden_3) (h.2.1.0 burden_0), h.3.0 parts_unsaid, h.4.0 workers_unsaid, h.5.1 refl)),
-    (refl, refl, (spells (codes "3") burden_3, spells (codes "0") burden_0), spells (codes "16") parts_unsaid, spells (codes "4") workers_unsaid, flag_off),
+    (λ a h. (is_profile a.request.command h.0, h.1, each_given a.request.burdens (h.2.0.0 burden_3) (h.2.1.0 burden_0), h.3.0 parts_unsaid, h.4.0 workers_unsaid, h.5.1 refl, h.6.1 refl)),
+    (refl, refl, (spells (codes "3") burden_3, spells (codes "0") burden_0), spells (codes "16") parts_unsaid, spells (codes "4") workers_unsaid, flag_off, flag_off),
   ),
 )
 
 pub returns-clause-great_burdens : goal.returns-clause-great_burdens
 unfolding clap_on_literals
 returns-clause-great_burdens c = (
-  (refl, (λ r h. (is_figures r.command h.0, h.1, as_given r.burdens (h.2.0.0 burden_most, h.2.1), h.3.0 parts_unsaid, h.4.0 workers_unsaid, h.5.0 refl)), (refl, refl, (spells (codes "4294967295") burden_most, refl), spells (codes "16") parts_unsaid, spells (codes "4") workers_unsaid, no_flag)),
+  (refl, (λ a h. (is_figures a.request.command h.0, h.1, as_given a.request.burdens (h.2.0.0 burden_most, h.2.1), h.3.0 parts_unsaid, h.4.0 workers_unsaid, h.5.0 refl, h.6.1 refl)), (refl, refl, (spells (codes "4294967295") burden_most, refl), spells (codes "16") parts_unsaid, spells (codes "4") workers_unsaid, no_flag, flag_off)),
   (
     refl,
-    (λ r h. (is_figures r.command h.0, h.1, each_given r.burdens (h.2.0.0 burden_0) (h.2.1.0 burden_most), h.3.0 parts_unsaid, h.4.0 workers_unsaid, h.5.0 refl)),
-    (refl, refl, (spells (codes "0") burden_0, spells (codes "4294967295") burden_most), spells (codes "16") parts_unsaid, spells (codes "4") workers_unsaid, no_flag),
+    (λ a h. (is_figures a.request.command h.0, h.1, each_given a.request.burdens (h.2.0.0 burden_0) (h.2.1.0 burden_most), h.3.0 parts_unsaid, h.4.0 workers_unsaid, h.5.0 refl, h.6.1 refl)),
+    (refl, refl, (spells (codes "0") burden_0, spells (codes "4294967295") burden_most), spells (codes "16") parts_unsaid, spells (codes "4") workers_unsaid, no_flag, flag_off),
   ),
   refl,
   refl,
@@ -261,66 +272,66 @@ unsaid id value how = record { id = id; values = value ∷ []; count = None; sou
 one_check : (x : ℕ) (rest : Text) → (x == 45) ≡ false → Ask (codes "check" ∷ (x ∷ rest) ∷ []) Check ((x ∷ rest) ∷ []) (equal 15000) 16 4 false
 unfolding clap_on_literals given unsaid
 one_check x rest plain =
-    let rows : List Row = given (codes "FILE") ((x ∷ rest) ∷ []) ∷ [] in
+    let rows : List Row = given (codes "FILE") ((x ∷ rest) ∷ []) ∷ unsaid (codes "explain") (codes "false") AsWritten ∷ [] in
     let found : subcommand_of spprof (codes "spprof" ∷ codes "check" ∷ (x ∷ rest) ∷ []) ≡ Some (codes "check", rows) = simp plain in
     let path : paths_of (Some (x ∷ rest)) None None ≡ (x ∷ rest) ∷ [] = simp plain in (
       simp plain,
-      (λ r h.
-          let q : IsRequestOf (Some (codes "check", rows)) r = subst (λ o. IsRequestOf o r) found h in
-          (is_check r.command q.0, q.1 ∙ path, as_given r.burdens q.2, q.3, q.4, q.5.0 refl)),
-      subst (λ o. Gives o Check ((x ∷ rest) ∷ []) (equal 15000) 16 4 false) (sym found) (refl, sym path, (refl, refl), refl, refl, no_flag),
+      (λ a h.
+          let q : IsAskedBy (Some (codes "check", rows)) a = subst (λ o. IsAskedBy o a) found h in
+          (is_check a.request.command q.0, q.1 ∙ path, as_given a.request.burdens q.2, q.3, q.4, q.5.0 refl, q.6.1 refl)),
+      subst (λ o. Gives o Check ((x ∷ rest) ∷ []) (equal 15000) 16 4 false false) (sym found) (refl, sym path, (refl, refl), refl, refl, no_flag, flag_off),
     )
 
 one_figures : (x : ℕ) (rest : Text) → (x == 45) ≡ false → Ask (codes "figures" ∷ (x ∷ rest) ∷ []) Figures ((x ∷ rest) ∷ []) (equal 15000) 16 4 false
 unfolding clap_on_literals given unsaid
 one_figures x rest plain =
-    let rows : List Row = given (codes "FILE") ((x ∷ rest) ∷ []) ∷ unsaid (codes "burden") (codes "15000") WithoutMinus ∷ unsaid (codes "parts") (codes "16") WithoutMinus ∷ unsaid (codes "workers") (codes "4") WithoutMinus ∷ [] in
+    let rows : List Row = given (codes "FILE") ((x ∷ rest) ∷ []) ∷ unsaid (codes "burden") (codes "15000") WithoutMinus ∷ unsaid (codes "parts") (codes "16") WithoutMinus ∷ unsaid (codes "workers") (codes "4") WithoutMinus ∷ unsaid (codes "explain") (codes "false") AsWritten ∷ [] in
     let found : subcommand_of spprof (codes "spprof" ∷ codes "figures" ∷ (x ∷ rest) ∷ []) ≡ Some (codes "figures", rows) = simp plain in
     let path : paths_of (Some (x ∷ rest)) None None ≡ (x ∷ rest) ∷ [] = simp plain in (
       simp plain,
-      (λ r h.
-          let q : IsRequestOf (Some (codes "figures", rows)) r = subst (λ o. IsRequestOf o r) found h in
-          (is_figures r.command q.0, q.1 ∙ path, as_given r.burdens (q.2.0.0 burden_unsaid, q.2.1), q.3.0 parts_unsaid, q.4.0 workers_unsaid, q.5.0 refl)),
-      subst (λ o. Gives o Figures ((x ∷ rest) ∷ []) (equal 15000) 16 4 false) (sym found) (refl, sym path, (spells (codes "15000") burden_unsaid, refl), spells (codes "16") parts_unsaid, spells (codes "4") workers_unsaid, no_flag),
+      (λ a h.
+          let q : IsAskedBy (Some (codes "figures", rows)) a = subst (λ o. IsAskedBy o a) found h in
+          (is_figures a.request.command q.0, q.1 ∙ path, as_given a.request.burdens (q.2.0.0 burden_unsaid, q.2.1), q.3.0 parts_unsaid, q.4.0 workers_unsaid, q.5.0 refl, q.6.1 refl)),
+      subst (λ o. Gives o Figures ((x ∷ rest) ∷ []) (equal 15000) 16 4 false false) (sym found) (refl, sym path, (spells (codes "15000") burden_unsaid, refl), spells (codes "16") parts_unsaid, spells (codes "4") workers_unsaid, no_flag, flag_off),
     )
 
 one_profile : (x : ℕ) (rest : Text) → (x == 45) ≡ false → Ask (codes "profile" ∷ (x ∷ rest) ∷ []) Profile ((x ∷ rest) ∷ []) (equal 15000) 16 4 false
 unfolding clap_on_literals given unsaid
 one_profile x rest plain =
-    let rows : List Row = given (codes "FILE") ((x ∷ rest) ∷ []) ∷ unsaid (codes "burden") (codes "15000") WithoutMinus ∷ unsaid (codes "parts") (codes "16") WithoutMinus ∷ unsaid (codes "workers") (codes "4") WithoutMinus ∷ unsaid (codes "csv") (codes "false") AsWritten ∷ [] in
+    let rows : List Row = given (codes "FILE") ((x ∷ rest) ∷ []) ∷ unsaid (codes "burden") (codes "15000") WithoutMinus ∷ unsaid (codes "parts") (codes "16") WithoutMinus ∷ unsaid (codes "workers") (codes "4") WithoutMinus ∷ unsaid (codes "csv") (codes "false") AsWritten ∷ unsaid (codes "explain") (codes "false") AsWritten ∷ [] in
     let found : subcommand_of spprof (codes "spprof" ∷ codes "profile" ∷ (x ∷ rest) ∷ []) ≡ Some (codes "profile", rows) = simp plain in
     let path : paths_of (Some (x ∷ rest)) None None ≡ (x ∷ rest) ∷ [] = simp plain in (
       simp plain,
-      (λ r h.
-          let q : IsRequestOf (Some (codes "profile", rows)) r = subst (λ o. IsRequestOf o r) found h in
-          (is_profile r.command q.0, q.1 ∙ path, as_given r.burdens (q.2.0.0 burden_unsaid, q.2.1), q.3.0 parts_unsaid, q.4.0 workers_unsaid, q.5.1 refl)),
-      subst (λ o. Gives o Profile ((x ∷ rest) ∷ []) (equal 15000) 16 4 false) (sym found) (refl, sym path, (spells (codes "15000") burden_unsaid, refl), spells (codes "16") parts_unsaid, spells (codes "4") workers_unsaid, flag_off),
+      (λ a h.
+          let q : IsAskedBy (Some (codes "profile", rows)) a = subst (λ o. IsAskedBy o a) found h in
+          (is_profile a.request.command q.0, q.1 ∙ path, as_given a.request.burdens (q.2.0.0 burden_unsaid, q.2.1), q.3.0 parts_unsaid, q.4.0 workers_unsaid, q.5.1 refl, q.6.1 refl)),
+      subst (λ o. Gives o Profile ((x ∷ rest) ∷ []) (equal 15000) 16 4 false false) (sym found) (refl, sym path, (spells (codes "15000") burden_unsaid, refl), spells (codes "16") parts_unsaid, spells (codes "4") workers_unsaid, flag_off, flag_off),
     )
 
 one_encode : (x : ℕ) (rest : Text) → (x == 45) ≡ false → Ask (codes "encode" ∷ (x ∷ rest) ∷ []) Encode ((x ∷ rest) ∷ []) (equal 15000) 16 4 false
 unfolding clap_on_literals given unsaid
 one_encode x rest plain =
-    let rows : List Row = given (codes "FILE") ((x ∷ rest) ∷ []) ∷ [] in
+    let rows : List Row = given (codes "FILE") ((x ∷ rest) ∷ []) ∷ unsaid (codes "explain") (codes "false") AsWritten ∷ [] in
     let found : subcommand_of spprof (codes "spprof" ∷ codes "encode" ∷ (x ∷ rest) ∷ []) ≡ Some (codes "encode", rows) = simp plain in
     let path : paths_of (Some (x ∷ rest)) None None ≡ (x ∷ rest) ∷ [] = simp plain in (
       simp plain,
-      (λ r h.
-          let q : IsRequestOf (Some (codes "encode", rows)) r = subst (λ o. IsRequestOf o r) found h in
-          (is_encode r.command q.0, q.1 ∙ path, as_given r.burdens q.2, q.3, q.4, q.5.0 refl)),
-      subst (λ o. Gives o Encode ((x ∷ rest) ∷ []) (equal 15000) 16 4 false) (sym found) (refl, sym path, (refl, refl), refl, refl, no_flag),
+      (λ a h.
+          let q : IsAskedBy (Some (codes "encode", rows)) a = subst (λ o. IsAskedBy o a) found h in
+          (is_encode a.request.command q.0, q.1 ∙ path, as_given a.request.burdens q.2, q.3, q.4, q.5.0 refl, q.6.1 refl)),
+      subst (λ o. Gives o Encode ((x ∷ rest) ∷ []) (equal 15000) 16 4 false false) (sym found) (refl, sym path, (refl, refl), refl, refl, no_flag, flag_off),
     )
 
 one_migrate : (x : ℕ) (rest : Text) → (x == 45) ≡ false → Ask (codes "migrate" ∷ (x ∷ rest) ∷ []) Migrate ((x ∷ rest) ∷ []) (equal 15000) 16 4 false
 unfolding clap_on_literals given unsaid
 one_migrate x rest plain =
-    let rows : List Row = given (codes "FILE") ((x ∷ rest) ∷ []) ∷ [] in
+    let rows : List Row = given (codes "FILE") ((x ∷ rest) ∷ []) ∷ unsaid (codes "explain") (codes "false") AsWritten ∷ [] in
     let found : subcommand_of spprof (codes "spprof" ∷ codes "migrate" ∷ (x ∷ rest) ∷ []) ≡ Some (codes "migrate", rows) = simp plain in
     let path : paths_of (Some (x ∷ rest)) None None ≡ (x ∷ rest) ∷ [] = simp plain in (
       simp plain,
-      (λ r h.
-          let q : IsRequestOf (Some (codes "migrate", rows)) r = subst (λ o. IsRequestOf o r) found h in
-          (is_migrate r.command q.0, q.1 ∙ path, as_given r.burdens q.2, q.3, q.4, q.5.0 refl)),
-      subst (λ o. Gives o Migrate ((x ∷ rest) ∷ []) (equal 15000) 16 4 false) (sym found) (refl, sym path, (refl, refl), refl, refl, no_flag),
+      (λ a h.
+          let q : IsAskedBy (Some (codes "migrate", rows)) a = subst (λ o. IsAskedBy o a) found h in
+          (is_migrate a.request.command q.0, q.1 ∙ path, as_given a.request.burdens q.2, q.3, q.4, q.5.0 refl, q.6.1 refl)),
+      subst (λ o. Gives o Migrate ((x ∷ rest) ∷ []) (equal 15000) 16 4 false false) (sym found) (refl, sym path, (refl, refl), refl, refl, no_flag, flag_off),
     )
 
 pub returns-clause-one_word : goal.returns-clause-one_word
@@ -348,24 +359,24 @@ returns-clause-two_words c = two_words
 
 alone : CommandAlone
 unfolding clap_on_literals
-alone Check over = (refl, (λ r h. (is_check r.command h.0, h.1, as_given r.burdens h.2, h.3, h.4, h.5.0 refl)), (refl, refl, (refl, refl), refl, refl, no_flag))
-alone Figures over = (refl, (λ r h. (is_figures r.command h.0, h.1, as_given r.burdens (h.2.0.0 burden_unsaid, h.2.1), h.3.0 parts_unsaid, h.4.0 workers_unsaid, h.5.0 refl)), (refl, refl, (spells (codes "15000") burden_unsaid, refl), spells (codes "16") parts_unsaid, spells (codes "4") workers_unsaid, no_flag))
-alone Profile over = (refl, (λ r h. (is_profile r.command h.0, h.1, as_given r.burdens (h.2.0.0 burden_unsaid, h.2.1), h.3.0 parts_unsaid, h.4.0 workers_unsaid, h.5.1 refl)), (refl, refl, (spells (codes "15000") burden_unsaid, refl), spells (codes "16") parts_unsaid, spells (codes "4") workers_unsaid, flag_off))
+alone Check over = (refl, (λ a h. (is_check a.request.command h.0, h.1, as_given a.request.burdens h.2, h.3, h.4, h.5.0 refl, h.6.1 refl)), (refl, refl, (refl, refl), refl, refl, no_flag, flag_off))
+alone Figures over = (refl, (λ a h. (is_figures a.request.command h.0, h.1, as_given a.request.burdens (h.2.0.0 burden_unsaid, h.2.1), h.3.0 parts_unsaid, h.4.0 workers_unsaid, h.5.0 refl, h.6.1 refl)), (refl, refl, (spells (codes "15000") burden_unsaid, refl), spells (codes "16") parts_unsaid, spells (codes "4") workers_unsaid, no_flag, flag_off))
+alone Profile over = (refl, (λ a h. (is_profile a.request.command h.0, h.1, as_given a.request.burdens (h.2.0.0 burden_unsaid, h.2.1), h.3.0 parts_unsaid, h.4.0 workers_unsaid, h.5.1 refl, h.6.1 refl)), (refl, refl, (spells (codes "15000") burden_unsaid, refl), spells (codes "16") parts_unsaid, spells (codes "4") workers_unsaid, flag_off, flag_off))
 alone Compare over = absurd over
-alone Encode over = (refl, (λ r h. (is_encode r.command h.0, h.1, as_given r.burdens h.2, h.3, h.4, h.5.0 refl)), (refl, refl, (refl, refl), refl, refl, no_flag))
-alone Migrate over = (refl, (λ r h. (is_migrate r.command h.0, h.1, as_given r.burdens h.2, h.3, h.4, h.5.0 refl)), (refl, refl, (refl, refl), refl, refl, no_flag))
+alone Encode over = (refl, (λ a h. (is_encode a.request.command h.0, h.1, as_given a.request.burdens h.2, h.3, h.4, h.5.0 refl, h.6.1 refl)), (refl, refl, (refl, refl), refl, refl, no_flag, flag_off))
+alone Migrate over = (refl, (λ a h. (is_migrate a.request.command h.0, h.1, as_given a.request.burdens h.2, h.3, h.4, h.5.0 refl, h.6.1 refl)), (refl, refl, (refl, refl), refl, refl, no_flag, flag_off))
 
 pub returns-clause-command_alone : goal.returns-clause-command_alone
 returns-clause-command_alone c = alone
 
 dash : Dash
 unfolding clap_on_literals
-dash Check over = (refl, (λ r h. (is_check r.command h.0, h.1, as_given r.burdens h.2, h.3, h.4, h.5.0 refl)), (refl, refl, (refl, refl), refl, refl, no_flag))
-dash Figures over = (refl, (λ r h. (is_figures r.command h.0, h.1, as_given r.burdens (h.2.0.0 burden_unsaid, h.2.1), h.3.0 parts_unsaid, h.4.0 workers_unsaid, h.5.0 refl)), (refl, refl, (spells (codes "15000") burden_unsaid, refl), spells (codes "16") parts_unsaid, spells (codes "4") workers_unsaid, no_flag))
-dash Profile over = (refl, (λ r h. (is_profile r.command h.0, h.1, as_given r.burdens (h.2.0.0 burden_unsaid, h.2.1), h.3.0 parts_unsaid, h.4.0 workers_unsaid, h.5.1 refl)), (refl, refl, (spells (codes "15000") burden_unsaid, refl), spells (codes "16") parts_unsaid, spells (codes "4") workers_unsaid, flag_off))
+dash Check over = (refl, (λ a h. (is_check a.request.command h.0, h.1, as_given a.request.burdens h.2, h.3, h.4, h.5.0 refl, h.6.1 refl)), (refl, refl, (refl, refl), refl, refl, no_flag, flag_off))
+dash Figures over = (refl, (λ a h. (is_figures a.request.command h.0, h.1, as_given a.request.burdens (h.2.0.0 burden_unsaid, h.2.1), h.3.0 parts_unsaid, h.4.0 workers_unsaid, h.5.0 refl, h.6.1 refl)), (refl, refl, (spells (codes "15000") burden_unsaid, refl), spells (codes "16") parts_unsaid, spells (codes "4") workers_unsaid, no_flag, flag_off))
+dash Profile over = (refl, (λ a h. (is_profile a.request.command h.0, h.1, as_given a.request.burdens (h.2.0.0 burden_unsaid, h.2.1), h.3.0 parts_unsaid, h.4.0 workers_unsaid, h.5.1 refl, h.6.1 refl)), (refl, refl, (spells (codes "15000") burden_unsaid, refl), spells (codes "16") parts_unsaid, spells (codes "4") workers_unsaid, flag_off, flag_off))
 dash Compare over = absurd over
-dash Encode over = (refl, (λ r h. (is_encode r.command h.0, h.1, as_given r.burdens h.2, h.3, h.4, h.5.0 refl)), (refl, refl, (refl, refl), refl, refl, no_flag))
-dash Migrate over = (refl, (λ r h. (is_migrate r.command h.0, h.1, as_given r.burdens h.2, h.3, h.4, h.5.0 refl)), (refl, refl, (refl, refl), refl, refl, no_flag))
+dash Encode over = (refl, (λ a h. (is_encode a.request.command h.0, h.1, as_given a.request.burdens h.2, h.3, h.4, h.5.0 refl, h.6.1 refl)), (refl, refl, (refl, refl), refl, refl, no_flag, flag_off))
+dash Migrate over = (refl, (λ a h. (is_migrate a.request.command h.0, h.1, as_given a.request.burdens h.2, h.3, h.4, h.5.0 refl, h.6.1 refl)), (refl, refl, (refl, refl), refl, refl, no_flag, flag_off))
 
 pub returns-clause-dash : goal.returns-clause-dash
 returns-clause-dash c = dash
@@ -404,16 +415,16 @@ pub returns-clause-compare_both : goal.returns-clause-compare_both
 unfolding clap_on_literals
 returns-clause-compare_both c = (
   refl,
-  (λ r h. (is_compare r.command h.0, h.1, as_given r.burdens (h.2.0.0 burden_unsaid, h.2.1), h.3.0 parts_unsaid, h.4.0 workers_unsaid, h.5.0 refl)),
-  (refl, refl, (spells (codes "15000") burden_unsaid, refl), spells (codes "16") parts_unsaid, spells (codes "4") workers_unsaid, no_flag),
+  (λ a h. (is_compare a.request.command h.0, h.1, as_given a.request.burdens (h.2.0.0 burden_unsaid, h.2.1), h.3.0 parts_unsaid, h.4.0 workers_unsaid, h.5.0 refl, h.6.1 refl)),
+  (refl, refl, (spells (codes "15000") burden_unsaid, refl), spells (codes "16") parts_unsaid, spells (codes "4") workers_unsaid, no_flag, flag_off),
 )
 
 pub returns-clause-compare_in_parts : goal.returns-clause-compare_in_parts
 unfolding clap_on_literals
 returns-clause-compare_in_parts c = (
   refl,
-  (λ r h. (is_compare r.command h.0, h.1, each_given r.burdens (h.2.0.0 burden_3) (h.2.1.0 burden_0), h.3.0 parts_7, h.4.0 workers_2, h.5.0 refl)),
-  (refl, refl, (spells (codes "3") burden_3, spells (codes "0") burden_0), spells (codes "7") parts_7, spells (codes "2") workers_2, no_flag),
+  (λ a h. (is_compare a.request.command h.0, h.1, each_given a.request.burdens (h.2.0.0 burden_3) (h.2.1.0 burden_0), h.3.0 parts_7, h.4.0 workers_2, h.5.0 refl, h.6.1 refl)),
+  (refl, refl, (spells (codes "3") burden_3, spells (codes "0") burden_0), spells (codes "7") parts_7, spells (codes "2") workers_2, no_flag, flag_off),
 )
 
 pub returns-clause-no_compare : goal.returns-clause-no_compare

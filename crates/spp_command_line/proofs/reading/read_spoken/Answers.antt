@@ -1,13 +1,14 @@
 use Rattle.std.proofs.Common.{◌∙◌, ap, ap₂, sym, subst, refl, map, codes, List, ℕ, unwrap_or, arith}
 use Rattle.std.specs.Str.Parse.{ExplainsUnsignedError, HasUnsignedDigitsIfOk, ParsesUnsigned}
-use Rattle.clap.specs.Walk.{Text, one_of, rows_of}
+use Rattle.clap.specs.Walk.{Text, rows_of}
 use Rattle.clap.specs.Matches.{found_of}
 use Rattle.clap.specs.Simple.{App, is_simple, subcommand_of}
 use Rattle.clap.specs.Faults.{fault_of, is_simple_and_free}
 use Rattle.clap.proofs.WalkLemmas.{first_value-rows, one_text-rows}
 use Rattle.spp_maxplus.specs.declared.state.Burdens.{Burdens}
 use Rattle.spp_request.specs.declared.request.Request.{Request}
-use Rattle.spp_command_line.specs.Usage.{AreBurdens, EndsBy, IsNamed, IsNumberOr, IsRequestOf, paths_of}
+use Rattle.spp_command_line.specs.Usage.{AreBurdens, EndsBy, IsAskedBy}
+use Rattle.spp_command_line.specs.declared.asked.Asked.{Asked}
 use Rattle.spp_command_line.proofs.Matches.{entered_both, command_named, shown_among, spprof_free, spprof_simple, burden_read, count_read}
 use Rattle.spp_command_line.proofs.reading.read_spoken.Goals as goal
 
@@ -41,6 +42,7 @@ returns-clause-found g c =
     let parts = one_text-rows f (codes "parts") in
     let workers = one_text-rows f (codes "workers") in
     let csv = one_text-rows f (codes "csv") in
+    let explain = one_text-rows f (codes "explain") in
     let said = c.unwrap_or-burden.ensures in
     let joined = c.unwrap_or-join_burden.ensures ∙ ap (unwrap_or c.get_one-2.result) said in
     let r : Request = record {
@@ -51,7 +53,8 @@ returns-clause-found g c =
       workers = c.unwrap_or_default-2.result;
       csv = c.get_flag.result;
     } in
-    subst (λ o. IsRequestOf o r) here (
+    let a : Asked = record { request = r; explain = c.get_flag-2.result } in
+    subst (λ o. IsAskedBy o a) here (
       c.in-Some-command_of.ensures.named,
       c.in_ok-paths.ensures
           ∙ rw (c.get_str.ensures ∙ first_value-rows f (codes "FILE"), c.get_str-before.ensures ∙ first_value-rows f (codes "BEFORE"), c.get_str-after.ensures ∙ first_value-rows f (codes "AFTER")) refl,
@@ -67,6 +70,11 @@ returns-clause-found g c =
         (λ e. c.get_flag.ensures.none (csv ∙ e)),
         (λ e. c.get_flag.ensures.other (csv ∙ e)),
         (λ e. c.get_flag.ensures.value (csv ∙ e)),
+      ),
+      (
+        (λ e. c.get_flag-2.ensures.none (explain ∙ e)),
+        (λ e. c.get_flag-2.ensures.other (explain ∙ e)),
+        (λ e. c.get_flag-2.ensures.value (explain ∙ e)),
       ),
     )
 
