@@ -58,6 +58,11 @@ static void *run_macros(void *unused) {
     return unused;
 }
 
+static void *start_again(void *unused) {
+    REC_START("in a thread");
+    return unused;
+}
+
 static volatile long sum;
 
 static void *run_plain(void *unused) {
@@ -80,11 +85,18 @@ static void misuse(const char *word) {
     if (strcmp(word, "in longjmp to the end") == 0 && setjmp(out) == 0) jump(3);
     if (strcmp(word, "in thread") == 0 && run_thread(run_macros) != 0) exit(9);
     if (strcmp(word, "in plain thread") == 0 && run_thread(run_plain) != 0) exit(9);
+    if (strcmp(word, "start in thread") == 0 && run_thread(start_again) != 0) exit(9);
+    if (strcmp(word, "start beside") == 0) {
+        pthread_t thread;
+        if (pthread_create(&thread, NULL, start_again, NULL) != 0) exit(9);
+        for (;;) REC_CALL("main: beside", "fib", sum = fib(3)); /* until the thread ends the program */
+    }
     if (strcmp(word, "in call") == 0) sum = call_plainly(5);
     if (strcmp(word, "in start") == 0) REC_START("main");
     if (strcmp(word, "in name") == 0) REC_CALL("", "f", fib(3));
     if (strcmp(word, "in function") == 0) REC_CALL("main: f", name, fib(3));
     if (strcmp(word, "in root") == 0) REC_CALL("(root)", "f", fib(3));
+    if (strcmp(word, "in text") == 0) REC_CALL("tab\t", "f", fib(3));
     if (strcmp(word, "in finish") == 0) REC_SPAWN("main: finish", "f", REC_FINISH());
 }
 
@@ -99,7 +111,7 @@ static void leave(int number) {
 
 int main(int argc, char **argv) {
     const char *end = argc > 1 ? argv[1] : "finish";
-    if (strcmp(end, "atexit") == 0 && atexit(finish) != 0) return 1;
+    if (strncmp(end, "atexit", 6) == 0 && atexit(finish) != 0) return 1;
     if (strcmp(end, "signal") == 0) {
         signal(SIGXFSZ, leave);
         signal(SIGTERM, leave);
@@ -111,6 +123,7 @@ int main(int argc, char **argv) {
     misuse(end);
     if (argc > 2 && system(argv[2]) != 0) return 1;
     if (strcmp(end, "atexit") == 0) return 0;
+    if (strcmp(end, "atexit after a fault") == 0) REC_CALL("", "atexit", fib(3));
     if (strcmp(end, "exit") == 0) exit(0);
     if (strcmp(end, "return") == 0) return 0;
     if (strcmp(end, "_exit") == 0) _exit(0);
@@ -123,5 +136,6 @@ int main(int argc, char **argv) {
     }
     REC_FINISH();
     if (strcmp(end, "finish twice") == 0) REC_FINISH();
+    if (strcmp(end, "start twice") == 0) REC_START("main");
     return 0;
 }

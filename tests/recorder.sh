@@ -53,7 +53,7 @@ lf=$'\n'
 small=$top/examples/small.sptrace
 record=$top/examples/record
 options=(-std=c11 -O2 -Wall -Wextra -Werror -Wno-unknown-pragmas)
-mkdir "$folder/record" && cp "$record"/*.[ch] "$record/record.sh" "$record/README.md" "$top"/tests/recorded.c "$top"/tests/tasks.c "$folder/record" || exit 1
+mkdir "$folder/record" && cp "$record"/*.[ch] "$record/record.sh" "$record/README.md" "$top"/tests/recorded.c "$top"/tests/right.c "$top"/tests/parts.c "$top"/tests/tasks.c "$folder/record" || exit 1
 unset SPTRACE SPPROF_TRACE SPPROF_VERSION OMP_NUM_THREADS OMP_THREAD_LIMIT
 
 # The macros, with spprof_record.c; what it counts depends on the compiler.
@@ -112,7 +112,19 @@ test_macros() {
         -e '/REC_CALL("main/i #pragma omp parallel\n#pragma omp single' fib.c
     run 'README.md: with pragmas, recorded' 0 '' '' bash -c "$(readme_command 'gcc -O2 -fsanitize-coverage=trace-pc fib.c .* -o fib_recorded') &&
         SPTRACE=fib.sptrace ./fib_recorded && cmp fib.sptrace fib_before.sptrace"
+    run 'README.md: no -fsanitize-coverage with -DREC_OFF' 1 '' '*__sanitizer_cov_trace_pc*' gcc -O2 -fsanitize-coverage=trace-pc -DREC_OFF fib.c -o out/off
     run 'README.md: with pragmas, on threads' 0 '' '' bash -c "$(readme_command 'gcc -O2 -fopenmp -DREC_OFF fib.c') && OMP_NUM_THREADS=2 ./fib_on_threads"
+    run 'README.md: one thread, for burden' 0 "*.* ms$lf" '' bash -c "$(readme_command 'gcc -O2 -DREC_OFF mergesort.c')"
+    if command -v g++ > /dev/null; then
+        cp fib_line.c fib.cpp
+        run 'README.md: C++' 0 '' '' bash -c "$(readme_command 'g++ -O2 -fsanitize') && $(readme_command 'gcc -O2 -c spprof') &&
+            $(readme_command 'g++ fib.o') && $(readme_command 'SPTRACE=fib')"
+        expect 'README.md: a trace of C++' 0 'work *' '' /dev/null check fib.sptrace
+        run 'the recorder: C++, warnings' 0 '' '' g++ -Wall -Wextra -Wshadow -Wpedantic -Werror -c fib.cpp -o out/fib.o
+        run 'the recorder: compiled as C++' 1 '' '*#error "compile the recorder with gcc or clang, as C*' g++ -x c++ -c spprof_record.c -o out/fib.o
+    else
+        echo 'recorder: SKIPPED C++: there is no g++'
+    fi
     [ "$(line_of 'REC_SPAWN("fib: first"' fib_line.c)" = "$(sed -n 's/^    spprof_record: fib.c:\([0-9]*\) .*/\1/p' README.md)" ]
     status=$?
     judge 'README.md: the line in its message' 0 '*' '*'
@@ -121,16 +133,26 @@ test_macros() {
         SPTRACE=$folder/told run "the recorder: $1" "$2" '' "spprof_record: recorded.c:$(line_of "$3" recorded.c) $4$lf" "$recorded" "$1"
     }
     by='its statement was left by return, break, continue, goto or an exception' jumped='its statement was left, as by longjmp'
-    named="a name needs 1 to 200 bytes of printable ASCII, and isn't (root): "
+    twice='it is reached twice, and may be only once in a run' thread='this is another thread than that of REC_START, so no trace was kept'
     told 'in return' 1 'REC_SPAWN("return:' "\"return: child\": $by"
     told 'in break' 1 'REC_SPAWN("break:' "\"break: child\": $by"
     told 'in longjmp' 1 'REC_CALL("jump:' "\"jump: deeper\": $jumped"
     told 'in longjmp to the end' 1 'REC_CALL("jump:' "\"jump: deeper\": REC_FINISH stands within it, or $jumped"
-    told 'in thread' 1 'REC_SPAWN("fib: first"' '"fib: first": this is another thread than that of REC_START, so no trace was kept'
-    told 'in start' 1 '"in start"' 'REC_START: it is reached twice'
-    told 'in name' 1 '"in name"' "\"\": $named"
-    told 'in function' 1 '"in function"' "\"main: f\": ${named}xxx*"
-    told 'in root' 1 '"in root"' "\"(root)\": $named(root)"
+    told 'in thread' 1 'REC_SPAWN("fib: first"' "\"fib: first\": $thread"
+    told 'start in thread' 1 'REC_START("in a thread")' "REC_START: $thread"
+    for run in {1..20}; do
+        SPTRACE=$folder/told timeout 10 "$recorded" 'start beside' > /dev/null 2>> "$folder/beside"
+    done
+    sort -u "$folder/beside" > "$folder/err"
+    judge 'the recorder: start beside what is recorded' 1 '*' \
+        "spprof_record: recorded.c:$(line_of 'REC_START("in a thread")' recorded.c) REC_START: $thread$lf"
+    told 'in start' 1 '"in start"' "REC_START: $twice, so no trace was kept"
+    told 'in name' 1 '"in name"' '"": a name is empty'
+    told 'in function' 1 '"in function"' '"main: f": a name has more than 200 bytes: xxx*'
+    told 'in root' 1 '"in root"' '"(root)": this name is spprof'"'"'s own: (root)'
+    told 'in text' 1 '"in text"' $'"tab\t": a name has bytes that are no printable ASCII: tab\t'
+    told 'atexit after a fault' 1 '"atexit after a fault"' '"": a name is empty'
+    SPPROF_VERSION=3 told finish 1 '    REC_START("main")' 'REC_START: SPPROF_VERSION must be 1 or 2, and is 3'
     told 'in finish' 1 '"in finish"' "\"main: finish\": REC_FINISH stands within it, or $jumped"
     told 'no start' 1 '"no start"' 'REC_FINISH: no REC_START came before it'
     told 'start within' 1 '"start within"' 'REC_START: it stands within a spawn or call'
@@ -138,12 +160,77 @@ test_macros() {
     status=$?
     : > "$folder/out" > "$folder/err"
     judge 'the recorder: nothing kept of these' 0 '' ''
-    told 'finish twice' 1 '"finish twice"' 'REC_FINISH: it is reached twice'
+    for word in finish start; do
+        rm -f "$folder/told"
+        told "$word twice" 1 "\"$word twice\"" "REC_${word^^}: $twice; the first trace was kept"
+        expect "the recorder: what $word twice keeps" 0 'work *' '' /dev/null check "$folder/told"
+    done
+    for version in '' 1; do
+        SPPROF_VERSION=$version SPTRACE=$folder/told run "the recorder: SPPROF_VERSION=$version" 0 '' '' "$recorded"
+        run "the recorder: SPPROF_VERSION=$version, its magic" 0 SPTRACE1 '' head -c 8 "$folder/told"
+    done
     SPTRACE=$folder/told run 'the recorder: in plain thread' 0 '' "spprof_record: recorded.c:* REC_FINISH: other threads have run too, and are not in the trace$lf" \
         "$recorded" 'in plain thread'
     expect 'the recorder: beside a plain thread' 0 'work *' '' "$folder/told" check
-    told 'in call' 0 'REC_SPAWN("plainly:' '"plainly: child": call_plainly was called without REC_CALL, so in the trace its children are those of main'
+    told 'in call' 0 'REC_SPAWN("plainly:' '"plainly: child": call_plainly was called without REC_CALL, so in the trace its children are those of main, where REC_START stands'
     expect 'the recorder: a call without REC_CALL' 0 'work *' '' /dev/null check "$folder/told"
+    # However a program is built, what the recorder tells of it is the same; of what is right, nothing.
+    gcc "${options[@]}" -c spprof_record.c -o out/r.o
+    as_built() { # NAME FILE MESSAGE WORDS..: of the program of this file, run with these words
+        local name=$1 file=$2 message=${3:+"4 spprof_record: $3$lf"} compiler level
+        shift 3
+        for compiler in gcc clang; do
+            command -v $compiler > /dev/null || continue
+            status=0
+            for level in 0 1 2 3; do
+                $compiler "${options[@]}" -O$level -Wshadow -fsanitize-coverage=trace-pc "$file" out/r.o -o out/built &&
+                    SPTRACE=out/built.sptrace out/built "$@" || status=1
+            done > "$folder/out" 2> "$folder/lines"
+            sort "$folder/lines" | uniq -c | sed 's/^ *//' > "$folder/err"
+            judge "the recorder: $name, $compiler" 0 '' "$message"
+        done
+    }
+    runs='was called without REC_CALL, so in the trace two runs of it are one frame' second='REC_CALL("fib: second", "fib", y = fib(n - 2));'
+    as_built 'what is right' right.c ''
+    as_built 'mergesort.c' mergesort.c '' after
+    sed "s/$second/y = fib(n - 2);/" fib_line.c > plain_last.c
+    as_built 'a recursion, with the plain call last' plain_last.c "plain_last.c:6 \"fib: first\": fib $runs"
+    sed -e "/$second/d" -e '/REC_SPAWN/i y = fib(n - 2);' fib_line.c > plain_first.c
+    as_built 'a recursion, with the plain call first' plain_first.c "plain_first.c:7 \"fib: first\": fib $runs"
+    sed 's/REC_CALL("sort: right", "sort", \(.*\));$/\1;/' mergesort.c > plain_sort.c
+    as_built 'mergesort.c with a plain call' plain_sort.c \
+        "plain_sort.c:$(line_of 'REC_SPAWN("sort: left"' plain_sort.c) \"sort: left\": sort $runs" before
+    sed -e 's/REC_START("main");/begin();/' -e 's/REC_FINISH();/end();/' -e '/^int main/i static void begin(void) { REC_START("main"); }' \
+        -e '/^int main/i static void end(void) { REC_FINISH(); }' fib_line.c > begin.c
+    as_built 'REC_START in a function of its own' begin.c "begin.c:$(line_of 'REC_CALL("main: fib"' begin.c) \"main: fib\": \
+main was called without REC_CALL, so in the trace its children are those of begin, where REC_START stands"
+    # Which of two functions was called plainly can't be seen.
+    printf '%s\n' '#include "spprof_record.h"' 'volatile int n; __attribute__((noinline)) static void leaf(void) { for (n = 0; n < 9;) n++; }' \
+        'static void prepare(void) { REC_SPAWN("prepare: a", "leaf", leaf()); REC_SYNC(); }' \
+        'static void step(void) { prepare(); REC_SPAWN("step: a", "leaf", leaf()); REC_SYNC(); }' \
+        'int main(void) { REC_START("main"); REC_CALL("main: step", "step", step()); REC_FINISH(); }' > helper.c
+    as_built 'a helper with a plain call' helper.c \
+        'helper.c:4 "step: a": step and prepare ran in one frame, so one of them was called without REC_CALL'
+    # Parts that were compiled without the option that counts.
+    parts() { # NAME MESSAGE COMPILER WORD ALONE WORK: the rest and the work are compiled with these options
+        local compiler=$3
+        $compiler "${options[@]}" $5 -c parts.c -o out/alone.o && $compiler "${options[@]}" $6 -DWORK -c parts.c -o out/work.o &&
+            $compiler out/alone.o out/work.o out/r.o -o out/parts
+        SPTRACE=out/parts.sptrace run "the recorder: $1, $compiler" 0 '' "${2:+"spprof_record: parts.c:$2$lf"}" out/parts "$4"
+    }
+    flag=-fsanitize-coverage=trace-pc
+    of_spawn="$(line_of 'REC_SPAWN("spawn: first"' parts.c) \"spawn: first\"" of_work="$(line_of 'REC_SPAWN("main: work"' parts.c) \"main: work\""
+    of_main="$(line_of 'REC_CALL("main: spawn"' parts.c) \"main: spawn\""
+    for compiler in gcc clang; do
+        command -v $compiler > /dev/null || continue
+        for word in work spawn; do
+            parts "all counts, $word" '' $compiler $word $flag $flag
+        done
+        parts 'work that does not count' "$of_work: no block was counted in its frames, though they took long: \
+what they run was compiled without $flag, as libraries are" $compiler work $flag ''
+        parts 'macros that do not count' "$of_spawn: this file was compiled without $flag, so its blocks aren't counted" $compiler spawn $flag ''
+        parts 'the rest does not count' "$of_main: this file was compiled without $flag, so its blocks aren't counted" $compiler spawn '' $flag
+    done
     gcc "${options[@]}" recorded.c spprof_record.c -pthread -o out/uncounted
     SPTRACE=$folder/uncounted run 'the recorder: nothing counted' 1 '' "spprof_record: recorded.c:* REC_FINISH: nothing was counted: *$lf" out/uncounted
     # The name of the variable, and the older one.
@@ -297,41 +384,58 @@ test_openmp() {
     local word line
     cd "$folder/record" || exit 1
     run 'openmp: the tool' 0 '' '' clang "${options[@]}" -fPIC -shared openmp.c spprof_record.c -o librecord.so
-    run 'openmp: the programs' 0 '' '' clang -std=c11 -O1 -g -Wall -Wextra -Werror -fopenmp tasks.c -o tasks
+    run 'openmp: the programs' 0 '' '' clang -std=c11 -O2 -g -Wall -Wextra -Werror -fopenmp tasks.c -o tasks
     under() { # THREADS WORDS..: runs the words under the tool
         OMP_NUM_THREADS=$1 OMP_TOOL_LIBRARIES=./librecord.so SPTRACE=tasks.sptrace timeout 20 "${@:2}"
     }
-    recorded_as() { # WORD RESULT LOW HIGH FRAMES..: what it prints, its parallelism in hundredths, and `frames mark function` each
-        local word=$1 low=$3 high=$4 frames count
+    rows() { # the rows of tasks.sptrace, each as how many frames it has and its name
+        "$spprof" profile tasks.sptrace | awk '/^whole dag/ { on = 1; next } /^$/ { on = 0 }
+            on { n = $1; for (i = 0; i < 8; i++) sub(/^ *[^ ]+ +/, ""); print n, $0 }'
+    }
+    # What the program prints, its parallelism in hundredths, and `frames mark function` each. The line is the mark's, or
+    # where $slack says so one of the next, as gcc has it.
+    recorded_as() { # WORD RESULT LOW HIGH FRAMES..
+        local word=$1 low=$3 high=$4 frames at
         rm -f tasks.sptrace
-        run "openmp: $word" 0 "$2$lf" "${told-}" under 1 ${program-./tasks} "$word"
-        "$spprof" profile tasks.sptrace > "$folder/profile"
+        run "openmp: ${program-./tasks} $word" 0 "$2$lf" "${told-}" under 1 ${program-./tasks} "$word"
+        rows > "$folder/rows"
         shift 4
         for frames in "$@" '1 region main parallel'; do
-            set -- $frames
-            count=$1 frames="tasks.c:$(line_of "/* ${2//_/ } */" tasks.c) ${*:3}"
-            [ "$count" -eq "$(awk -v name="$frames" '/^whole dag/ { on = 1 } /^$/ { on = 0 }
-                on { n = $1; for (i = 0; i < 8; i++) sub(/^ *[^ ]+ +/, ""); if ($0 == name) print n }' "$folder/profile")" ] 2> /dev/null
-            status=$?
-            cp "$folder/profile" "$folder/out" && : > "$folder/err"
-            judge "openmp: $word has $count of $frames" 0 '*' ''
+            read -r count mark name <<< "$frames"
+            at=$(line_of "/* ${mark//_/ } */" tasks.c)
+            status=1
+            for ((line = at; line <= at + ${slack-0}; line++)); do
+                ! grep -qxF "$(echo "$count" "tasks.c:$line" $name)" "$folder/rows" || status=0
+            done
+            cp "$folder/rows" "$folder/out" && : > "$folder/err"
+            judge "openmp: ${program-./tasks} $word has $frames" 0 '*' ''
         done
-        awk -v low="$low" -v high="$high" '/^parallelism/ { exit !(100 * $2 >= low && 100 * $2 <= high) }' "$folder/profile"
+        "$spprof" figures tasks.sptrace | awk -v low="$low" -v high="$high" '/^parallelism/ { exit !(100 * $2 >= low && 100 * $2 <= high) }'
         status=$?
-        judge "openmp: $word, parallelism" 0 '*' ''
+        judge "openmp: ${program-./tasks} $word, parallelism" 0 '*' ''
     }
-    recorded_as fib 987 200 8000 '1596 fib fib'
-    recorded_as queens 4 100 4000 '152 queens queens'
-    recorded_as sort 1 200 2500 '63 sort_left sort' '63 sort_right sort'
-    recorded_as lu 1 150 2000 '15 lu_row lu' '15 lu_column lu' '55 lu_inner lu'
-    recorded_as chain 1 100 110 '32 chain chain'
-    recorded_as flat 1 150 3300 '32 flat flat'
-    told="spprof_record: the trace leaves out dependences, *: 2${lf}spprof_record: the trace has loops *: 1$lf" \
-        recorded_as kinds 5 100 600 '1 if kinds' '1 final kinds' '4 taskloop kinds' '1 untied kinds' '1 out kinds' '1 in kinds'
-    expect 'openmp: a taskloop without a group' 0 '* 3 * taskloop nogroup*' '' /dev/null profile tasks.sptrace
-    # What if(0) and final make undeferred is called, not spawned.
-    run 'openmp: calls' 0 "3$lf" '' bash -c 'tail -c +$(($(stat -c %s tasks.sptrace) % 16 + 1)) tasks.sptrace |
-        od -An -v -tx1 -w16 | grep -c "^ 01 00 00 00"'
+    all_recorded() {
+        recorded_as fib 987 200 8000 '1596 fib fib'
+        recorded_as queens 4 100 4000 '152 queens queens'
+        recorded_as sort 1 150 2500 '63 sort_left sort' '63 sort_right sort'
+        recorded_as lu 1 150 2000 '15 lu_row lu' '15 lu_column lu' '55 lu_inner lu'
+        recorded_as chain 1 100 110 '32 chain chain'
+        recorded_as flat 1 150 3300 '32 flat flat'
+        recorded_as cut 144 110 1200 '143 cut_first cut' '143 cut_second cut'
+        recorded_as undeferred 1 100 150 '1 undeferred_first undeferred' '1 undeferred_second undeferred' \
+            '1 undeferred_final undeferred' '1 undeferred_included undeferred' '1 undeferred_within undeferred'
+        recorded_as turns 1 100 500 '1 turns_first turns' '3 turns_second turns'
+        recorded_as line 1 100 300 '1 line line' '1 line line #2'
+        told="spprof_record: the trace leaves out dependences, *: 2$lf${unseen-spprof_record: the trace has loops *: 1$lf}" \
+            recorded_as kinds 5 100 600 '1 if kinds' '1 final kinds' '1 included kinds' '4 taskloop kinds' \
+            "3 nogroup ${slack:+kinds}" '1 untied kinds' '1 out kinds' '1 in kinds'
+        # What if(0) and final make undeferred is called, not spawned.
+        run "openmp: ${program-./tasks}: calls" 0 "3$lf" '' bash -c 'tail -c +$(($(stat -c %s tasks.sptrace) % 16 + 1)) tasks.sptrace |
+            od -An -v -tx1 -w16 | grep -c "^ 01 00 00 00"'
+    }
+    all_recorded
+    recorded_as halves 1 100 1300 '13 halves halves'
+    expect 'openmp: a taskloop in halves, no group' 0 '* 1 * taskloop nogroup*' '' /dev/null profile tasks.sptrace
     recorded_as twice 0 100 1000
     recorded_as rest 1 100 200 '1 rest rest'
     [ "$("$spprof" check tasks.sptrace | cut -d ' ' -f 2)" -lt 100000000 ] # of 200 ms
@@ -343,13 +447,31 @@ test_openmp() {
     status=$?
     judge 'openmp: its magic' 0 '*' ''
     if command -v gcc > /dev/null; then
-        gcc -std=c11 -O1 -g -fopenmp tasks.c -o tasks_of_gcc
-        LD_PRELOAD=$(ldd tasks | awk '/libomp/ { print $3 }') program=./tasks_of_gcc recorded_as fib 987 200 8000 '1596 fib fib'
+        for level in 0 1 2 3; do
+            run "openmp: gcc -O$level" 0 '' '' gcc -std=c11 -O$level -g -fopenmp tasks.c -o tasks_of_gcc$level
+            LD_PRELOAD=$(ldd tasks | awk '/libomp/ { print $3 }') slack=2 unseen= program=./tasks_of_gcc$level all_recorded
+        done
     fi
+    # Names by function, which an edit leaves as they are, with numbers in the order of the lines.
+    SPPROF_NAMES=function run 'openmp: by function' 0 "1$lf" '' under 1 ./tasks turns
+    rows | sort > "$folder/out"
+    judge 'openmp: names by function' 0 "1 (root)${lf}1 tasks.c main parallel${lf}1 tasks.c turns${lf}3 tasks.c turns #2${lf}*" ''
+    mkdir edited && (echo && cat tasks.c) > edited/tasks.c
+    run 'openmp: an edited program' 0 '' '' clang -std=c11 -O2 -g -fopenmp edited/tasks.c -o edited/tasks
+    for names in 'function 7' 'line 1'; do
+        for program in ./tasks edited/tasks; do
+            SPPROF_NAMES=${names% *} under 1 $program undeferred > /dev/null
+            rows | grep -v '^count'
+        done 2> "$folder/err" | sort | uniq -d | wc -l > "$folder/out"
+        judge "openmp: rows that an edit leaves, by ${names% *}" 0 "${names#* }$lf" ''
+    done
+    unset program
     # Without lines, and without programs that tell names.
     clang -std=c11 -O1 -fopenmp tasks.c -o plain
     run 'openmp: no lines' 0 "987$lf" '' under 1 ./plain fib
-    expect 'openmp: names without lines' 0 '* plain+0x* fib*' '' /dev/null profile tasks.sptrace
+    expect 'openmp: names where lines are unknown' 0 '* plain+0x* fib*' '' /dev/null profile tasks.sptrace
+    SPPROF_NAMES=function run 'openmp: no lines, by function' 0 "987$lf" '' under 1 ./plain fib
+    expect 'openmp: names by function where lines are unknown' 0 '* plain fib*' '' /dev/null profile tasks.sptrace
     run 'openmp: nothing that tells names' 0 "987$lf" '' under 1 env PATH=/nowhere ./tasks fib
     expect 'openmp: names by module' 0 '* tasks+0x*' '' /dev/null profile tasks.sptrace
     # The names by llvm-symbolizer alone.
@@ -371,10 +493,18 @@ test_openmp() {
     run 'openmp: a folder that is missing' 3 '' 'spprof_record: cannot write no/trace, so no trace was kept: *' \
         env OMP_NUM_THREADS=1 OMP_TOOL_LIBRARIES=./librecord.so SPTRACE=no/trace ./tasks fib
     # The commands of README.md, and those of docs/TUNING.md that depend on the compiler or the hour.
-    cp tasks.c program.c
-    run 'README.md: OpenMP' 0 "987$lf" '' bash -c "$(readme_command 'clang -O2 -fPIC') && $(readme_command 'clang -O1 -g') &&
+    mkdir bin && ln -s "$spprof" bin/spprof && cp tasks.c program.c
+    run 'README.md: OpenMP' 0 "987$lf" '' bash -c "$(readme_command 'clang -O2 -fPIC') && $(readme_command 'clang -O2 -g') &&
         $(readme_command 'OMP_NUM_THREADS=1 OMP_TOOL') fib"
-    expect 'README.md: its trace' 0 'work *' '' out.sptrace check
+    run 'README.md: its profile' 0 'work *' '' env PATH="$PWD/bin:$PATH" bash -c "$(readme_command 'spprof profile out')"
+    run 'README.md: no trace' 0 '*Opening librecord.so... Failed: *' '' \
+        env OMP_TOOL_VERBOSE_INIT=stdout OMP_NUM_THREADS=1 OMP_TOOL_LIBRARIES=librecord.so ./program fib
+    run 'README.md: the least work' 0 "work * run.*${lf}work *" '' env PATH="$PWD/bin:$PATH" \
+        bash -c "$(readme_command 'export OMP_NUM') && set -- fib && $(readme_command 'for n in' | sed 's/program/& fib/')"
+    if command -v gcc > /dev/null; then
+        run "README.md: the tool by gcc" 0 '' '' bash -c "$(readme_command 'gcc -O2 -fPIC')"
+        run "README.md: the tool by gcc, run" 0 "1$lf" '' under 1 ./tasks undeferred
+    fi
     run 'README.md: burden' 0 "4 threads, *$lf--burden [0-9]* --join-burden [0-9]*$lf" '' \
         timeout 60 bash -c "$(readme_command 'clang -O2 -fopenmp burden.c') && $(readme_command 'OMP_NUM_THREADS=4 .\/burden')"
     while read -r line; do
@@ -385,7 +515,14 @@ test_openmp() {
     OMP_NUM_THREADS=2 run 'burden' 0 "2 threads, *$lf--burden [0-9]* --join-burden [0-9]*$lf" '' timeout 20 ./burden
     OMP_NUM_THREADS=2 run 'burden in another unit' 0 "2 threads, *$lf--burden [0-9]* --join-burden [0-9]*$lf" '' timeout 20 ./burden 1000000 0.1
     OMP_NUM_THREADS=1 run 'burden of one thread' 1 '' 'burden: one thread has no burden: *' ./burden
-    run 'burden, wrong words' 2 '' 'usage: *' ./burden 0 1
+    OMP_NUM_THREADS=1 run 'burden, one word' 2 '' 'usage: *' ./burden 1
+    for word in 0 -1 nan inf 1e999 72ms 85,460,022 '' x; do
+        OMP_NUM_THREADS=2 run "burden, WORK $word" 2 '' "burden: WORK and SECONDS must be numbers above 0, *; this is none: $word$lf" ./burden "$word" 1
+        OMP_NUM_THREADS=2 run "burden, SECONDS $word" 2 '' "burden: WORK and SECONDS must be numbers above 0, *; this is none: $word$lf" ./burden 1 "$word"
+    done
+    for words in '1 1' '1e300 1'; do
+        OMP_NUM_THREADS=2 run "burden $words" 2 '' "burden: the burdens must be whole numbers from 1 on, and are *: look at WORK and SECONDS$lf" ./burden $words
+    done
     run 'openmp: collatz.c' 0 '' '' clang "${options[@]}" -g -fopenmp collatz.c -o collatz
     for word in loop tree; do
         run "openmp: collatz $word" 0 "13255 has 275 steps$lf" '' under 1 ./collatz $word

@@ -148,7 +148,7 @@ static long kinds(long n) {
     }
 #pragma omp taskloop num_tasks(4) /* taskloop */
     for (int i = 0; i < 100; i++) spin(100);
-#pragma omp taskloop num_tasks(3) nogroup
+#pragma omp taskloop num_tasks(3) nogroup /* nogroup */
     for (int i = 0; i < 100; i++) spin(100);
 #pragma omp task untied mergeable /* untied */
     {
@@ -161,6 +161,63 @@ static long kinds(long n) {
     spin(100);
 #pragma omp taskwait
     return n;
+}
+
+/* Tasks that are run at once: below a cutoff, and each. */
+static long cut(long n) {
+    long x, y;
+    if (n < 2) return spin(20000), 1;
+#pragma omp task shared(x) if(n > 7) /* cut first */
+    x = cut(n - 1);
+#pragma omp task shared(y) if(n > 7) /* cut second */
+    y = cut(n - 2);
+#pragma omp taskwait
+    return x + y;
+}
+
+static long undeferred(void) {
+#pragma omp task if(0) /* undeferred first */
+    spin(200000);
+#pragma omp task if(0) /* undeferred second */
+    spin(200000);
+#pragma omp task final(1) /* undeferred final */
+    {
+#pragma omp task /* undeferred included */
+        spin(200000);
+#pragma omp task if(0) /* undeferred within */
+        spin(200000);
+    }
+    return 1;
+}
+
+/* Two tasks in one line. */
+#define SPIN_IN_TASK _Pragma("omp task") spin(20000)
+static long line(void) {
+    SPIN_IN_TASK; SPIN_IN_TASK; /* line */
+    return 1;
+}
+
+/* More tasks than ten for the one thread: the runtime makes one more, for half of them. */
+static long halves(void) {
+#pragma omp taskloop num_tasks(12) /* halves */
+    for (int i = 0; i < 24; i++) spin(20000);
+#pragma omp taskloop num_tasks(12) nogroup
+    for (int i = 0; i < 24; i++) spin(100);
+    return 1;
+}
+
+/* The task of the later line runs first. */
+static long turns(void) {
+    for (int i = 3; i >= 0; i--) {
+        if (i == 0) {
+#pragma omp task /* turns first */
+            spin(20000);
+        } else {
+#pragma omp task /* turns second */
+            spin(20000);
+        }
+    }
+    return 1;
 }
 
 /* A thread that waits doesn't work. */
@@ -198,6 +255,11 @@ int main(int argc, char **argv) {
             if (strcmp(word, "chain") == 0) result = chain();
             if (strcmp(word, "flat") == 0) result = flat();
             if (strcmp(word, "kinds") == 0) result = kinds(5);
+            if (strcmp(word, "cut") == 0) result = cut(11);
+            if (strcmp(word, "undeferred") == 0) result = undeferred();
+            if (strcmp(word, "line") == 0) result = line();
+            if (strcmp(word, "turns") == 0) result = turns();
+            if (strcmp(word, "halves") == 0) result = halves();
             if (strcmp(word, "rest") == 0) result = rest();
             if (strcmp(word, "exit") == 0) exit(3);
         }

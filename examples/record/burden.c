@@ -2,6 +2,7 @@
  * what they are. With two words, the work of a trace and the seconds that the run took on one thread, they are in the
  * trace's unit; without, in ticks of the time-stamp counter, as openmp.c counts. */
 #define _XOPEN_SOURCE 700
+#include <float.h>
 #include <omp.h>
 #include <stdint.h>
 #include <stdio.h>
@@ -78,14 +79,24 @@ static double median(double *values) {
     return values[ROUNDS / 2];
 }
 
+/* The number that is the whole word, and above 0. */
+static double number_of(const char *word) {
+    char *end;
+    double number = strtod(word, &end);
+    if (end > word && !*end && number > 0 && number <= DBL_MAX) return number;
+    fprintf(stderr, "burden: WORK and SECONDS must be numbers above 0, such as 85460022 and 0.072; this is none: %s\n",
+            word);
+    exit(2);
+}
+
 int main(int argc, char **argv) {
     double second = ticks_of_a_second(), unit = 1;
     int threads = 0;
-    if (argc == 3) unit = atof(argv[1]) / (atof(argv[2]) * second);
-    if ((argc != 1 && argc != 3) || !(unit > 0 && unit < 1e9)) {
+    if (argc != 1 && argc != 3) {
         fprintf(stderr, "usage: burden [WORK SECONDS]\n");
         return 2;
     }
+    if (argc == 3) unit = number_of(argv[1]) / (number_of(argv[2]) * second);
 #pragma omp parallel
 #pragma omp single
     {
@@ -100,6 +111,11 @@ int main(int argc, char **argv) {
         return 1;
     }
     double spawn = median(spawned), take = median(taken);
+    if (!(spawn * unit >= 0.5 && take * unit >= 0.5 && (spawn + take) * unit < 1e18)) {
+        fprintf(stderr, "burden: the burdens must be whole numbers from 1 on, and are %.2g and %.2g: %s\n",
+                spawn * unit, take * unit, "look at WORK and SECONDS");
+        return 2;
+    }
     printf("%d threads, %.0f million ticks a second\n", threads, second / 1e6);
     printf("an empty task in a loop of spawns: %.0f ns, %.0f ticks\n", spawn / second * 1e9, spawn);
     printf("one until another thread has run it: %.0f ns, %.0f ticks\n", take / second * 1e9, take);

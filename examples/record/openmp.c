@@ -20,7 +20,8 @@
 /* A parallel region, which is a called frame, or a task. */
 struct frame {
     struct rec_place *place;
-    int is_called, is_final, is_of_loop, is_open;
+    const void *call; /* from where the program made the task */
+    int is_called, is_final, is_open;
     const void *group, *loop; /* the taskgroup and the taskloop that run in it */
     struct frame *outer;
 };
@@ -31,6 +32,7 @@ static uint64_t pending, since, own; /* ticks since the last event, when they we
 static int is_running;
 static unsigned long regions, dependences, shared_loops; /* so far; of the last two the trace says nothing */
 static const void *runtime;                              /* where its library begins */
+static ompt_get_task_info_t get_task_info;
 static pthread_t thread;
 static pid_t process;
 
@@ -107,78 +109,194 @@ static FILE *output_of(char **words, pid_t *child) {
     return output;
 }
 
-/* Has a program tell the function, and the file and line, of an address. Returns whether they are known. */
-static int look_up(char **words, char *function, char *line, int bytes) {
-    char *text = NULL, *to[] = {function, line};
+/* What is told of an address: the function, and the file's name and line. */
+struct spot {
+    char function[256], line[256];
+};
+
+/* Has a program tell of one or two addresses: each comes with a function and a line for all that is inlined there, the
+ * innermost first. Of a call this one counts, and of a task's body, which is the first address, the last one. Returns
+ * whether the line of the first address is known. */
+static int look_up(char **words, int is_body, struct spot spots[2]) {
+    char *text = NULL;
     size_t room = 0;
     pid_t child;
     FILE *output = output_of(words, &child);
     if (!output) return 0;
-    for (int i = 0; i < 2 && getline(&text, &room, output) > 0; i++) {
+    for (int which = -1, i = 0; getline(&text, &room, output) > 0; i++) {
         text[strcspn(text, "\n")] = '\0';
-        char *last = i == 1 ? strrchr(text, '/') : NULL;
-        snprintf(to[i], (size_t)bytes, "%s", last ? last + 1 : text);
+        if (strncmp(text, "0x", 2) == 0) which++, i = -1;
+        if (i < 0 || which < 0 || which > 1 || (i > 1 && !(is_body && which == 0))) continue;
+        char *last = i % 2 == 1 ? strrchr(text, '/') : NULL;
+        char *to = i % 2 == 1 ? spots[which].line : spots[which].function;
+        snprintf(to, sizeof spots->line, "%s", last ? last + 1 : text);
     }
     free(text);
     fclose(output);
     waitpid(child, NULL, 0);
-    char *more = strstr(line, " (discriminator"), *number = strrchr(line, ':');
+    char *line = spots[0].line, *more = strstr(line, " (discriminator"), *number = strrchr(line, ':');
     if (more) *more = '\0';
     return line[0] != '?' && number && number[1] >= '1' && number[1] <= '9';
 }
 
-static char *name_of(const char *line, const char *gap, const char *function, const char *suffix) {
-    enum { ROOM = 201 };
-    char *name = new_bytes(ROOM);
-    snprintf(name, ROOM, "%.80s%s%.100s%s", line, gap, function, suffix);
-    for (char *c = name; *c; c++)
-        if (*c < 0x20 || *c > 0x7e) *c = '?';
-    return name;
-}
-
-/* Names the place from which the runtime was called, such as `sort.c:20 sort`; the function is left out where the
- * compiler made one of its own for the body of a region or task. */
-static void name_place(struct rec_place *place, const char *address, const char *suffix) {
-    char module[4096] = "", at[32], function[256] = "", line[256] = "";
-    Dl_info info;
-    struct link_map *map = NULL;
-    if (dladdr1(address, &info, (void **)&map, RTLD_DL_LINKMAP) == 0) map = NULL;
-    uintptr_t offset = (uintptr_t)address - (map ? map->l_addr : 0);
-    if (map && map->l_name[0]) snprintf(module, sizeof module, "%s", map->l_name);
-    if (map && !map->l_name[0] && readlink("/proc/self/exe", module, sizeof module - 1) < 0) module[0] = '\0';
-    snprintf(at, sizeof at, "0x%lx", (unsigned long)offset - 1); /* within the call */
-    char *words[][7] = {{"addr2line", "-f", "-C", "-e", module, at, NULL},
-                        {"llvm-symbolizer", "--output-style=GNU", "--no-inlines", "-e", module, at, NULL}};
-    if (!look_up(words[0], function, line, sizeof line) && !look_up(words[1], function, line, sizeof line)) {
-        const char *last = strrchr(module, '/');
-        snprintf(line, sizeof line, "%.60s+0x%lx", last ? last + 1 : module, (unsigned long)offset);
-    }
-    char *outlined = strstr(function, ".omp_");
-    if (outlined) *outlined = '\0';
+/* Cuts off what the compiler adds to a function's name. Returns whether it made the function for a region or task. */
+static int cut_function(char *function) {
+    static const char *const added[] = {" [clone ", " (.", ".omp_", "._omp_fn"};
+    int is_made = strstr(function, added[2]) || strstr(function, added[3]);
+    for (int i = 0; i < 4; i++)
+        if (strstr(function, added[i])) *strstr(function, added[i]) = '\0';
     if (function[0] == '?') function[0] = '\0';
-    place->site = name_of(line, function[0] ? " " : "", function, suffix);
-    place->function = function[0] ? name_of("", "", function, "") : place->site;
+    return is_made;
 }
 
-/* The place of an address, without a name if that is in the runtime. */
-static struct rec_place *place_of(const void *address, const char *suffix) {
-    static struct known {
-        const void *address;
-        struct rec_place place;
-        struct known *next;
-    } *lists[1024];
+enum { NAME_BYTES = 201 };
+
+/* A row of the tables. */
+struct row {
+    char site[NAME_BYTES], unlined[NAME_BYTES]; /* its name, and that without the line and number */
+    int line, has_body;
+    struct row *next;
+};
+static struct row *rows; /* by their lines */
+
+/* An address, where its library or program begins, and the place that it is named as. */
+struct known {
+    const void *address, *module;
+    struct rec_place place;
+    struct known *next;
+};
+
+static struct known *known_of(const void *address) {
+    static struct known *lists[1024];
     struct known **list = &lists[(uintptr_t)address / 4 % 1024], *found = *list;
     while (found && found->address != address) found = found->next;
-    if (found) return &found->place;
+    if (found) return found;
     found = new_bytes(sizeof *found);
     found->address = address;
     found->next = *list;
     *list = found;
     Dl_info info;
-    if (dladdr(address, &info) && info.dli_fbase == runtime) return &found->place;
-    name_place(&found->place, address, suffix);
+    if (dladdr(address, &info)) found->module = info.dli_fbase;
+    return found;
+}
+
+static void put_name(char *name, const char *first, const char *function, const char *suffix) {
+    snprintf(name, NAME_BYTES, "%.80s%s%.90s%s", first, function[0] ? " " : "", function, suffix);
+    for (char *c = name; *c; c++)
+        if (*c < 0x20 || *c > 0x7e) *c = '?';
+}
+
+/* Appends ` #2`, or a greater number. */
+static void number_name(char *name, int number) {
+    if (number > 1) snprintf(name + strlen(name), NAME_BYTES - strlen(name), " #%d", number);
+}
+
+/* The row of a name such as `sort.c:20 sort`. Bodies of tasks have a row each, even if the name is the same. */
+static struct row *row_of(const char *line, const char *function, const char *suffix, int is_body) {
+    struct row *row = new_bytes(sizeof *row), *same, **at = &rows;
+    const char *colon = strrchr(line, ':');
+    for (int number = 1;; number++) {
+        put_name(row->site, line, function, suffix);
+        number_name(row->site, number);
+        for (same = rows; same && strcmp(same->site, row->site) != 0;) same = same->next;
+        if (!same || !is_body || !same->has_body) break;
+    }
+    if (same) {
+        free(row);
+        same->has_body |= is_body;
+        return same;
+    }
+    char file[256];
+    snprintf(file, sizeof file, "%.*s", colon ? (int)(colon - line) : (int)strcspn(line, "+"), line);
+    put_name(row->unlined, colon || function[0] ? file : line, function, suffix);
+    row->line = colon ? atoi(colon + 1) : 0;
+    row->has_body = is_body;
+    while (*at && (*at)->line <= row->line) at = &(*at)->next;
+    row->next = *at;
+    *at = row;
+    return row;
+}
+
+/* Names the rows without lines, if that is wanted: those with one name by numbers, in the order of their lines. */
+static void leave_lines_out(void) {
+    const char *names = getenv("SPPROF_NAMES");
+    if (!names || strcmp(names, "function") != 0) return;
+    for (struct row *row = rows; row; row = row->next) {
+        int number = 1;
+        for (struct row *other = rows; other != row; other = other->next)
+            number += strcmp(other->unlined, row->unlined) == 0;
+        strcpy(row->site, row->unlined);
+        number_name(row->site, number);
+    }
+}
+
+/* Names a place by a task's body, or the call that makes it, or both. The line is the body's, since a call may have one
+ * of before it. The function is the call's where clang made one for the body, or the frame's where it made both. */
+static void name_place(struct rec_place *place, const void *body, const void *call, const char *suffix) {
+    char module[4096] = "", at[2][32];
+    struct spot spots[2] = {{"", ""}, {"", ""}};
+    const char *first = body ? body : (const char *)call - 1, *second = body && call ? (const char *)call - 1 : NULL;
+    Dl_info info;
+    struct link_map *map = NULL;
+    if (dladdr1(first, &info, (void **)&map, RTLD_DL_LINKMAP) == 0) map = NULL;
+    uintptr_t base = map ? map->l_addr : 0, offset = (uintptr_t)first - base;
+    if (map && map->l_name[0]) snprintf(module, sizeof module, "%s", map->l_name);
+    if (map && !map->l_name[0] && readlink("/proc/self/exe", module, sizeof module - 1) < 0) module[0] = '\0';
+    snprintf(at[0], sizeof at[0], "0x%lx", (unsigned long)offset);
+    snprintf(at[1], sizeof at[1], "0x%lx", (unsigned long)((uintptr_t)second - base));
+    char *more = second ? at[1] : NULL;
+    char *words[][9] = {{"addr2line", "-afiC", "-e", module, at[0], more, NULL},
+                        {"llvm-symbolizer", "--output-style=GNU", "-a", "-i", "-e", module, at[0], more, NULL}};
+    if (!look_up(words[0], body != NULL, spots) && !look_up(words[1], body != NULL, spots)) {
+        const char *last = strrchr(module, '/');
+        snprintf(spots[0].line, sizeof spots[0].line, "%.60s+0x%lx", last ? last + 1 : module, (unsigned long)offset);
+    }
+    const char *function = spots[0].function;
+    int is_made = cut_function(spots[0].function);
+    if (!function[0] && second) {
+        is_made = cut_function(spots[1].function);
+        function = spots[1].function;
+    }
+    const struct rec_place *within = innermost ? innermost->place : NULL;
+    if (!function[0] && is_made && (second || !body) && within && within->function != within->site)
+        function = within->function;
+    struct row *row = row_of(spots[0].line, function, suffix, body != NULL);
+    place->site = row->site;
+    place->function = row->site;
+    if (function[0]) place->function = strcpy(new_bytes(strlen(function) + 1), function);
     absence(); /* waiting for the names is none */
-    return &found->place;
+}
+
+/* The place of an address in the program, which is a task's body or a call. */
+static struct rec_place *place_of(const void *body, const void *call, const char *suffix) {
+    struct rec_place *place = &known_of(body ? body : call)->place;
+    if (!place->site) name_place(place, body, call, suffix);
+    return place;
+}
+
+/* The function that a task runs, which OMPT doesn't tell: in the runtime's memory the first word behind the task's data
+ * that points into a library or the program. NULL if there is none. */
+static const void *body_of(const ompt_data_t *task) {
+    enum { MOST_WORDS = 12 };
+    static int at; /* where it was found */
+    const void *const *words = (const void *const *)task;
+    Dl_info info;
+    for (int i = 1; i <= MOST_WORDS && !at; i++)
+        if (dladdr(words[i], &info)) at = i;
+    return at && known_of(words[at])->module ? words[at] : NULL;
+}
+
+/* The place of a task that begins to run. One whose body is the runtime's takes a part of a taskloop. */
+static struct rec_place *place_of_task(struct frame *frame, const ompt_data_t *task) {
+    static struct rec_place unknown = {.site = "taskloop nogroup", .function = "taskloop nogroup"};
+    const void *call = frame->call, *body = body_of(task);
+    if (known_of(call)->module == runtime) call = innermost->loop;
+    if (body && known_of(body)->module == runtime) {
+        frame->loop = innermost->loop;
+        body = NULL;
+    }
+    if (body && call && known_of(body)->module != known_of(call)->module) body = NULL;
+    return body || call ? place_of(body, call, "") : &unknown;
 }
 
 static void open_frame(struct frame *frame) {
@@ -206,7 +324,7 @@ static void on_region(ompt_data_t *task, const ompt_frame_t *from, ompt_data_t *
         absence();
     }
     struct frame *frame = new_bytes(sizeof *frame);
-    frame->place = place_of(address, " parallel");
+    frame->place = place_of(NULL, address, " parallel");
     frame->is_called = 1;
     open_frame(frame);
     region->ptr = frame; /* what it takes to begin and end one isn't counted */
@@ -229,25 +347,24 @@ static void on_implicit_task(ompt_scope_endpoint_t end, ompt_data_t *region, omp
     if (end == ompt_scope_begin) go();
 }
 
-/* A task that the runtime makes is of a taskloop, or of another such task, which takes a part of the loop. */
-static void of_loop(struct frame *frame) {
-    static struct rec_place unknown = {NULL, 0, "taskloop nogroup", "taskloop nogroup", 0, 0, 0, NULL};
-    frame->is_of_loop = 1;
-    frame->place = innermost->is_of_loop ? innermost->place : &unknown;
-    if (innermost->loop) frame->place = place_of(innermost->loop, "");
+/* Whether the runtime says that this task is the one that runs. */
+static int is_begun(const ompt_data_t *task) {
+    ompt_data_t *running = NULL;
+    int thread;
+    get_task_info(0, NULL, &running, NULL, NULL, &thread);
+    return running == task;
 }
 
 static void on_create(ompt_data_t *parent, const ompt_frame_t *from, ompt_data_t *task, int flags, int depends,
                       const void *address) {
-    (void)parent;
+    (void)parent, (void)from;
     if (!stop()) return;
     if (innermost && depends) dependences++;
     if (innermost && (flags & ompt_task_explicit)) {
         struct frame *frame = new_bytes(sizeof *frame);
-        frame->place = place_of(address, "");
-        if (!frame->place->site) of_loop(frame);
-        /* On one thread each task has the flag of an undeferred one; but the program itself calls that of an if(0). */
-        frame->is_called = innermost->is_final || (from && (from->enter_frame_flags & 15) == ompt_frame_application);
+        frame->call = address;
+        /* On one thread each task has the flag of an undeferred one; but that of an if(0) has begun when it is told. */
+        frame->is_called = innermost->is_final || is_begun(task);
         frame->is_final = (flags & ompt_task_final) != 0;
         task->ptr = frame;
         return; /* it is scheduled next, and what that takes isn't counted */
@@ -266,7 +383,11 @@ static void on_schedule(ompt_data_t *prior, ompt_task_status_t status, ompt_data
         close_frame(prior->ptr);
         prior->ptr = NULL;
     }
-    if (next && next->ptr && !((struct frame *)next->ptr)->is_open) open_frame(next->ptr);
+    struct frame *frame = next ? next->ptr : NULL;
+    if (frame && !frame->is_open) {
+        frame->place = place_of_task(frame, next);
+        open_frame(frame);
+    }
     go();
 }
 
@@ -290,7 +411,7 @@ static void on_work(ompt_work_t kind, ompt_scope_endpoint_t end, ompt_data_t *re
     (void)region, (void)task, (void)count, (void)address;
     if (!stop()) return;
     int is_single = kind == ompt_work_single_executor || kind == ompt_work_single_other;
-    if (innermost && kind == ompt_work_taskloop) /* the address is within the runtime, but its taskgroup's is not */
+    if (innermost && kind == ompt_work_taskloop) /* this address is within the runtime, but its taskgroup's is not */
         innermost->loop = end == ompt_scope_begin ? innermost->group : NULL;
     else if (innermost && end == ompt_scope_begin && !is_single)
         shared_loops++;
@@ -310,6 +431,7 @@ static void finish(ompt_data_t *data) {
     if (!rec_is_on()) return;
     if (innermost) rec_say("the program ended within a region, and what is open ends there: ", innermost->place->site);
     while (innermost) close_frame(innermost);
+    leave_lines_out();
     tell_count(dependences, "the trace leaves out dependences, and has too much parallelism; tasks that have some: ");
     tell_count(shared_loops, "the trace has loops that a region's threads share (omp for) as one strand each: ");
     rec_finish(NULL, 0);
@@ -318,6 +440,7 @@ static void finish(ompt_data_t *data) {
 static int start(ompt_function_lookup_t look, int device, ompt_data_t *data) {
     (void)device, (void)data;
     ompt_set_callback_t set = (ompt_set_callback_t)look("ompt_set_callback");
+    get_task_info = (ompt_get_task_info_t)look("ompt_get_task_info");
     Dl_info info;
     if (dladdr((void *)(uintptr_t)look, &info)) runtime = info.dli_fbase;
     thread = pthread_self();

@@ -1,4 +1,7 @@
 /* The recorder. Compile the program's files with -fsanitize-coverage=trace-pc, and this one with it or without. */
+#ifdef __cplusplus
+#error "compile the recorder with gcc or clang, as C; programs in C++ can be linked with it"
+#endif
 #define _XOPEN_SOURCE 700 /* POSIX.2008, and realpath where the C library wants this for it */
 #include "spprof_record.h"
 
@@ -9,6 +12,7 @@
 #include <stdlib.h>
 #include <string.h>
 #include <sys/stat.h>
+#include <time.h>
 #include <unistd.h>
 
 /* Functions that count nothing themselves, if this file is compiled with -fsanitize-coverage=trace-pc. */
@@ -28,7 +32,7 @@
 #define UNCOUNTED
 #endif
 
-/* What a trace can hold: an event is a record of 16 bytes, or in version 2 an item of at most 13. */
+/* What a trace can hold: an event is a record of 16 bytes, or in version 2 an item of at most 12. */
 enum { RECORD_BYTES = 16, HEAD_BYTES = 24, MOST_NAME_BYTES = 200, MOST_NAMES = 65536, MOST_EVENTS = 1 << 28 };
 enum { PLACE_BYTES = 512 }; /* of a place in a message */
 enum tag { STRAND, CALL, SPAWN, RETURN, SYNC };
@@ -49,23 +53,36 @@ static _Thread_local uint64_t blocks; /* that this thread has run since the last
 static uint64_t *_Atomic counter;     /* that of the thread which records, while it does */
 static atomic_int others;             /* whether other threads have run blocks meanwhile */
 static uint64_t total;                /* blocks before the last event */
-enum { BEFORE, RECORDING, WRITING, AFTER };
+enum { BEFORE, STARTING, RECORDING, WRITING, AFTER, FAILED };
 static atomic_int state;
 static pid_t process; /* the one that records: its forks run clean_up too */
 
-/* The open frames without the root, by which places they were entered, and in which function of the program the first
- * spawn or call of each stands; of the root, REC_START. */
+/* The open frames. The variable of a frame's first spawn or call is at one place on the stack in one run of the
+ * function in which that stands, and elsewhere in another run. */
 static struct open {
     const void *frame;
     const struct rec_place *place;
-    const char *within;
-} *frames;
-static size_t depth, frame_room;
-static const char *root_within;
+    uint64_t blocks_before, since; /* since when it runs is known of some (see `idle`) */
+    size_t events_before;
+    const struct rec_place *first;
+    const void *first_frame;
+} *frames, root;
+static size_t depth, frame_room; /* without the root */
+static const char *root_within;  /* the function of the program in which REC_START stands */
 
-/* The first spawn or call that stands in another function than what its frame runs, and that function. */
-static const struct rec_place *stray;
-static const char *stray_from;
+/* What is told at the end, of the first place where it was seen: */
+static const struct rec_place *stray;     /* it stands in another function than the first of its frame */
+static const char *stray_from;            /* and this is that function */
+static const struct rec_place *again;     /* it came in two runs of its function in one frame */
+static const struct rec_place *uncounted; /* its file was compiled without the option */
+
+/* Of each site, while no block was counted in any of its frames nor in what these opened: a place of it, and how many
+ * frames that opened none it had, for how many nanoseconds. */
+static struct idle {
+    const struct rec_place *place;
+    uint64_t frames, took;
+} idle[MOST_NAMES];
+enum { LONG_FRAME = 5000, LONG_SITE = 1000000 }; /* nanoseconds that a block doesn't take */
 
 /* Where in the program the recorder is, or was last, and where it began; without a file in other recorders. */
 static struct at {
@@ -107,16 +124,20 @@ static void say_at(const struct at *at, const char *what, const char *detail) {
     fprintf(stderr, "spprof_record: %s%s%s\n", text_of(at, ": ", place), what, detail);
 }
 
-static _Noreturn void fail(int status, const char *what, const char *detail) {
-    state = AFTER;
-    say_at(&here, what, detail);
+static _Noreturn void fail_at(struct at at, int status, const char *what, const char *detail) {
+    state = FAILED;
+    say_at(&at, what, detail);
     exit(status);
+}
+
+static _Noreturn void fail(int status, const char *what, const char *detail) {
+    fail_at(here, status, what, detail);
 }
 
 static _Noreturn void fail_to_write(const char *where) {
     char place[PLACE_BYTES];
     const char *why = strerror(errno);
-    state = AFTER;
+    state = FAILED;
     fprintf(stderr, "spprof_record: %scannot write %s%s, so no trace was kept: %s\n",
             text_of(&here, ": ", place), where, wanted, why);
     exit(NO_FILE);
@@ -187,18 +208,22 @@ static void add_strand(uint64_t count) {
     total += count;
 }
 
-static int is_name(const char *name) {
-    size_t length = strlen(name);
-    for (size_t i = 0; i < length; i++)
-        if (name[i] < 0x20 || name[i] > 0x7e) return 0;
-    return length >= 1 && length <= MOST_NAME_BYTES && strcmp(name, "(root)") != 0;
+/* Why a trace can't have the name, or NULL. */
+static const char *fault_of(const char *name) {
+    if (!*name) return "a name is empty";
+    if (strlen(name) > MOST_NAME_BYTES) return "a name has more than 200 bytes: ";
+    if (strcmp(name, "(root)") == 0) return "this name is spprof's own: ";
+    for (const char *c = name; *c; c++)
+        if (*c < 0x20 || *c > 0x7e) return "a name has bytes that are no printable ASCII: ";
+    return NULL;
 }
 
 /* The number of a name, which is added if it isn't there yet. */
 static uint32_t number_of(struct names *names, const char *name) {
     for (uint32_t i = 0; i < names->count; i++)
         if (strcmp(names->at[i], name) == 0) return i;
-    if (!is_name(name)) fail(WRONG_USE, "a name needs 1 to 200 bytes of printable ASCII, and isn't (root): ", name);
+    const char *fault = fault_of(name);
+    if (fault) fail(WRONG_USE, fault, name);
     if (names->count == MOST_NAMES) fail(WRONG_USE, "more than 65,536 functions, or as many sites: ", name);
     names->at[names->count] = name;
     return names->count++;
@@ -209,14 +234,24 @@ static struct at at_place(const struct rec_place *place) {
     return (struct at){place->file, place->line, place->site, 1};
 }
 
+static int is_other_thread(void) {
+    return atomic_load_explicit(&counter, memory_order_relaxed) != &blocks;
+}
+
+static _Noreturn void fail_in_other_thread(struct at at) {
+    fail_at(at, WRONG_USE, "this is another thread than that of REC_START, so no trace was kept", "");
+}
+
+/* The trace of the first time stays where it is written already. */
+static _Noreturn void fail_twice(struct at at, int is_kept) {
+    fail_at(at, WRONG_USE, "it is reached twice, and may be only once in a run",
+            is_kept ? "; the first trace was kept" : ", so no trace was kept");
+}
+
 /* Whether the run is recorded; the program ends where this is another thread than the one that records. */
 static int is_recorded(struct at at) {
     if (state != RECORDING) return 0;
-    if (atomic_load_explicit(&counter, memory_order_relaxed) != &blocks) {
-        state = AFTER;
-        say_at(&at, "this is another thread than that of REC_START, so no trace was kept", "");
-        exit(WRONG_USE);
-    }
+    if (is_other_thread()) fail_in_other_thread(at);
     here = at;
     return 1;
 }
@@ -229,16 +264,56 @@ static void open_frame(const void *frame, const struct rec_place *place) {
         frames = larger;
         frame_room = more;
     }
-    frames[depth++] = (struct open){frame, place, NULL};
+    frames[depth++] = (struct open){.frame = frame, .place = place, .blocks_before = total, .events_before = events};
 }
 
-/* Notes in which function the open frame spawns or calls. */
-static void look_within(const struct rec_place *place) {
-    const char **within = depth > 0 ? &frames[depth - 1].within : &root_within;
-    if (!*within) *within = place->within;
-    if (stray || *within == place->within || !place->within || strcmp(*within, place->within) == 0) return;
-    stray = place;
-    stray_from = *within;
+static int are_same(const char *a, const char *b) {
+    return a == b || strcmp(a, b) == 0;
+}
+
+/* Notes what a spawn or call tells of functions that were called without REC_CALL. */
+static void look_within(const void *frame, const struct rec_place *place) {
+    struct open *in = depth > 0 ? &frames[depth - 1] : &root;
+    if (!place->within) return;
+    if (!in->first) {
+        in->first = place;
+        in->first_frame = frame;
+    }
+    const char *within = depth == 0 && root_within ? root_within : in->first->within;
+    int is_stray = !are_same(within, place->within);
+    if (is_stray && !stray) {
+        stray = place;
+        stray_from = within;
+    }
+    if (!is_stray && in->first == place && in->first_frame != frame && !again) again = place;
+}
+
+static uint64_t nanoseconds(void) {
+    struct timespec time;
+    clock_gettime(CLOCK_MONOTONIC, &time);
+    return (uint64_t)time.tv_sec * 1000000000u + (uint64_t)time.tv_nsec;
+}
+
+/* Notes how long a frame took whose last strand has so many blocks, or that its site isn't idle. */
+static void look_at_time(const struct open *open, uint64_t count) {
+    struct idle *site = &idle[open->place->site_number];
+    if (total + count > open->blocks_before) site->place = NULL;
+    if (!site->place || events > open->events_before) return;
+    site->took += nanoseconds() - open->since;
+    site->frames++;
+}
+
+/* Gives a place the numbers of its names, and notes whether its file counts. */
+UNCOUNTED static void learn(struct rec_place *place) {
+    uint32_t sites_before = sites.count;
+    place->site_number = number_of(&sites, place->site);
+    place->function_number = number_of(&functions, place->function);
+    place->is_known = 1;
+    if (!place->try_block) return;
+    if (sites.count > sites_before) idle[place->site_number].place = place;
+    uint64_t before = blocks;
+    place->try_block();
+    if (blocks == before && !uncounted) uncounted = place;
 }
 
 /* What the functions here count themselves, where they are counted, goes with `blocks = 0`. */
@@ -246,14 +321,11 @@ UNCOUNTED void rec_enter(const void *frame, struct rec_place *place, int spawned
     uint64_t count = blocks;
     if (is_recorded(at_place(place))) {
         add_strand(count);
-        if (!place->is_known) {
-            place->site_number = number_of(&sites, place->site);
-            place->function_number = number_of(&functions, place->function);
-            place->is_known = 1;
-        }
-        look_within(place);
+        if (!place->is_known) learn(place);
+        look_within(frame, place);
         add(spawned ? SPAWN : CALL, place->site_number, place->function_number);
         open_frame(frame, place);
+        if (idle[place->site_number].place) frames[depth - 1].since = nanoseconds();
     }
     blocks = 0;
 }
@@ -265,6 +337,7 @@ UNCOUNTED void rec_leave(const void *frame) {
         if (depth == 0) here = start;
         if (depth == 0) fail(WRONG_USE, "it stands within a spawn or call", "");
         if (frames[depth - 1].frame != frame) fail(WRONG_USE, "its statement was left, as by longjmp", "");
+        look_at_time(&frames[depth - 1], count);
         add_strand(count);
         add(RETURN, 0, 0);
         depth--;
@@ -389,15 +462,22 @@ static const char *value_of(const char *first, const char *second) {
 UNCOUNTED void rec_start(const char *function, const char *within, const char *file, int line) {
     const char *name = value_of("SPTRACE", "SPPROF_TRACE"), *version = getenv("SPPROF_VERSION");
     struct stat there;
-    here = (struct at){file, line, file ? "REC_START" : NULL, 0};
-    if (state != BEFORE) fail(WRONG_USE, "it is reached twice", "");
-    start = here;
+    struct at at = {file, line, file ? "REC_START" : NULL, 0};
+    int before = BEFORE;
+    if (!atomic_compare_exchange_strong(&state, &before, STARTING)) {
+        if (before == FAILED) return; /* another thread ends the program */
+        if (before != AFTER && is_other_thread()) fail_in_other_thread(at);
+        fail_twice(at, before == AFTER);
+    }
+    start = here = at;
     root_within = within;
+    if (version && !are_same(version, "") && !are_same(version, "1") && !are_same(version, "2"))
+        fail(WRONG_USE, "SPPROF_VERSION must be 1 or 2, and is ", version);
     wanted = joined("", 0, name ? name : "spprof.sptrace");
     target = resolved(wanted);
     if (!target) fail_to_write("");
     look(&there);
-    compact = version && strcmp(version, "2") == 0;
+    compact = version && are_same(version, "2");
     process = getpid();
     number_of(&functions, function);
     state = RECORDING;
@@ -467,6 +547,35 @@ static void write_trace(void) {
     if (close(file) != 0 || (part && rename(part, target) != 0)) fail_to_write("");
 }
 
+static void say_of(const struct rec_place *place, const char *what, const char *detail) {
+    struct at at = at_place(place);
+    say_at(&at, what, detail);
+}
+
+/* What may make the figures others than the user thinks. */
+static void say_what_was_seen(void) {
+    char text[PLACE_BYTES];
+    if (stray) {
+        if (stray_from == root_within)
+            snprintf(text, sizeof text, " was called without REC_CALL, so in the trace its children are those of %.200s, "
+                     "where REC_START stands", stray_from);
+        else
+            snprintf(text, sizeof text, " and %.200s ran in one frame, so one of them was called without REC_CALL",
+                     stray_from);
+        say_of(stray, stray->within, text);
+    }
+    if (again)
+        say_of(again, again->within, " was called without REC_CALL, so in the trace two runs of it are one frame");
+    const struct idle *site = idle, *end = idle + sites.count;
+    while (site < end && !(site->place && site->took >= LONG_SITE && site->took >= LONG_FRAME * site->frames)) site++;
+    if (uncounted)
+        say_of(uncounted, "this file was compiled without -fsanitize-coverage=trace-pc, ",
+               "so its blocks aren't counted");
+    else if (site < end)
+        say_of(site->place, "no block was counted in its frames, though they took long: ",
+               "what they run was compiled without -fsanitize-coverage=trace-pc, as libraries are");
+}
+
 /* Writes the trace, whose last strand has so many blocks. */
 static void finish(struct at at, uint64_t count) {
     if (!is_recorded(at)) return;
@@ -486,21 +595,15 @@ static void finish(struct at at, uint64_t count) {
     free(body);
     free(frames);
     if (atomic_load(&others)) say_at(&at, "other threads have run too, and are not in the trace", "");
-    if (stray) {
-        char text[PLACE_BYTES];
-        snprintf(text, sizeof text, "%.200s was called without REC_CALL, so in the trace its children are those of %.200s",
-                 stray->within, stray_from);
-        at = at_place(stray);
-        say_at(&at, text, "");
-    }
+    say_what_was_seen();
 }
 
 UNCOUNTED void rec_finish(const char *file, int line) {
     uint64_t count = blocks;
     struct at at = {file, line, file ? "REC_FINISH" : NULL, 0};
-    if (state != RECORDING || getpid() != process) here = at;
-    if (state == BEFORE) fail(WRONG_USE, "no REC_START came before it", "");
-    if (state != RECORDING) fail(WRONG_USE, "it is reached twice", "");
-    if (getpid() != process) fail(WRONG_USE, "it is reached in a fork", "");
+    if (state == FAILED) return; /* the program is ending */
+    if (state == BEFORE) fail_at(at, WRONG_USE, "no REC_START came before it", "");
+    if (state == WRITING || state == AFTER) fail_twice(at, state == AFTER);
+    if (getpid() != process) fail_at(at, WRONG_USE, "it is reached in a fork", "");
     finish(at, count);
 }
