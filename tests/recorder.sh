@@ -453,6 +453,8 @@ test_openmp() {
         done
     fi
     # Names by function, which an edit leaves as they are, with numbers in the order of the lines.
+    SPPROF_NAMES=functions run 'openmp: by another word' 1 '' \
+        "spprof_record: SPPROF_NAMES must be function or line, and is functions$lf" under 1 ./tasks turns
     SPPROF_NAMES=function run 'openmp: by function' 0 "1$lf" '' under 1 ./tasks turns
     rows | sort > "$folder/out"
     judge 'openmp: names by function' 0 "1 (root)${lf}1 tasks.c main parallel${lf}1 tasks.c turns${lf}3 tasks.c turns #2${lf}*" ''

@@ -73,10 +73,14 @@ static int compare(const void *a, const void *b) {
     return (x > y) - (x < y);
 }
 
-/* The one in the middle: what an interruption adds to some doesn't matter. */
-static double median(double *values) {
+/* The lower quartile: what another program adds to some doesn't matter. It's told where that is much. */
+static double quartile(double *values) {
     qsort(values, ROUNDS, sizeof *values, compare);
-    return values[ROUNDS / 2];
+    double low = values[ROUNDS / 4], high = values[3 * ROUNDS / 4];
+    if (high > 10 * low)
+        printf("a quarter of %d rounds took over %.0f times as long as another: run it on an idle machine\n", ROUNDS,
+               high / low);
+    return low;
 }
 
 /* The number that is the whole word, and above 0. */
@@ -110,7 +114,7 @@ int main(int argc, char **argv) {
         fprintf(stderr, "burden: one thread has no burden: set OMP_NUM_THREADS\n");
         return 1;
     }
-    double spawn = median(spawned), take = median(taken);
+    double spawn = quartile(spawned), take = quartile(taken);
     if (!(spawn * unit >= 0.5 && take * unit >= 0.5 && (spawn + take) * unit < 1e18)) {
         fprintf(stderr, "burden: the burdens must be whole numbers from 1 on, and are %.2g and %.2g: %s\n",
                 spawn * unit, take * unit, "look at WORK and SECONDS");

@@ -321,6 +321,9 @@ static void on_region(ompt_data_t *task, const ompt_frame_t *from, ompt_data_t *
     if (!stop()) rec_fail("then a second thread of the program began a region, and one alone can be recorded", "");
     if (!regions++) {
         rec_start("(program)", NULL, NULL, 0);
+        const char *names = getenv("SPPROF_NAMES");
+        if (names && strcmp(names, "function") != 0 && strcmp(names, "line") != 0)
+            rec_fail("SPPROF_NAMES must be function or line, and is ", names);
         absence();
     }
     struct frame *frame = new_bytes(sizeof *frame);

@@ -74,7 +74,9 @@ fn burden<'a>(alloc: Global) -> Arg<'a>
         .value_name("N")
         .value_parser(value_parser!(u32))
         .default_value(DEFAULT_BURDEN_WORD)
-        .help("What each edge past a spawned child and each edge of its return bears, in the trace's unit")
+        .help(
+            "What each edge past a spawned child and each edge of its return bears, in the trace's unit",
+        )
 }
 
 /// The burden of the edges of returns alone. It has no default, since `--burden` decides where it isn't given.
