@@ -131,6 +131,12 @@ each_refused 'profile in three rounds' 0 4 'name,count*' '' "$folder/many" "$spp
 "$spprof" migrate < "$folder/two" > "$folder/two.compact"
 each_refused 'figures in parts' 0 1 'work 10*' '' "$folder/two.compact" "$spprof" figures --parts 9 --workers 2
 each_refused 'profile in one round' 0 1 'name,count*' '' "$folder/two.compact" "$spprof" profile --csv --parts 9 --workers 2
+# Three blocks of up to 65,536 events, each of which a thread reads, in frames that are open at their ends.
+awk 'BEGIN { print "func main\nsite A"; for (n = 0; n < 50; n++) print "spawn 0 0\nstrand 3"
+    for (n = 0; n < 140000; n++) print "strand 1"; for (n = 0; n < 50; n++) print "return\nsync" }' | "$spprof" encode \
+    > "$folder/blocks"
+each_refused 'figures over blocks' 0 3 'work 140150*' '' "$folder/blocks" "$spprof" figures
+each_refused 'profile over blocks' 0 3 'name,count*' '' "$folder/blocks" "$spprof" profile --csv --workers 2
 each_refused 'profile by one worker' 0 0 'work 32744*' '' "$examples/nqueens.sptrace" "$spprof" profile --workers 1
 each_refused 'compare by one worker' 0 0 'work 10 17*' '' /dev/null "$spprof" compare --workers 1 "$folder/two" "$examples/small.sptrace"
 each_refused 'marks by workers' 0 3 '111100011' '' "$folder/two" "$printer" marks 9 2

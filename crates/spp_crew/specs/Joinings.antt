@@ -1,5 +1,5 @@
 -- What has come of a run whose blocks are read by threads.
-use Rattle.std.specs.Prelude.{◌≡◌, ℕ, ◌+◌, List, [], ◌∷◌}
+use Rattle.std.specs.Prelude.{◌≡◌, ℕ, ◌+◌, List, [], ◌∷◌, length}
 use Rattle.spp_event.specs.Recordings.{Recording}
 use Rattle.spp_frame.specs.Answers.{IsFaultOf}
 use Rattle.spp_frame.specs.declared.profile_fault.ProfileFault.TheVariants.{Bad}
@@ -25,3 +25,8 @@ module _ {A P T : Type 0} (block_of : T → Block) (is_so_far : Recording → Bu
   abbrev pub IsShown : Recording → Burdens → ℕ → Shown A P T → Type 0
   IsShown trace burdens k (Good joining) = HasCome trace burdens k joining
   IsShown trace burdens k (BadEvent fault) = IsFaultOf trace.records (Bad fault)
+
+-- how many threads still read blocks
+abbrev pub threads_in : {A P T : Type 0} → Shown A P T → ℕ
+threads_in (Good joining) = length joining.waiting.items
+threads_in (BadEvent fault) = 0

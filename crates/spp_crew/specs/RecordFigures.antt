@@ -3,7 +3,7 @@ use Rattle.std.specs.Prelude.{◌≡◌, ℕ, ◌<◌, List, length, Err}
 use Rattle.spp_event.specs.declared.records.EventFault.TheVariants.{Truncated}
 use Rattle.spp_event.specs.Recordings.{Record, Recording, AreEventsOf, record_at}
 use Rattle.spp_crew.specs.Blocks.{IsSummaryOfFirst, summed_by}
-use Rattle.spp_crew.specs.Joinings.{IsShown}
+use Rattle.spp_crew.specs.Joinings.{IsShown, threads_in}
 use Rattle.spp_crew.specs.RecordProfiles.{BeginsWith}
 use Rattle.spp_crew.specs.declared.record_head.RecordHead.{RecordHead}
 use Rattle.spp_crew.specs.declared.record_figures.RecordFigures.{RecordFigures}
@@ -19,6 +19,10 @@ BeginsAs t head rs = BeginsWith t (rooted t head) rs
 -- how many records have come
 abbrev pub seen_by : RecordFigures → ℕ
 seen_by f = f.at
+
+-- how many threads still read records
+abbrev pub threads_of : RecordFigures → ℕ
+threads_of f = threads_in f.shown
 
 -- these have come: that is shown of each trace that begins with them
 pub record HasSeen (f : RecordFigures) (rs : List Record) : Type 0 where

@@ -4,7 +4,7 @@ use Rattle.spp_event.specs.declared.records.EventFault.TheVariants.{Truncated}
 use Rattle.spp_event.specs.Recordings.{Record, Recording, InLimits, AreEventsOf, record_at}
 use Rattle.spp_part.specs.Parts.{IsSoFar}
 use Rattle.spp_crew.specs.Blocks.{profiled_by}
-use Rattle.spp_crew.specs.Joinings.{IsShown}
+use Rattle.spp_crew.specs.Joinings.{IsShown, threads_in}
 use Rattle.spp_crew.specs.declared.record_head.RecordHead.{RecordHead}
 use Rattle.spp_crew.specs.declared.record_profile.RecordProfile.{RecordProfile}
 
@@ -22,6 +22,10 @@ pub record BeginsWith (t : Recording) (head : RecordHead) (rs : List Record) : T
 -- how many records have come
 abbrev pub seen_by : RecordProfile → ℕ
 seen_by p = p.at
+
+-- how many threads still read records
+abbrev pub threads_of : RecordProfile → ℕ
+threads_of p = threads_in p.shown
 
 -- these have come: that is shown of each trace that begins with them
 pub record HasSeen (p : RecordProfile) (rs : List Record) : Type 0 where

@@ -1,6 +1,6 @@
 //! Joining what blocks of records come to, of which each is read by a thread of its own.
 
-ghost use Rattle.std.specs.Prelude.{◌≡◌, ◌+◌, ◌-◌, ℕ, length, IfOk, IfErr};
+ghost use Rattle.std.specs.Prelude.{◌≡◌, ◌+◌, ◌-◌, ◌≤◌, ◌<◌, ℕ, length, IfOk, IfErr};
 ghost use Rattle.spp_event.specs.Recordings.{Recording};
 ghost use Rattle.spp_frame.specs.Answers.{IsFaultOf};
 ghost use Rattle.spp_maxplus.specs.declared.state.Burdens.{Burdens as BurdensValue};
@@ -33,7 +33,8 @@ impl<A: SoFar> Joining<A> {
 
     /// Behind some records, with no thread.
     pub(crate) fn behind(alloc: Global, so_far: A) -> Self
-        ensures { (trace : Recording) (burdens : BurdensValue) (k : ℕ) → A.is_so_far trace burdens k so_far → HasCome A.block_of A.is_so_far trace burdens k result }
+        ensures come { (trace : Recording) (burdens : BurdensValue) (k : ℕ) → A.is_so_far trace burdens k so_far → HasCome A.block_of A.is_so_far trace burdens k result }
+        ensures none { length result.waiting.items ≡ 0 }
     {
         Joining {
             so_far,
@@ -96,9 +97,11 @@ impl<A: SoFar> Joining<A> {
         burdens: Burdens,
         workers: u32,
     ) -> Result<(Self, Vec<u8>), ProfileFault>
+        requires some { 0 < workers }
         requires come { (trace : Recording) × (k : ℕ) × HasCome A.block_of A.is_so_far trace burdens k self }
         ensures come { IfOk result (λ j. (trace : Recording) (k : ℕ) → HasCome A.block_of A.is_so_far trace burdens k self → HasCome A.block_of A.is_so_far trace burdens k j.0) }
         ensures fault { IfErr result (λ f. (trace : Recording) (k : ℕ) → HasCome A.block_of A.is_so_far trace burdens k self → IsFaultOf trace.records f) }
+        ensures room { IfOk result (λ j. length self.waiting.items ≤ workers → length j.0.waiting.items < workers) }
     {
         if self.waiting.len() < workers as usize {
             return Ok((self, Vec::new(alloc)));
@@ -146,6 +149,7 @@ impl<A: SoFar> Joining<A> {
         requires come { (trace : Recording) × (k : ℕ) × HasCome A.block_of A.is_so_far trace block.burdens k self × IsBlockAt trace block.burdens k block }
         ensures come { IfOk result (λ j. (trace : Recording) (k : ℕ) → HasCome A.block_of A.is_so_far trace block.burdens k self → IsBlockAt trace block.burdens k block → HasCome A.block_of A.is_so_far trace block.burdens (k + count_of block) j.0) }
         ensures fault { IfErr result (λ f. (trace : Recording) (k : ℕ) → HasCome A.block_of A.is_so_far trace block.burdens k self → IsBlockAt trace block.burdens k block → IsFaultOf trace.records f) }
+        ensures none { IfOk result (λ j. length j.0.waiting.items ≡ 0) }
     {
         let so_far = match self.end(rt, alloc, block.burdens) {
             Ok(so_far) => so_far,
@@ -172,6 +176,7 @@ impl<A: SoFar> Joining<A> {
         requires come { (trace : Recording) × (k : ℕ) × (block : Block) × HasCome A.block_of A.is_so_far trace burdens k self × IsBlockAt trace burdens k block × IfOk part (A.is_part block) }
         ensures come { IfOk result (λ j. (trace : Recording) (k : ℕ) (block : Block) → HasCome A.block_of A.is_so_far trace burdens k self → IsBlockAt trace burdens k block → IfOk part (A.is_part block) → HasCome A.block_of A.is_so_far trace burdens (k + count_of block) j) }
         ensures fault { IfErr result (λ f. (trace : Recording) (k : ℕ) (block : Block) → HasCome A.block_of A.is_so_far trace burdens k self → IsBlockAt trace burdens k block → IfOk part (A.is_part block) → IsFaultOf trace.records f) }
+        ensures none { IfOk result (λ j. length j.waiting.items ≡ 0) }
     {
         let so_far = match self.end(rt, alloc, burdens) {
             Ok(so_far) => so_far,
@@ -196,6 +201,7 @@ impl<A: SoFar> Joining<A> {
         requires come { (trace : Recording) × (k : ℕ) × HasCome A.block_of A.is_so_far trace block.burdens k self × IsBlockAt trace block.burdens k block }
         ensures come { IfOk result (λ j. (trace : Recording) (k : ℕ) → HasCome A.block_of A.is_so_far trace block.burdens k self → IsBlockAt trace block.burdens k block → HasCome A.block_of A.is_so_far trace block.burdens (k + count_of block) j) }
         ensures fault { IfErr result (λ f. (trace : Recording) (k : ℕ) → HasCome A.block_of A.is_so_far trace block.burdens k self → IsBlockAt trace block.burdens k block → IsFaultOf trace.records f) }
+        ensures few { IfOk result (λ j. length j.waiting.items ≤ length self.waiting.items + 1) }
     {
         let burdens = block.burdens;
         let thread = match A::start(rt, alloc, block) {
@@ -234,6 +240,7 @@ impl<A: SoFar> Joining<A> {
         requires come { (trace : Recording) × (k : ℕ) × HasCome A.block_of A.is_so_far trace block.burdens k self × IsBlockAt trace block.burdens k block }
         ensures come { IfOk result (λ j. (trace : Recording) (k : ℕ) → HasCome A.block_of A.is_so_far trace block.burdens k self → IsBlockAt trace block.burdens k block → HasCome A.block_of A.is_so_far trace block.burdens (k + count_of block) j.0) }
         ensures fault { IfErr result (λ f. (trace : Recording) (k : ℕ) → HasCome A.block_of A.is_so_far trace block.burdens k self → IsBlockAt trace block.burdens k block → IsFaultOf trace.records f) }
+        ensures few { IfOk result (λ j. length self.waiting.items ≤ workers → length j.0.waiting.items ≤ workers) }
     {
         if workers < 2 {
             return self.read_here(rt, alloc, block);

@@ -50,7 +50,7 @@ fn cut_off(found: Result<Figures, Fault>, at: u32) -> Fault
 }
 
 impl RecordFigures {
-    ghost use Rattle.spp_crew.specs.RecordFigures.{HasSeen, EndsWith, seen_by};
+    ghost use Rattle.spp_crew.specs.RecordFigures.{HasSeen, EndsWith, seen_by, threads_of};
 
     /// Before the first record of a trace with that header.
     ///
@@ -62,6 +62,7 @@ impl RecordFigures {
         ensures seen { IfOk result (λ f. HasSeen f []) }
         ensures head { IfOk result (λ f. f.head ≡ head) }
         ensures burdens { IfOk result (λ f. f.burdens ≡ burdens) }
+        ensures threads { IfOk result (λ f. threads_of f ≡ 0) }
     {
         let summary = Summary::of_records(alloc, &[], head.sites, head.funcs, burdens, 0)?;
         Ok(RecordFigures {
@@ -93,6 +94,7 @@ impl RecordFigures {
         ensures count { IfOk result (λ f. seen_by f.0 ≡ seen_by self + len / 16) }
         ensures head { IfOk result (λ f. f.0.head ≡ self.head) }
         ensures burdens { IfOk result (λ f. f.0.burdens ≡ self.burdens) }
+        ensures threads { IfOk result (λ f. threads_of self ≤ workers → threads_of f.0 ≤ workers) }
         ensures seen { IfOk result (λ f. (rs : List Record) → HasSeen self rs → HasSeen f.0 (rs ++ records_of One self.head.sites self.head.funcs (len / 16) (take len bytes.items))) }
     {
         let RecordFigures {

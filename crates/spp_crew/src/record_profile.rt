@@ -41,7 +41,7 @@ pub(crate) fn are_bytes(bytes: &[u8])
 {}
 
 impl RecordProfile {
-    ghost use Rattle.spp_crew.specs.RecordProfiles.{HasSeen, EndsWith, seen_by};
+    ghost use Rattle.spp_crew.specs.RecordProfiles.{HasSeen, EndsWith, seen_by, threads_of};
 
     /// Before the first record of a trace with that header.
     ///
@@ -53,6 +53,7 @@ impl RecordProfile {
         ensures seen { IfOk result (λ p. HasSeen p []) }
         ensures head { IfOk result (λ p. p.head ≡ head) }
         ensures burdens { IfOk result (λ p. p.burdens ≡ burdens) }
+        ensures threads { IfOk result (λ p. threads_of p ≡ 0) }
     {
         // For what it states: each is a number of 32 bits.
         burdens.are_small();
@@ -84,6 +85,7 @@ impl RecordProfile {
         ensures count { IfOk result (λ p. seen_by p ≡ seen_by self + length bytes.now / 16) }
         ensures head { IfOk result (λ p. p.head ≡ self.head) }
         ensures burdens { IfOk result (λ p. p.burdens ≡ self.burdens) }
+        ensures threads { IfOk result (λ p. threads_of self ≤ workers → threads_of p ≤ workers) }
         ensures seen { IfOk result (λ p. (rs : List Record) → HasSeen self rs → HasSeen p (rs ++ records_of One self.head.sites self.head.funcs (length bytes.now / 16) bytes.now)) }
     {
         let block = bytes.to_vec(alloc)?;
@@ -116,6 +118,7 @@ impl RecordProfile {
         ensures count { IfOk result (λ p. seen_by p.0 ≡ seen_by self + len / 16) }
         ensures head { IfOk result (λ p. p.0.head ≡ self.head) }
         ensures burdens { IfOk result (λ p. p.0.burdens ≡ self.burdens) }
+        ensures threads { IfOk result (λ p. threads_of self ≤ workers → threads_of p.0 ≤ workers) }
         ensures seen { IfOk result (λ p. (rs : List Record) → HasSeen self rs → HasSeen p.0 (rs ++ records_of One self.head.sites self.head.funcs (len / 16) (take len bytes.items))) }
     {
         let RecordProfile {

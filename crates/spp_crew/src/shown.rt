@@ -21,7 +21,7 @@ pub(crate) enum Shown<A: SoFar> {
 }
 
 impl<A: SoFar> Shown<A> {
-    ghost use Rattle.spp_crew.specs.Joinings.{HasCome, IsShown};
+    ghost use Rattle.spp_crew.specs.Joinings.{HasCome, IsShown, threads_in};
     ghost use Rattle.spp_crew.specs.declared.joining.Joining.{Joining as JoiningValue};
 
     /// What they show with those of the next block, and room for another one's bytes, in a trace whose header claims so many
@@ -45,6 +45,7 @@ impl<A: SoFar> Shown<A> {
         requires few { count ≤ 2 ^ 28 }
         requires come { (joining : JoiningValue A A.Part A.Thread) → self ≡ IsGood joining → block.first + block.len / 16 ≤ count → (trace : Recording) × HasCome A.block_of A.is_so_far trace block.burdens block.first joining × IsBlockAt trace block.burdens block.first block }
         ensures shown { IfOk result (λ r. (trace : Recording) → block.first + block.len / 16 ≤ count → IsShown A.block_of A.is_so_far trace block.burdens block.first self → IsBlockAt trace block.burdens block.first block → IsShown A.block_of A.is_so_far trace block.burdens (block.first + count_of block) r.0) }
+        ensures threads { IfOk result (λ r. threads_in self ≤ workers → threads_in r.0 ≤ workers) }
     {
         if block.first + (block.len / RECORD) as u32 > count {
             return Ok((self, block.bytes));
