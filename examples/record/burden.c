@@ -73,14 +73,15 @@ static int compare(const void *a, const void *b) {
     return (x > y) - (x < y);
 }
 
-/* The lower quartile: what another program adds to some doesn't matter. It's told where that is much. */
+/* The lower quartile: what another program adds to some doesn't matter. */
 static double quartile(double *values) {
     qsort(values, ROUNDS, sizeof *values, compare);
-    double low = values[ROUNDS / 4], high = values[3 * ROUNDS / 4];
-    if (high > 10 * low)
-        printf("a quarter of %d rounds took over %.0f times as long as another: run it on an idle machine\n", ROUNDS,
-               high / low);
-    return low;
+    return values[ROUNDS / 4];
+}
+
+/* Whether that is much, in rounds in order: then a quarter of them took over ten times as long as another quarter. */
+static int is_busy(const double *values) {
+    return values[3 * ROUNDS / 4] > 10 * values[ROUNDS / 4];
 }
 
 /* The number that is the whole word, and above 0. */
@@ -123,6 +124,7 @@ int main(int argc, char **argv) {
     printf("%d threads, %.0f million ticks a second\n", threads, second / 1e6);
     printf("an empty task in a loop of spawns: %.0f ns, %.0f ticks\n", spawn / second * 1e9, spawn);
     printf("one until another thread has run it: %.0f ns, %.0f ticks\n", take / second * 1e9, take);
+    if (is_busy(spawned) || is_busy(taken)) printf("rounds differ tenfold: run it on an idle machine\n");
     printf("--burden %.0f --join-burden %.0f\n", spawn * unit, take * unit);
     return 0;
 }
