@@ -9,6 +9,7 @@ use Rattle.clap.specs.Kinds.{IsAmong, Kinds}
 use Rattle.clap.specs.declared.error.kind.ErrorKind.{ErrorKind}
 use Rattle.clap.specs.declared.error.kind.ErrorKind.TheVariants.{DisplayHelp, DisplayVersion}
 use Rattle.spp_maxplus.specs.declared.state.Burdens.{Burdens}
+use Rattle.spp_request.specs.declared.request.Request.{Request}
 use Rattle.spp_request.specs.declared.request.Command.{Command}
 use Rattle.spp_request.specs.declared.request.Command.TheVariants.{Check, Figures, Profile, Compare, Encode, Migrate}
 use Rattle.spp_request.specs.declared.request.UsageFault.{UsageFault}
@@ -101,3 +102,7 @@ Gives (Some (name, rows)) command files burdens parts workers csv explain =
 abbrev pub IsAskedBy : Option (Text × List Row) → Asked → Type 0
 IsAskedBy found a =
     Gives found a.request.command (map string_bytes a.request.files.items) a.request.burdens a.request.parts a.request.workers a.request.csv a.explain
+
+-- the request is what `clap` found, with --explain or without
+abbrev pub IsRequestOf : Option (Text × List Row) → Request → Type 0
+IsRequestOf found r = (explain : Bool) × Gives found r.command (map string_bytes r.files.items) r.burdens r.parts r.workers r.csv explain

@@ -9,4 +9,4 @@ mod tips;
 
 pub use asked::Asked;
 pub use laws::word_laws;
-pub use reading::read_request;
+pub use reading::{read_request, read_words};

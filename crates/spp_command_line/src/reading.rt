@@ -7,7 +7,7 @@ ghost use Rattle.clap.specs.declared.error.kind.ErrorKind.TheVariants.{MissingSu
 ghost use Rattle.spp_request.specs.declared.request.UsageFault.TheVariants.{Memory};
 ghost use Rattle.spp_request.specs.declared.request.Command.{Command};
 ghost use Rattle.spp_command_line.specs.Spprof.{spprof};
-ghost use Rattle.spp_command_line.specs.Usage.{EndsBy, IsAskedBy, IsNamed, paths_of, spoken};
+ghost use Rattle.spp_command_line.specs.Usage.{EndsBy, IsAskedBy, IsNamed, IsRequestOf, paths_of, spoken};
 
 use crate::asked::Asked;
 use crate::command_line::{DEFAULT_BURDEN, command_line};
@@ -163,7 +163,7 @@ fn read_spoken<S: AsStr>(alloc: Global, words: &[S]) -> Result<Asked, UsageFault
 /// # Errors
 ///
 /// The text that the user is to be shown, or that an allocation failed.
-pub fn read_request<S: AsStr>(alloc: Global, words: &[S]) -> Result<Asked, UsageFault>
+pub fn read_words<S: AsStr>(alloc: Global, words: &[S]) -> Result<Asked, UsageFault>
     ensures found { IfOk result (IsAskedBy (subcommand_of spprof (spoken (map S.text words.now)))) }
     ensures good { IfOk result (λ _. fault_of spprof (spoken (map S.text words.now)) ≡ []) }
     ensures refused { IfErr result (EndsBy (fault_of spprof (spoken (map S.text words.now)))) }
@@ -171,4 +171,20 @@ pub fn read_request<S: AsStr>(alloc: Global, words: &[S]) -> Result<Asked, Usage
     let mut words = texts(alloc, words)?;
     turn_help_into_option(&mut words);
     read_spoken(alloc, words.as_slice())
+}
+
+/// The request alone of what the words ask for, as [`read_words`] reads them.
+///
+/// # Errors
+///
+/// The text that the user is to be shown, or that an allocation failed.
+pub fn read_request<S: AsStr>(alloc: Global, words: &[S]) -> Result<Request, UsageFault>
+    ensures found { IfOk result (IsRequestOf (subcommand_of spprof (spoken (map S.text words.now)))) }
+    ensures good { IfOk result (λ _. fault_of spprof (spoken (map S.text words.now)) ≡ []) }
+    ensures refused { IfErr result (EndsBy (fault_of spprof (spoken (map S.text words.now)))) }
+{
+    match read_words(alloc, words) {
+        Ok(Asked { request, .. }) => Ok(request),
+        Err(fault) => Err(fault),
+    }
 }

@@ -8,7 +8,7 @@ ghost use Rattle.spp_shell.specs.Usage.{GoesWith};
 mod watched;
 
 use crate::watched::{Seen, Watched};
-use spp_command_line::{Asked, read_request};
+use spp_command_line::{Asked, read_words};
 use spp_explain::{FRONT, Run, explain};
 use spp_report::{OutSink, Sink, write_out};
 use spp_request::{Command, Request, UsageFault};
@@ -233,7 +233,7 @@ fn explain_fault<O: Write, E: Write + Drop>(
 
 fn main(rt: HostRuntime) -> ExitCode {
     let asked = match words(&rt) {
-        Ok(words) => read_request(rt.alloc(), words.as_slice()),
+        Ok(words) => read_words(rt.alloc(), words.as_slice()),
         Err(fault) => Err(fault),
     };
     let room = match &asked {
