@@ -26,8 +26,8 @@ PROCESSORS = len(os.sched_getaffinity(0))
 SECONDS = {
     "spp_event": 110, "spp_maxplus": 110, "spp_book": 300, "spp_frame": 60, "spp_cut": 95, "spp_text": 210, "spp_dag": 30,
     "spp_piece": 30, "spp_summary": 85, "spp_site": 125, "spp_request": 20, "spp_command_line": 350, "spp_stack": 45,
-    "spp_report": 220, "spp_ways": 110, "spp_serial": 60, "spp_pass": 210, "spp_part": 70, "spp_path": 200, "spp_jobs": 110,
-    "spp_crew": 150, "spp_shell": 165, "spp_explain": 110, "spprof": 145,
+    "spp_report": 220, "spp_advice": 50, "spp_ways": 110, "spp_serial": 60, "spp_pass": 210, "spp_part": 70, "spp_path": 200,
+    "spp_jobs": 110, "spp_crew": 150, "spp_shell": 165, "spp_explain": 110, "spprof": 145,
 }
 # A crate that may begin so many seconds later, and no more, without delaying the build is urgent.
 SLACK = 45

@@ -1,7 +1,7 @@
 # Completions of spprof for bash. To install: docs/INSTALL.md.
 
 _spprof() {
-    local cur=${COMP_WORDS[COMP_CWORD]} command='' options='' values=' --burden --join-burden --parts --workers '
+    local cur=${COMP_WORDS[COMP_CWORD]} command='' options='' values=' --burden --join-burden --parts --workers --top --faster --site '
     local used=' ' skip='' ended='' index word
     COMPREPLY=()
 
@@ -24,19 +24,20 @@ _spprof() {
             [[ $values != *" $word "* ]] || skip=1
         fi
     done
-    # A value is a number.
+    # A value is a number or a name of the trace.
     [[ -z $skip && $cur != '=' ]] || return 0
 
     case $command in
-        '') options='check figures profile compare encode migrate help -h --help -V --version' ;;
+        '') options='check figures profile advise compare encode migrate help -h --help -V --version' ;;
         help)
-            ((COMP_CWORD != 2)) || options='check figures profile compare encode migrate'
+            ((COMP_CWORD != 2)) || options='check figures profile advise compare encode migrate'
             [[ -z $options ]] || mapfile -t COMPREPLY < <(compgen -W "$options" -- "$cur")
             return 0
             ;;
         check | encode | migrate) options='--explain -h --help' ;;
         figures | compare) options='--burden --join-burden --parts --workers --explain -h --help' ;;
         profile) options='--burden --join-burden --parts --workers --csv --explain -h --help' ;;
+        advise) options='--burden --join-burden --parts --workers --top --faster --site --csv --explain -h --help' ;;
         *) return 0 ;;
     esac
     if [[ -z $command ]]; then

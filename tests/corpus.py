@@ -24,6 +24,7 @@ COMMANDS = [
     ["compare", "--burden", "1", "--parts", "2", "@", SMALL],
     ["compare", "--burden", "1", SMALL, "@"],
     ["migrate", "@"],
+    ["advise", "--burden", "5", "--join-burden", "2", "--parts", "3", "--top", "3", "--faster", "3", "@"],
 ]
 
 # How long a run may take, in seconds.

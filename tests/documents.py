@@ -450,6 +450,11 @@ def check_man(spprof, top_help, helps, commands):
     judge(f"{name}: the tables", *differ(page.tags("Tables"), [above for above, line in zip(report, report[1:]) if line.split()[:1] == ["count"]]))
     both = ask(spprof, "compare", *[os.path.join(TOP, "examples/small.sptrace")] * 2).split("\n")[6].split()
     judge(f"{name}: the columns of compare", *differ(page.tags("Comparison"), {column[:-2] for column in both if column != "name"}))
+    advice = ask(spprof, "advise", os.path.join(TOP, "examples/small.sptrace")).split("\n")
+    tables = [line for blank, title, line in zip(advice, advice[1:], advice[2:]) if not blank and not title.startswith("begin ")]
+    headings = {word for line in tables for word in line.split()}
+    tags = {word for tag in page.tags("Advice") for word in tag.split(", ")}
+    judge(f"{name}: the columns of advise", *differ(tags, headings))
     rows = re.search(r"\| Column .*?\n\n", read("README.md"), re.S)
     judge("README.md: the columns", *differ(re.findall(r"`(\w+)`", rows[0] if rows else ""), columns))
     judge("README.md: the figures", *differ(re.findall(r"^- \*([\w ]+)\*: ", read("README.md"), re.M), page.tags("Figures")))

@@ -4,10 +4,10 @@
 usage: tests/instructions.py SPPROF [--write]
 
 Each command runs by one worker under valgrind's callgrind, over the traces of tests/traces.py: `check`, `figures`,
-`profile`, `compare` and `migrate` over each kind and both versions, and `encode` over the text of each kind. The list is
-tests/instructions.txt, and --write writes it anew. A line has the kind, the version (or `text`), the command, and how many
-instructions it took. Counts depend on the program, and on what the first line names: where it is another here, or where
-there is no valgrind, nothing is counted. They don't depend on the environment, which is emptied.
+`profile`, `advise` (of one call site), `compare` and `migrate` over each kind and both versions, and `encode` over the text
+of each kind. The list is tests/instructions.txt, and --write writes it anew. A line has the kind, the version (or `text`),
+the command, and how many instructions it took. Counts depend on the program, and on what the first line names: where it is
+another here, or where there is no valgrind, nothing is counted. They don't depend on the environment, which is emptied.
 
 Ends with a line `N passed, M failed`."""
 import concurrent.futures
@@ -50,6 +50,7 @@ def runs():
             words[kind, version, "check"] = ["check", trace]
             words[kind, version, "figures"] = ["figures", "--workers", "1", trace]
             words[kind, version, "profile"] = ["profile", "--workers", "1", trace]
+            words[kind, version, "advise"] = ["advise", "--workers", "1", "--top", "1", trace]
             words[kind, version, "compare"] = ["compare", "--workers", "1", trace, f"{kind}.later.{version}"]
             words[kind, version, "migrate"] = ["migrate", trace]
         words[kind, "text", "encode"] = ["encode", f"{kind}.txt"]

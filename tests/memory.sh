@@ -164,6 +164,12 @@ each_refused 'check, a long header by name' 0 0 'work 5' '' /dev/null "$spprof" 
 each_refused 'check, a long header of version 2' 0 0 'work 5' '' "$folder/names.compact" "$spprof" check
 each_refused 'check, one of version 2 by name' 0 0 'work 5' '' /dev/null "$spprof" check "$folder/names.compact"
 each_refused 'profile, version 2' 0 3 'work 32744*' '' "$examples/nqueens.compact" "$spprof" profile
+# `advise` reads the trace whole: a profile, the marks of the burdened path in three rounds, and the changed runs, here four and
+# two, which the workers share.
+each_refused 'advise, a recorded trace' 0 15 'work 32744*' '' "$examples/nqueens.sptrace" "$spprof" advise
+each_refused 'advise by one worker' 0 0 'work 17*' '' "$examples/small.compact" "$spprof" advise --workers 1
+each_refused 'advise, many call sites' 0 8 'work 10*' '' "$folder/many" "$spprof" advise --parts 9 --workers 2
+each_refused 'advise, a bad event' 1 3 '' 'bad event 4: tag' "$folder/tag" "$spprof" advise
 # An input of 69 MB, for the peaks below, with more call sites than a profile by blocks takes.
 awk 'BEGIN { print "func f"; for (n = 0; n < 1025; n++) print "site s" n
     for (n = 0; n < 4300000; n++) print "strand", n % 7 }' | "$spprof" encode > "$folder/long"
@@ -193,6 +199,9 @@ peaks_within() { # BOUND STATUS INPUT WORDS..: so many KiB are used at most, and
 size=$(($(stat -c %s "$folder/long") / 1024))
 peaks_within $((size * 13 / 10)) 0 "$folder/long" profile --workers 1
 peaks_within $((size * 11 / 10)) 0 "$folder/long" profile --workers 1 "$folder/long"
+# `advise` reads every trace whole, and has a byte for each event, a sixteenth of the size, besides.
+peaks_within $((size * 13 / 10)) 0 "$folder/long" advise --workers 1
+peaks_within $((size * 12 / 10)) 0 "$folder/long" advise --workers 1 "$folder/long"
 # Figures of version 1 go by blocks, and keep no trace.
 peaks_within 20000 0 "$folder/long" figures --workers 1
 peaks_within 20000 0 "$folder/long" figures "$folder/long"

@@ -100,7 +100,8 @@ for trace in small cilksort fib nqueens; do
         : > "$folder/out"
         judge "migrate of $trace.$version" 0 '' ''
     done
-    for words in check figures 'figures --parts 7 --workers 2' profile 'profile --csv --parts 20 --workers 64' 'profile --parts 1 --workers 1'; do
+    for words in check figures 'figures --parts 7 --workers 2' profile 'profile --csv --parts 20 --workers 64' 'profile --parts 1 --workers 1' \
+        'advise --burden 100' 'advise --parts 20 --workers 64 --top 2 --faster 7'; do
         "$spprof" $words "$top/examples/$trace.sptrace" > "$folder/old" 2> "$folder/err"
         "$spprof" $words "$top/examples/$trace.compact" > "$folder/out" 2>> "$folder/err"
         status=$?
@@ -117,6 +118,7 @@ for run in loop tree; do
     : > "$folder/out"
     judge "profile of the $run" 0 '' ''
 done
+. "$top/tests/advise.sh"
 # Two runs beside each other (tests/compare, by that program too), with options and without, from files and pipes.
 compare_gives() { # NAME FILE WORDS..: with these words, `compare` prints just the bytes of the file
     local name=$1 file=$2
@@ -201,12 +203,26 @@ for trace in cilksort fib nqueens; do
 done
 printf '1111011\n' > "$folder/marks"
 marks_of 'the small trace' "$small" "$folder/marks" 3 2
-expect 'a table of a part of a record' 1 '' "bad event 1: truncated$lf" <(head -c 60 "$small") profile
+for command in profile advise; do
+    expect "$command of a part of a record" 1 '' "bad event 1: truncated$lf" <(head -c 60 "$small") $command
+done
 printf 'func main\n' | "$spprof" encode | "$spprof" migrate > "$folder/empty"
 for parts in 1 16 65536; do
     expect "figures of no events in $parts parts" 0 \
         "work 0${lf}span 0${lf}burdened 0${lf}parallelism -${lf}burdened parallelism -$lf" '' "$folder/empty" figures --parts=$parts
 done
+
+expect 'advise of no events' 0 "work 0${lf}*
+           -            -            -            - 2
+*
+           1         0.00            -            -            -            0            0            - (root)
+
+what if
+*
+           0            0            -            0            -            - as recorded
+
+begin with (root): *
+no change that was tried makes the burdened span shorter$lf" '' "$folder/empty" advise
 
 head -c 120 "$small" > "$folder/part"
 # The small trace ended early, after each number of bytes.
@@ -214,7 +230,7 @@ for ((length = 0; length < 148; length++)); do
     head -c $length "$small" > "$folder/begun"
     told='bad header: short'
     [ $length -lt 36 ] || told="bad event $(((length - 36) / 16)): truncated"
-    for command in check figures 'profile --parts 7 --workers 2'; do
+    for command in check figures 'profile --parts 7 --workers 2' 'advise --workers 1'; do
         expect "$command of the first $length bytes" 1 '' "$told$lf" "$folder/begun" $command
     done
 done
@@ -242,7 +258,7 @@ for bytes_event in 1:0 3:1 4:1 6:2 9:4 12:6; do cut_off ${bytes_event%:*} ${byte
 # One bad item of 16 MB with 63 events behind it, in more parts than events.
 { head -c 20 "$top/examples/small.compact"; printf '\0\0\0\100'; head -c 36 "$top/examples/small.compact" | tail -c 12
     printf '\200'; head -c 16000000 /dev/zero; head -c 63 /dev/zero | tr '\0' '\203'; } > "$folder/item"
-for command in check 'figures --parts 65536' 'profile --parts 65536 --workers 2'; do
+for command in check 'figures --parts 65536' 'profile --parts 65536 --workers 2' 'advise --parts 65536 --workers 2'; do
     timeout 30 "$spprof" $command < "$folder/item" > "$folder/out" 2> "$folder/err"
     status=$?
     judge "a bad item of 16 MB, $command" 1 '' "bad event 0: operand$lf"
@@ -276,6 +292,8 @@ cp "$small" "$folder/-a b"
 expect 'a bad file by name' 1 '' "bad event 5: truncated$lf" /dev/null check "$folder/part"
 expect 'a file that is not there' 3 '' "cannot open input$lf" "$small" check "$folder/nothing"
 expect 'a folder by name' 3 '' "cannot read input$lf" "$small" check "$folder"
+expect 'advise: no file' 3 '' "cannot open input$lf" "$small" advise "$folder/nothing"
+expect 'advise: a folder' 3 '' "cannot read input$lf" "$small" advise "$folder"
 
 # Longer than an input may be: a named regular file is refused at once, before it is read, and so is each of two. These files take
 # no place on the disk.
@@ -288,7 +306,7 @@ in_little() { # SECONDS NAME STATUS OUT ERR INPUT WORDS..: within so many second
     status=$?
     judge "$name" "$wanted" "$out" "$err"
 }
-for command in check figures profile encode; do
+for command in check figures profile advise encode; do
     in_little 1 "$command of a file that is too long" 3 '' "$too_long" /dev/null $command "$folder/long"
 done
 in_little 1 'one byte more than an input may have' 3 '' "$too_long" /dev/null check "$folder/longer"
@@ -309,20 +327,22 @@ expect 'a folder for input' 3 '' "cannot read input$lf" "$folder" check
 "$spprof" check <&- > "$folder/out" 2> "$folder/err"
 status=$?
 judge 'a closed input' 3 '' "cannot read input$lf"
-"$spprof" check < "$small" > /dev/full 2> "$folder/err"
-status=$?
-: > "$folder/out"
-judge 'a full output' 3 '' "cannot write output$lf"
-"$spprof" check < "$small" >&- 2> "$folder/err"
-status=$?
-judge 'a closed output' 3 '' "cannot write output$lf"
-{
-    sleep 0.3
-    "$spprof" check < "$small" 2> "$folder/err"
-    echo $? > "$folder/status"
-} | true
-status=$(cat "$folder/status")
-judge 'a pipe that nobody reads' 3 '' "cannot write output$lf"
+for command in check advise; do
+    "$spprof" $command < "$small" > /dev/full 2> "$folder/err"
+    status=$?
+    : > "$folder/out"
+    judge "$command, a full output" 3 '' "cannot write output$lf"
+    "$spprof" $command < "$small" >&- 2> "$folder/err"
+    status=$?
+    judge "$command, a closed output" 3 '' "cannot write output$lf"
+    {
+        sleep 0.3
+        "$spprof" $command < "$small" 2> "$folder/err"
+        echo $? > "$folder/status"
+    } | true
+    status=$(cat "$folder/status")
+    judge "$command, a pipe that nobody reads" 3 '' "cannot write output$lf"
+done
 { head -c 70 "$small" && sleep 0.2 && tail -c +71 "$small"; } | "$spprof" check > "$folder/out" 2> "$folder/err"
 status=$?
 judge 'an input that comes in pieces' 0 "work 17$lf" ''
@@ -349,6 +369,32 @@ judge 'tables of a million nested calls' 0 "name,*${lf}(root),1,0,1,5,5,1,5,5,1,
 timeout 30 "$spprof" profile --csv "$folder/wide" > "$folder/out" 2> "$folder/err"
 status=$?
 judge 'tables of a million children' 0 "name,*${lf}(root),1,0,1,5000000,5,1,5000000,5,1,0,1,5000000,5,1,5000000,5,1,0,1,5000000,5,1,5000000,5${lf}A,1000000,5000000,1000000,5000000,5000000,1000000,5000000,5000000,1,5,1,5,5,1,5,5,1,5,1,5,5,1,5,5$lf" ''
+# What is told about mending them: one call site, and two changed runs of each.
+timeout 30 "$spprof" advise "$folder/nested" > "$folder/out" 2> "$folder/err"
+status=$?
+judge 'advise over a million nested calls' 0 "work 5$lf*
+           1         0.00         1.00         0.00         0.00            0            0         0.00 (root)
+     1000000         0.00         1.00       100.00       100.00            0            0         0.00 A
+*
+           5            5         1.00            5         1.00         0.00 as recorded
+           3            3         1.00            3         1.00        40.00 A: 2 times faster
+           5            5         1.00  15000000005         0.00            - A: calls as spawns
+
+begin with A: what it runs itself is 100.00 per cent of the burdened span; *
+most is saved by A: 2 times faster, burdened span 5 to 3, 40.00 per cent less, since what it runs itself is on the burdened path$lf" ''
+timeout 30 "$spprof" advise --burden 1 "$folder/wide" > "$folder/out" 2> "$folder/err"
+status=$?
+judge 'advise over a million children' 0 "work 5000000$lf*
+       64.00        63.99         4.99         4.70 64
+*
+     1000000         5.00         1.00       100.00         0.00      1000000      1000000        99.99 A
+*
+     5000000            5   1000000.00      1000005         4.99         0.00 as recorded
+     3000000            3   1000000.00      1000003         2.99         0.00 A: 2 times faster
+     5000000      5000000         1.00      5000000         1.00            - A: spawns as calls
+
+begin with A: the burdens of its spawns are 99.99 per cent of the burdened span; larger pieces would bear fewer
+most is saved by A: 2 times faster, burdened span 1000005 to 1000003, 0.00 per cent less, *$lf" ''
 # By several workers, in blocks; threads have addresses of their own, most of which no memory is taken for.
 (ulimit -v 1200000 && timeout 60 "$spprof" profile --csv --workers 3 "$folder/nested" > "$folder/out" 2> "$folder/err")
 status=$?
@@ -386,6 +432,16 @@ great_row=,1,$great,1,$great,$great,1,$great,$great
 expect 'a great work' 0 "work $great$lf" '' "$folder/great" check
 expect 'great figures' 0 "work $great${lf}span $great${lf}burdened $great${lf}parallelism 1.00*" '' "$folder/great" figures
 expect 'a great report' 0 "work $great$lf*1 $great *1 $great $great * (root)$lf*1 $great * (root)$lf*1 $great * (root)$lf" '' "$folder/great" profile
+printf '%s\n' 'func f' 'site A' 'spawn 0 0' 'strand 18446744073709551615' 'return' 'strand 18446744073709551615' | "$spprof" encode > "$folder/spawned"
+expect 'great advice' 0 "work $great$lf*
+           1 18446744073709551615.00         1.00       100.00        99.99            1   4294967295         0.00 A
+*
+$great 18446744073709551615         2.00 18446744078004518910         1.99         0.00 as recorded
+27670116110564327423 18446744073709551615         1.50 18446744078004518910         1.49         0.00 A: 2 times faster
+$great $great         1.00 $great         1.00            - A: spawns as calls
+
+begin with A: what it runs itself is 99.99 per cent of the burdened span; *
+no change that was tried makes the burdened span shorter$lf" '' "$folder/spawned" advise --burden 4294967295
 expect 'great tables' 0 "name,*$lf(root)$great_row$great_row$great_row$lf" '' \
     "$folder/great" profile --csv
 
@@ -458,7 +514,7 @@ for word in --version -V; do
     expect "$word" 0 "spprof 0.1.0$lf" '' /dev/null $word
 done
 shown help 0 help
-for command in check figures profile compare encode migrate; do
+for command in check figures profile advise compare encode migrate; do
     shown help_of_$command 0 $command --help
     shown help_of_$command 0 $command -h
     shown help_of_$command 0 help $command
@@ -480,10 +536,11 @@ for command in figures profile; do
         "error: unexpected argument 'b' found$lf$lf  tip: 'spprof compare' reads the traces of two runs$lf$lf*" /dev/null $command a b
 done
 shown two_traces 2 profile a b
+expect 'advise of two files' 2 '' "error: unexpected argument 'b' found$lf*" /dev/null advise a b
 expect 'compare by no workers' 2 '' "error: invalid value '0' for '--workers <N>': 0 is not in 1..=64$lf*" /dev/null compare --workers 0 a b
 expect 'compare in too many parts' 2 '' "error: invalid value '65537' for '--parts <N>': 65537 is not in 1..=65536$lf*" /dev/null compare --parts 65537 a b
 expect 'compare with too great a burden' 2 '' "error: invalid value '4294967296' for '--burden <N>': *" /dev/null compare --burden 4294967296 a b
-for command in figures profile; do
+for command in figures profile advise; do
     shown no_parts 2 $command --parts 0
     shown too_many_parts 2 $command --parts 65537
     shown no_workers 2 $command --workers 0
@@ -491,6 +548,13 @@ for command in figures profile; do
 done
 shown parts_of_check 2 check --parts 3
 shown workers_of_check 2 check --workers 2
+for wrong in '--top 0 1..=65536' '--top 65537 1..=65536' '--top 4294967296 1..=65536' '--faster 1 2..=1000' '--faster 1001 2..=1000'; do
+    read -r option value range <<< "$wrong"
+    expect "advise $option $value" 2 '' "error: invalid value '$value' for '$option <N>': $value is not in $range$lf*" "$small" advise $option $value
+    for command in check figures profile encode migrate 'compare a b'; do
+        expect "$command with $option" 2 '' "error: unexpected argument '$option' found$lf*" "$small" $command $option 3
+    done
+done
 shown negative_burden 2 figures --burden -1
 shown negative_burden 2 compare --burden -1 a b
 for words in 'figures --parts -15' 'profile a --workers -0' 'compare --join-burden -1 a b'; do
@@ -502,7 +566,10 @@ for word in chek encod --nothing ''; do
     expect "no command: '$word'" 2 '' 'error: *' "$small" "$word"
 done
 for word in 4294967296 -1 x ''; do
-    for command in figures profile; do
+    for option in --top --faster; do
+        expect "advise, no number for $option: '$word'" 2 '' 'error: *' "$small" advise $option "$word"
+    done
+    for command in figures profile advise; do
         expect "$command, no burden: '$word'" 2 '' 'error: *' "$small" $command --burden "$word"
         expect "$command, no join burden: '$word'" 2 '' 'error: *' "$small" $command --join-burden "$word"
         expect "$command, no number of parts: '$word'" 2 '' 'error: *' "$small" $command --parts "$word"
@@ -510,6 +577,7 @@ for word in 4294967296 -1 x ''; do
     done
 done
 expect 'parts without a number' 2 '' 'error: *' "$small" figures --parts
+expect 'sites without a number' 2 '' 'error: *' "$small" advise --top
 expect 'workers without a number' 2 '' 'error: *' "$small" profile --workers
 expect 'a join burden without a number' 2 '' 'error: *' "$small" figures --join-burden
 for command in check encode; do
@@ -552,7 +620,7 @@ burdens_give 14 "$past_child" --burden 7 --join-burden=0
 burdens_give 14 "$past_child" --join-burden=0 --burden 7
 burdens_give 15007 "$past_child" --join-burden 3
 burdens_give 4294967308 "$by_child" --join-burden 4294967295
-for command in check figures profile; do
+for command in check figures profile advise; do
     expect "$command of an input" 0 'work 17*' '' "$small" $command
     expect "$command of a file" 0 'work 17*' '' /dev/null $command "$folder/-a b"
     (cd "$folder" && "$spprof" $command -- '-a b' > out 2> err)
@@ -586,7 +654,7 @@ encode_it='make a trace of the text: spprof encode TEXT > TRACE'
 explains 'an empty input' 1 'bad header: short' 'standard input: it is empty' 'flush*' /dev/null check
 head -c 30 "$small" > "$bad"
 explains 'a header that ends' 1 'bad header: short' "$bad: byte 30: it ends within its header" 'flush*' /dev/null figures "$bad"
-for command in check figures profile migrate; do
+for command in check figures profile advise migrate; do
     explains "a text for $command" 1 'bad header: magic' "$top/examples/small.txt: byte 0: it begins with '# main s'" "$encode_it" \
         /dev/null $command "$top/examples/small.txt"
 done
@@ -616,7 +684,7 @@ explains 'a byte too many' 1 'bad header: trailing' \
 explains 'a record that is missing' 1 'bad event 1: truncated' \
     "$bad: byte 52, event 1: it ends there, and the header's number of events is 2" 'check each write*' /dev/null check "$bad"
 { trace 1 && event 0=11; } > "$bad"
-for command in check figures profile migrate; do
+for command in check figures profile advise migrate; do
     explains "no event, $command" 1 'bad event 0: tag' 'standard input: byte 36, event 0, bytes 09 00 00*: its first byte is that of no event' 'write records*' "$bad" $command
 done
 { trace 1 && event 0=4 3=1; } > "$bad"

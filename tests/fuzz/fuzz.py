@@ -9,7 +9,7 @@ builds it, and there the status, and whether the commands agree, are looked at t
 seeds by chance itself, for as long, and looks at all of that in every run.
 
 A finding is a run that a signal ends, that takes over 10 seconds or has a status outside 0 to 4, or commands that disagree.
-They agree where `check`, `figures` (5 parts) and `profile` (3 parts) print the same work or the same line of fault.
+They agree where `check`, `figures` (5 parts), `profile` and `advise` (3 parts) print the same work or line of fault.
 
 The inputs that were kept lie in FOLDER, which mustn't be there yet; by default in tests/fuzz/out/found, which is emptied.
 Ends with what was found, and with status 1 where that is anything."""
@@ -34,6 +34,7 @@ COMMANDS = {
     "encode": ["encode", "@@"],
     "figures": ["figures", "--parts", "5", "--workers", "2", "@@"],
     "profile": ["profile", "--parts", "3", "--workers", "2", "@@"],
+    "advise": ["advise", "--parts", "3", "--workers", "2", "--top", "3", "@@"],
     "compare": ["compare", "--parts", "2", "--workers", "1", "@@", SMALL],
     "migrate": ["migrate", "@@"],
 }
@@ -72,7 +73,7 @@ def findings(path):
         if not 0 <= told[name][0] <= 4:
             return f"{name} ends with status {told[name][0]}"
     status, out, err = told["check"]
-    for name in ("figures", "profile"):
+    for name in ("figures", "profile", "advise"):
         if told[name][0] != status or not told[name][1].startswith(out) or told[name][2] != err:
             return f"{name} and check don't say the same"
     if told["compare"][0] != status or (err and told["compare"][2] != b"before: " + err):

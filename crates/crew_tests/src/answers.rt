@@ -1,6 +1,6 @@
 //! What workers answer to small runs whose numbers are known.
 
-use crate::calls::{CREWS, Call, Crew, EVERY_CALL, THREE, marks_of};
+use crate::calls::{CREWS, Call, Crew, EVERY_CALL, THREE, burdened_marks_of, marks_of};
 use crate::traces::{evenly, singly, thousand};
 use crate::worked::{CALL, DEEP, GOOD, Good, Line, Lines, SPAWN};
 use spp_crew::{OpenGate, figures, profile, profile_in_rounds};
@@ -97,6 +97,20 @@ fn has_marks<R: Threads + Wait + Sync>(
     }
 }
 
+/// Whether the events of a run are marked so on its burdened path.
+fn has_burdened_marks<R: Threads + Wait + Sync>(
+    rt: &R,
+    alloc: Global,
+    cut: &Cut<'_, '_>,
+    crew: Crew,
+    run: &Good<'_>,
+) -> bool {
+    match burdened_marks_of(rt, alloc, cut, crew, run.burdens, &OpenGate) {
+        Ok((Ok(()), bytes)) => bytes.as_slice() == run.burdened_marks,
+        _ => false,
+    }
+}
+
 /// Whether all crews answer the call rightly.
 pub(crate) fn all_answer<R: Threads + Wait + Sync>(
     rt: &R,
@@ -111,6 +125,7 @@ pub(crate) fn all_answer<R: Threads + Wait + Sync>(
             Call::Profile => has_profile(rt, alloc, cut, crew, run),
             Call::ProfileInRounds => has_profile_in_rounds(rt, alloc, cut, crew, run),
             Call::Marks => has_marks(rt, alloc, cut, crew, run),
+            Call::BurdenedMarks => has_burdened_marks(rt, alloc, cut, crew, run),
         };
         if !right {
             return false;
@@ -173,6 +188,15 @@ fn the_events_on_the_path_are_marked(rt: HostRuntime) -> Result<(), Fail> {
     Ok(())
 }
 
+#[test]
+fn the_events_on_the_burdened_path_are_marked(rt: HostRuntime) -> Result<(), Fail> {
+    for (i, run) in GOOD.iter().enumerate() {
+        let right = is_answered(&rt, rt.alloc(), run, Call::BurdenedMarks);
+        assert_eq!(rt; right, Some(true), "run {i}");
+    }
+    Ok(())
+}
+
 /// Whether all crews answer the call rightly for a thousand frames within one another, opened by that event, in parts
 /// of one event; none where an allocation failed.
 fn deep_run_is_answered<R: Threads + Wait + Sync>(
@@ -196,6 +220,7 @@ fn deep_run_is_answered<R: Threads + Wait + Sync>(
         path: DEEP,
         burdened_path: DEEP,
         marks: &marks,
+        burdened_marks: &marks,
     };
     let bytes = trace_of(alloc, &events).ok()?;
     let trace = open_trace(alloc, &bytes).ok()?;

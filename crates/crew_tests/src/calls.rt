@@ -3,7 +3,9 @@
 ghost use Rattle.std.specs.Prelude.{◌<◌, ◌≤◌, IfOk};
 ghost use Rattle.spp_stack.specs.Parts.{AreEntriesOf};
 
-use spp_crew::{Gate, OpenGate, Round, figures, marks, profile, profile_in_rounds, survey};
+use spp_crew::{
+    Gate, OpenGate, Round, burdened_marks, figures, marks, profile, profile_in_rounds, survey,
+};
 use spp_cut::Cut;
 use spp_frame::ProfileFault;
 use spp_jobs::entries_of;
@@ -55,14 +57,16 @@ pub(crate) enum Call {
     Profile,
     ProfileInRounds,
     Marks,
+    BurdenedMarks,
 }
 
 /// All calls.
-pub(crate) const EVERY_CALL: [Call; 4] = [
+pub(crate) const EVERY_CALL: [Call; 5] = [
     Call::Figures,
     Call::Profile,
     Call::ProfileInRounds,
     Call::Marks,
+    Call::BurdenedMarks,
 ];
 
 impl Call {
@@ -72,7 +76,9 @@ impl Call {
             Call::Figures => &[Round::Summaries],
             Call::Profile => &[Round::Profile],
             Call::ProfileInRounds => &[Round::Summaries, Round::Tables, Round::Paths],
-            Call::Marks => &[Round::Summaries, Round::Tables, Round::Marks],
+            Call::Marks | Call::BurdenedMarks => {
+                &[Round::Summaries, Round::Tables, Round::Marks]
+            }
         }
     }
 
@@ -80,7 +86,9 @@ impl Call {
     pub(crate) fn first_round(self) -> &'static [Round] {
         match self {
             Call::Profile => &[Round::Profile],
-            Call::Figures | Call::ProfileInRounds | Call::Marks => &[Round::Summaries],
+            Call::Figures | Call::ProfileInRounds | Call::Marks | Call::BurdenedMarks => {
+                &[Round::Summaries]
+            }
         }
     }
 }
@@ -116,6 +124,10 @@ pub(crate) fn ask<R: Threads + Wait + Sync, G: Gate>(
             let (told, _bytes) = marks_of(rt, alloc, cut, crew, gate)?;
             told
         }
+        Call::BurdenedMarks => {
+            let (told, _bytes) = burdened_marks_of(rt, alloc, cut, crew, THREE, gate)?;
+            told
+        }
     }
 }
 
@@ -133,6 +145,24 @@ pub(crate) fn marks_of<R: Threads + Wait + Sync, G: Gate>(
 ) -> Result<(Result<(), ProfileFault>, Vec<u8>), AllocError> {
     let mut bytes = vec![in alloc; 7; cut.trace().count() as usize]?;
     let told = marks(rt, alloc, cut, crew.workers(), gate, &mut bytes);
+    Ok((told, bytes))
+}
+
+/// The same of `burdened_marks`.
+///
+/// # Errors
+///
+/// Where an allocation failed.
+pub(crate) fn burdened_marks_of<R: Threads + Wait + Sync, G: Gate>(
+    rt: &R,
+    alloc: Global,
+    cut: &Cut<'_, '_>,
+    crew: Crew,
+    burdens: Burdens,
+    gate: &G,
+) -> Result<(Result<(), ProfileFault>, Vec<u8>), AllocError> {
+    let mut bytes = vec![in alloc; 7; cut.trace().count() as usize]?;
+    let told = burdened_marks(rt, alloc, cut, crew.workers(), burdens, gate, &mut bytes);
     Ok((told, bytes))
 }
 

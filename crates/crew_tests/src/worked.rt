@@ -25,6 +25,8 @@ pub(crate) struct Good<'a> {
     pub(crate) burdened_path: Lines,
     /// A byte for each event: 1 where it is on the path without burdens, else 0.
     pub(crate) marks: &'a [u8],
+    /// The same of the path under the burdens.
+    pub(crate) burdened_marks: &'a [u8],
 }
 
 /// A spawn at the site `A` of the function `f`.
@@ -116,6 +118,7 @@ pub(crate) const GOOD: &[Good<'static>] = &[
         path: [[1, 0, 1, 0, 0, 1, 0, 0], [0, 0, 0, 0, 0, 0, 0, 0]],
         burdened_path: [[1, 0, 1, 0, 0, 1, 0, 0], [0, 0, 0, 0, 0, 0, 0, 0]],
         marks: &[],
+        burdened_marks: &[],
     },
     Good {
         events: &[MOST, MOST],
@@ -141,6 +144,7 @@ pub(crate) const GOOD: &[Good<'static>] = &[
             [0, 0, 0, 0, 0, 0, 0, 0],
         ],
         marks: &[1, 1],
+        burdened_marks: &[1, 1],
     },
     Good {
         events: &FORK,
@@ -157,6 +161,7 @@ pub(crate) const GOOD: &[Good<'static>] = &[
         path: [[1, 3, 1, 17, 13, 1, 17, 13], [1, 10, 1, 10, 10, 1, 10, 10]],
         burdened_path: [[1, 3, 1, 17, 13, 1, 17, 13], [1, 10, 1, 10, 10, 1, 10, 10]],
         marks: &[1, 1, 1, 1, 0, 1, 1],
+        burdened_marks: &[1, 1, 1, 1, 0, 1, 1],
     },
     Good {
         events: &EVEN,
@@ -173,6 +178,7 @@ pub(crate) const GOOD: &[Good<'static>] = &[
         path: [[1, 0, 1, 8, 4, 1, 8, 4], [1, 4, 1, 4, 4, 1, 4, 4]],
         burdened_path: [[1, 0, 1, 8, 4, 1, 8, 4], [1, 4, 1, 4, 4, 1, 4, 4]],
         marks: &[1, 1, 1, 0, 1],
+        burdened_marks: &[1, 1, 1, 0, 1],
     },
     Good {
         events: &EVEN,
@@ -189,6 +195,7 @@ pub(crate) const GOOD: &[Good<'static>] = &[
         path: [[1, 0, 1, 8, 4, 1, 8, 4], [1, 4, 1, 4, 4, 1, 4, 4]],
         burdened_path: [[1, 4, 1, 8, 4, 1, 8, 4], [0, 0, 0, 0, 0, 0, 0, 0]],
         marks: &[1, 1, 1, 0, 1],
+        burdened_marks: &[1, 0, 0, 1, 1],
     },
     Good {
         events: &EVEN,
@@ -205,6 +212,7 @@ pub(crate) const GOOD: &[Good<'static>] = &[
         path: [[1, 0, 1, 8, 4, 1, 8, 4], [1, 4, 1, 4, 4, 1, 4, 4]],
         burdened_path: [[1, 0, 1, 8, 4, 1, 8, 4], [1, 4, 1, 4, 4, 1, 4, 4]],
         marks: &[1, 1, 1, 0, 1],
+        burdened_marks: &[1, 1, 1, 0, 1],
     },
     Good {
         events: &[SPAWN, RET, SYNC],
@@ -221,6 +229,7 @@ pub(crate) const GOOD: &[Good<'static>] = &[
         path: [[1, 0, 1, 0, 0, 1, 0, 0], [1, 0, 1, 0, 0, 1, 0, 0]],
         burdened_path: [[1, 0, 1, 0, 0, 1, 0, 0], [1, 0, 1, 0, 0, 1, 0, 0]],
         marks: &[1, 1, 1],
+        burdened_marks: &[1, 1, 1],
     },
     Good {
         events: &[SPAWN, RET, SYNC],
@@ -237,6 +246,7 @@ pub(crate) const GOOD: &[Good<'static>] = &[
         path: [[1, 0, 1, 0, 0, 1, 0, 0], [1, 0, 1, 0, 0, 1, 0, 0]],
         burdened_path: [[1, 0, 1, 0, 0, 1, 0, 0], [1, 0, 1, 0, 0, 1, 0, 0]],
         marks: &[1, 1, 1],
+        burdened_marks: &[1, 1, 1],
     },
     Good {
         events: &EQUAL,
@@ -253,6 +263,7 @@ pub(crate) const GOOD: &[Good<'static>] = &[
         path: [[1, 0, 1, 10, 5, 1, 10, 5], [1, 5, 1, 5, 5, 1, 5, 5]],
         burdened_path: [[1, 0, 1, 10, 5, 1, 10, 5], [1, 5, 1, 5, 5, 1, 5, 5]],
         marks: &[1, 1, 1, 0, 0, 0, 1],
+        burdened_marks: &[1, 0, 0, 1, 1, 1, 1],
     },
     Good {
         events: &EQUAL,
@@ -269,6 +280,7 @@ pub(crate) const GOOD: &[Good<'static>] = &[
         path: [[1, 0, 1, 10, 5, 1, 10, 5], [1, 5, 1, 5, 5, 1, 5, 5]],
         burdened_path: [[1, 0, 1, 10, 5, 1, 10, 5], [1, 5, 1, 5, 5, 1, 5, 5]],
         marks: &[1, 1, 1, 0, 0, 0, 1],
+        burdened_marks: &[1, 0, 0, 1, 1, 1, 1],
     },
     Good {
         events: &EQUAL,
@@ -285,6 +297,7 @@ pub(crate) const GOOD: &[Good<'static>] = &[
         path: [[1, 0, 1, 10, 5, 1, 10, 5], [1, 5, 1, 5, 5, 1, 5, 5]],
         burdened_path: [[1, 0, 1, 10, 5, 1, 10, 5], [1, 5, 1, 5, 5, 1, 5, 5]],
         marks: &[1, 1, 1, 0, 0, 0, 1],
+        burdened_marks: &[1, 1, 1, 0, 0, 0, 1],
     },
     Good {
         events: &[SPAWN, S7, RET, S2],
@@ -301,6 +314,7 @@ pub(crate) const GOOD: &[Good<'static>] = &[
         path: [[1, 0, 1, 9, 7, 1, 9, 7], [1, 7, 1, 7, 7, 1, 7, 7]],
         burdened_path: [[1, 0, 1, 9, 7, 1, 9, 7], [1, 7, 1, 7, 7, 1, 7, 7]],
         marks: &[1, 1, 1, 0],
+        burdened_marks: &[1, 1, 1, 0],
     },
     Good {
         events: &[SPAWN, MOST, MOST, RET],
@@ -326,6 +340,7 @@ pub(crate) const GOOD: &[Good<'static>] = &[
             [1, TWICE, 1, TWICE, TWICE, 1, TWICE, TWICE],
         ],
         marks: &[1, 1, 1, 1],
+        burdened_marks: &[1, 1, 1, 1],
     },
     Good {
         events: &CALLS,
@@ -342,6 +357,7 @@ pub(crate) const GOOD: &[Good<'static>] = &[
         path: [[1, 0, 1, 3, 3, 1, 3, 3], [3, 3, 1, 3, 3, 2, 5, 5]],
         burdened_path: [[1, 0, 1, 3, 3, 1, 3, 3], [3, 3, 1, 3, 3, 2, 5, 5]],
         marks: &[1, 1, 1, 1, 1, 1, 1, 1, 1],
+        burdened_marks: &[1, 1, 1, 1, 1, 1, 1, 1, 1],
     },
     Good {
         events: &NESTED,
@@ -358,6 +374,7 @@ pub(crate) const GOOD: &[Good<'static>] = &[
         path: [[1, 0, 1, 6, 3, 1, 6, 3], [2, 3, 1, 4, 3, 2, 7, 6]],
         burdened_path: [[1, 0, 1, 6, 3, 1, 6, 3], [2, 3, 1, 4, 3, 2, 7, 6]],
         marks: &[1, 1, 1, 1, 0, 1, 0],
+        burdened_marks: &[1, 1, 1, 1, 0, 1, 0],
     },
     Good {
         events: &WAITED,
@@ -374,6 +391,7 @@ pub(crate) const GOOD: &[Good<'static>] = &[
         path: [[1, 1, 1, 7, 4, 1, 7, 4], [2, 3, 1, 4, 3, 2, 7, 6]],
         burdened_path: [[1, 1, 1, 7, 4, 1, 7, 4], [2, 3, 1, 4, 3, 2, 7, 6]],
         marks: &[1, 1, 1, 1, 0, 1, 0, 1, 1],
+        burdened_marks: &[1, 1, 1, 1, 0, 1, 0, 1, 1],
     },
     Good {
         events: &TWO_SYNCS,
@@ -390,6 +408,7 @@ pub(crate) const GOOD: &[Good<'static>] = &[
         path: [[1, 5, 1, 12, 9, 1, 12, 9], [1, 4, 1, 4, 4, 1, 4, 4]],
         burdened_path: [[1, 5, 1, 12, 9, 1, 12, 9], [1, 4, 1, 4, 4, 1, 4, 4]],
         marks: &[1, 1, 1, 0, 1, 1, 0, 0, 1, 1],
+        burdened_marks: &[1, 1, 1, 0, 1, 1, 0, 0, 1, 1],
     },
     Good {
         events: &IN_CALL,
@@ -406,6 +425,7 @@ pub(crate) const GOOD: &[Good<'static>] = &[
         path: [[1, 2, 1, 14, 7, 1, 14, 7], [2, 5, 1, 6, 5, 2, 11, 10]],
         burdened_path: [[1, 2, 1, 14, 7, 1, 14, 7], [2, 5, 1, 6, 5, 2, 11, 10]],
         marks: &[1, 0, 0, 1, 1, 1, 1, 0, 1, 1, 1],
+        burdened_marks: &[1, 0, 0, 1, 1, 1, 1, 0, 1, 1, 1],
     },
     Good {
         events: &IN_CALL_SYNCED,
@@ -422,6 +442,7 @@ pub(crate) const GOOD: &[Good<'static>] = &[
         path: [[1, 2, 1, 14, 7, 1, 14, 7], [2, 5, 1, 6, 5, 2, 11, 10]],
         burdened_path: [[1, 2, 1, 14, 7, 1, 14, 7], [2, 5, 1, 6, 5, 2, 11, 10]],
         marks: &[1, 0, 0, 1, 1, 1, 1, 0, 1, 1, 1, 1],
+        burdened_marks: &[1, 0, 0, 1, 1, 1, 1, 0, 1, 1, 1, 1],
     },
     Good {
         events: &BESIDE,
@@ -438,6 +459,7 @@ pub(crate) const GOOD: &[Good<'static>] = &[
         path: [[1, 10, 1, 15, 10, 1, 15, 10], [0, 0, 0, 0, 0, 0, 0, 0]],
         burdened_path: [[1, 10, 1, 15, 10, 1, 15, 10], [0, 0, 0, 0, 0, 0, 0, 0]],
         marks: &[1, 0, 0, 0, 0, 0, 1, 1],
+        burdened_marks: &[1, 0, 0, 0, 0, 0, 1, 1],
     },
     Good {
         events: &SPAWNS,
@@ -454,6 +476,7 @@ pub(crate) const GOOD: &[Good<'static>] = &[
         path: [[1, 4, 1, 20, 14, 1, 20, 14], [2, 10, 1, 15, 10, 2, 20, 15]],
         burdened_path: [[1, 4, 1, 20, 14, 1, 20, 14], [2, 10, 1, 15, 10, 2, 20, 15]],
         marks: &[1, 1, 1, 1, 1, 1, 0, 1, 0, 0, 0, 0, 0, 1, 1],
+        burdened_marks: &[1, 1, 1, 1, 1, 1, 0, 1, 0, 0, 0, 0, 0, 1, 1],
     },
 ];
 

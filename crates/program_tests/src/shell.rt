@@ -1,5 +1,6 @@
 //! Devices that give and take in pieces, are interrupted or fail, and whole runs over them.
 
+mod advises;
 mod checks;
 mod commands;
 mod compares;

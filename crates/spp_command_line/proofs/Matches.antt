@@ -74,11 +74,12 @@ entered_is_command None name rows e = cc
 entered_is_command (Some p) name rows e = elim (found_has_name (λ s. answers_to p.0 (label_of s)) p.1 (built spprof).subs name rows e) [
   | inl is ↦ (Check, sym is)
   | inr (inl is) ↦ (Figures, sym is)
-  | inr (inr (inl is)) ↦ (Profile, sym is)
-  | inr (inr (inr (inl is))) ↦ (Compare, sym is)
-  | inr (inr (inr (inr (inl is)))) ↦ (Encode, sym is)
-  | inr (inr (inr (inr (inr (inl is))))) ↦ (Migrate, sym is)
-  | inr (inr (inr (inr (inr (inr none))))) ↦ absurd none
+  | inr (inr (inl is)) ↦ (Profile, inl (sym is))
+  | inr (inr (inr (inl is))) ↦ (Profile, inr (sym is))
+  | inr (inr (inr (inr (inl is)))) ↦ (Compare, sym is)
+  | inr (inr (inr (inr (inr (inl is))))) ↦ (Encode, sym is)
+  | inr (inr (inr (inr (inr (inr (inl is)))))) ↦ (Migrate, sym is)
+  | inr (inr (inr (inr (inr (inr (inr none)))))) ↦ absurd none
 ]
 
 pub command_named : (words : List Text) (name : Text) (rows : List Row)
@@ -100,24 +101,24 @@ burden_read {E} G fallback (Some t) r parses none value = go r (value t refl)
         ((λ fits. read.1), (λ bad. absurd (bad (read.0.0, omega arith, omega (arith, read.0.1)))))
     go None h = ((λ fits. absurd (parses t (Err h.0) h.1 (fits.0, omega (arith, fits.2)))), (λ bad. refl))
 
--- the same of a number from 1 on, which a type of its own keeps
-pub count_read : {E : Type 0} (most fallback : ℕ) → most ≤ 4294967295 → (G : List ℕ → Result ℕ E → Type 0) (text : Option Text) (r o : Option ℕ) (n : ℕ)
+-- the same of a number from some least one on, which a type of its own keeps
+pub count_read : {E : Type 0} (least most fallback : ℕ) → most ≤ 4294967295 → (G : List ℕ → Result ℕ E → Type 0) (text : Option Text) (r o : Option ℕ) (n : ℕ)
     → ((t : Text) (x : Result ℕ E) → G t x → ParsesUnsigned 32 10 t x)
     → (text ≡ None → r ≡ None) → ((t : Text) → text ≡ Some t → ReadsOne G t r)
-    → MatchOption r (o ≡ None) (λ x. (IsSome o ↔ ((1 ≤ x) × (x ≤ most))) × IfSome o (λ p. p ≡ x))
+    → MatchOption r (o ≡ None) (λ x. (IsSome o ↔ ((least ≤ x) × (x ≤ most))) × IfSome o (λ p. p ≡ x))
     → UnwrapsOrElse o (λ p. p ≡ fallback) n
-    → IsNumberOr 1 most fallback text n
-count_read most fallback few G None r o n parses none value made kept = go r o (none refl) made kept
+    → IsNumberOr least most fallback text n
+count_read least most fallback few G None r o n parses none value made kept = go r o (none refl) made kept
   where
-    go : (r o : Option ℕ) → r ≡ None → MatchOption r (o ≡ None) (λ x. (IsSome o ↔ ((1 ≤ x) × (x ≤ most))) × IfSome o (λ p. p ≡ x)) → UnwrapsOrElse o (λ p. p ≡ fallback) n → n ≡ fallback
+    go : (r o : Option ℕ) → r ≡ None → MatchOption r (o ≡ None) (λ x. (IsSome o ↔ ((least ≤ x) × (x ≤ most))) × IfSome o (λ p. p ≡ x)) → UnwrapsOrElse o (λ p. p ≡ fallback) n → n ≡ fallback
     go (Some v) o e made kept = cc
     go None (Some p) e made kept = cc
     go None None e made kept = kept
-count_read most fallback few G (Some t) r o n parses none value made kept = go r o (value t refl) made kept
+count_read least most fallback few G (Some t) r o n parses none value made kept = go r o (value t refl) made kept
   where
     go : (r o : Option ℕ) → ReadsOne G t r
-        → MatchOption r (o ≡ None) (λ x. (IsSome o ↔ ((1 ≤ x) × (x ≤ most))) × IfSome o (λ p. p ≡ x)) → UnwrapsOrElse o (λ p. p ≡ fallback) n
-        → IsNumberOr 1 most fallback (Some t) n
+        → MatchOption r (o ≡ None) (λ x. (IsSome o ↔ ((least ≤ x) × (x ≤ most))) × IfSome o (λ p. p ≡ x)) → UnwrapsOrElse o (λ p. p ≡ fallback) n
+        → IsNumberOr least most fallback (Some t) n
     go (Some v) (Some p) h made kept =
         let read = parses t (Ok v) h in
         let bounds = made.0.0 refl in

@@ -1,18 +1,20 @@
 -- What words ask for. The program's name stands before them.
-use Rattle.std.specs.Prelude.{◌≡◌, ◌==◌, ℕ, Bool, true, false, List, [], ◌∷◌, codes, map}
+use Rattle.std.specs.Prelude.{◌≡◌, ◌==◌, ℕ, Bool, true, false, List, [], ◌∷◌, Option, Some, None, codes, map}
 use Rattle.std.specs.String.{string_bytes}
 use Rattle.clap.specs.Walk.{Text}
 use Rattle.clap.specs.Simple.{subcommand_of}
 use Rattle.clap.specs.Faults.{fault_of}
 use Rattle.clap.specs.declared.error.kind.ErrorKind.{ErrorKind}
 use Rattle.clap.specs.declared.error.kind.ErrorKind.TheVariants.{DisplayHelp, DisplayVersion, MissingRequiredArgument, MissingSubcommand, UnknownArgument, ValueValidation}
+use Rattle.std.specs.Option.{option_map}
+use Rattle.spp_request.specs.declared.advise_options.AdviseOptions.{AdviseOptions}
 use Rattle.spp_request.specs.declared.request.Command.{Command}
 use Rattle.spp_request.specs.declared.request.Command.TheVariants.{Check, Figures, Profile, Compare, Encode, Migrate}
 use Rattle.spp_maxplus.specs.declared.state.Burdens.{Burdens}
 use Rattle.spp_maxplus.specs.State.{equal}
 use Rattle.spp_command_line.specs.Spprof.{spprof}
 use Rattle.spp_command_line.specs.declared.asked.Asked.{Asked}
-use Rattle.spp_command_line.specs.Usage.{Gives, IsAskedBy, spoken}
+use Rattle.spp_command_line.specs.Usage.{Gives, GivesAdvice, IsAdvised, IsAskedBy, spoken}
 
 -- the words have no fault, they ask for these values, and nothing that they ask for has others
 abbrev pub AskFor : List Text → Command → List Text → Burdens → ℕ → ℕ → Bool → Bool → Type 0
@@ -146,3 +148,41 @@ NoWorkers =
     × Fail (codes "profile" ∷ codes "--workers" ∷ codes "0" ∷ []) ValueValidation
     × Fail (codes "profile" ∷ codes "--workers=65" ∷ []) ValueValidation
     × Fail (codes "check" ∷ codes "--workers" ∷ codes "2" ∷ []) UnknownArgument
+
+-- these are the options
+abbrev pub AreOptions : Option AdviseOptions → ℕ → ℕ → Option Text → Type 0
+AreOptions None top factor site = ⊥
+AreOptions (Some o) top factor site = (o.top ≡ top) × (o.factor ≡ factor) × (option_map string_bytes o.site ≡ site)
+
+-- the words have no fault, they ask for advice about the run of these files with these options and else with the defaults, as
+-- comma-separated values or not, and for nothing else
+abbrev pub AskAdvice : List Text → List Text → Bool → ℕ → ℕ → Option Text → Type 0
+AskAdvice words files csv top factor site =
+    Ask words Profile files (equal 15000) 16 4 csv
+    × ((o : Option AdviseOptions) → IsAdvised (subcommand_of spprof (spoken (codes "spprof" ∷ words))) o → AreOptions o top factor site)
+    × GivesAdvice (subcommand_of spprof (spoken (codes "spprof" ∷ words))) top factor site
+
+-- alone, with `-`, with a file, and with all its options
+abbrev pub Advise : Type 0
+Advise =
+    AskAdvice (codes "advise" ∷ []) [] false 10 2 None
+    × AskAdvice (codes "advise" ∷ codes "-" ∷ []) [] false 10 2 None
+    × ((first : ℕ) (rest : Text) → (first == 45) ≡ false → AskAdvice (codes "advise" ∷ (first ∷ rest) ∷ []) ((first ∷ rest) ∷ []) false 10 2 None)
+    × AskAdvice (codes "advise" ∷ codes "--top" ∷ codes "3" ∷ codes "--site" ∷ codes "b" ∷ codes "--faster=1000" ∷ codes "--csv" ∷ codes "a" ∷ []) (codes "a" ∷ []) true 3 1000 (Some (codes "b"))
+
+-- a second file, numbers out of their ranges, and an option of another command
+abbrev pub NoAdvise : Type 0
+NoAdvise =
+    ((first second : ℕ) (rest more : Text) → (first == 45) ≡ false → (second == 45) ≡ false
+    → Fail (codes "advise" ∷ (first ∷ rest) ∷ (second ∷ more) ∷ []) UnknownArgument)
+    × Fail (codes "advise" ∷ codes "--top" ∷ codes "0" ∷ []) ValueValidation
+    × Fail (codes "advise" ∷ codes "--top=65537" ∷ []) ValueValidation
+    × Fail (codes "advise" ∷ codes "--faster=1" ∷ []) ValueValidation
+    × Fail (codes "advise" ∷ codes "--faster=1001" ∷ []) ValueValidation
+    × Fail (codes "profile" ∷ codes "--top=3" ∷ []) UnknownArgument
+
+-- its help
+abbrev pub AdviseHelp : Type 0
+AdviseHelp =
+    Fail (codes "advise" ∷ codes "--help" ∷ []) DisplayHelp
+    × Fail (codes "help" ∷ codes "advise" ∷ []) DisplayHelp

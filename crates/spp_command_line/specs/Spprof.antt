@@ -50,6 +50,28 @@ workers_rule = record (new_rule (codes "workers")) {
   parser = Some (Signed (pos 1) (pos 64));
 }
 
+-- --top N, 1 to 65536; 10 where it isn't given
+abbrev pub top_rule : Rule
+top_rule = record (new_rule (codes "top")) {
+  long = Some (codes "top");
+  value_names = 1;
+  defaults = codes "10" ∷ [];
+  parser = Some (Signed (pos 1) (pos 65536));
+}
+
+-- --faster N, 2 to 1000; 2 where it isn't given
+abbrev pub faster_rule : Rule
+faster_rule = record (new_rule (codes "faster")) {
+  long = Some (codes "faster");
+  value_names = 1;
+  defaults = codes "2" ∷ [];
+  parser = Some (Signed (pos 2) (pos 1000));
+}
+
+-- --site NAME
+abbrev pub site_rule : Rule
+site_rule = record (new_rule (codes "site")) { long = Some (codes "site"); value_names = 1 }
+
 -- --csv, which takes no value
 abbrev pub csv_rule : Rule
 csv_rule = record (new_rule (codes "csv")) { long = Some (codes "csv"); action = Some SetTrue }
@@ -70,6 +92,7 @@ abbrev pub commands : List Shape
 commands = over_file (codes "check") (explain_rule ∷ [])
     ∷ over_file (codes "figures") (burden_rule ∷ join_burden_rule ∷ parts_rule ∷ workers_rule ∷ explain_rule ∷ [])
     ∷ over_file (codes "profile") (burden_rule ∷ join_burden_rule ∷ parts_rule ∷ workers_rule ∷ csv_rule ∷ explain_rule ∷ [])
+    ∷ over_file (codes "advise") (burden_rule ∷ join_burden_rule ∷ parts_rule ∷ workers_rule ∷ top_rule ∷ faster_rule ∷ site_rule ∷ csv_rule ∷ explain_rule ∷ [])
     ∷ over_both (codes "compare") (burden_rule ∷ join_burden_rule ∷ parts_rule ∷ workers_rule ∷ explain_rule ∷ [])
     ∷ over_file (codes "encode") (explain_rule ∷ [])
     ∷ over_file (codes "migrate") (explain_rule ∷ [])

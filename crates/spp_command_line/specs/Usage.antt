@@ -1,14 +1,16 @@
 -- What a request has of the words, and how a program ends whose words are no request. What `clap` finds in words, and
 -- which kinds of error it has for those that it refuses, are definitions of its own.
-use Rattle.std.specs.Prelude.{◌≡◌, ℕ, Bool, true, false, List, [], ◌∷◌, ◌++◌, Option, Some, None, cond, codes, map, ◌≤◌}
+use Rattle.std.specs.Prelude.{◌≡◌, ◌⊎◌, ℕ, Bool, true, false, List, [], ◌∷◌, ◌++◌, Option, Some, None, cond, codes, map, ◌≤◌}
 use Rattle.std.specs.Str.{bytes_eq}
 use Rattle.std.specs.Str.Parse.{IsNumeral, digits_value, without_leading_plus}
+use Rattle.std.specs.Option.{option_map}
 use Rattle.std.specs.String.{string_bytes}
 use Rattle.clap.specs.Walk.{Row, Text, first_of, one_of}
 use Rattle.clap.specs.Kinds.{IsAmong, Kinds}
 use Rattle.clap.specs.declared.error.kind.ErrorKind.{ErrorKind}
 use Rattle.clap.specs.declared.error.kind.ErrorKind.TheVariants.{DisplayHelp, DisplayVersion}
 use Rattle.spp_maxplus.specs.declared.state.Burdens.{Burdens}
+use Rattle.spp_request.specs.declared.advise_options.AdviseOptions.{AdviseOptions}
 use Rattle.spp_request.specs.declared.request.Request.{Request}
 use Rattle.spp_request.specs.declared.request.Command.{Command}
 use Rattle.spp_request.specs.declared.request.Command.TheVariants.{Check, Figures, Profile, Compare, Encode, Migrate}
@@ -35,11 +37,11 @@ abbrev pub EndsBy : Kinds → UsageFault → Type 0
 EndsBy kinds (Shown text status) = (k : ErrorKind) × IsAmong k kinds × (status ≡ status_of k)
 EndsBy kinds Memory = Unit {0}
 
--- the command of a name
+-- the command of a name; whoever asks for advice about a run has the request of one who asks for its profile
 abbrev pub IsNamed : Text → Command → Type 0
 IsNamed name Check = name ≡ codes "check"
 IsNamed name Figures = name ≡ codes "figures"
-IsNamed name Profile = name ≡ codes "profile"
+IsNamed name Profile = (name ≡ codes "profile") ⊎ (name ≡ codes "advise")
 IsNamed name Compare = name ≡ codes "compare"
 IsNamed name Encode = name ≡ codes "encode"
 IsNamed name Migrate = name ≡ codes "migrate"
@@ -102,6 +104,21 @@ Gives (Some (name, rows)) command files burdens parts workers csv explain =
 abbrev pub IsAskedBy : Option (Text × List Row) → Asked → Type 0
 IsAskedBy found a =
     Gives found a.request.command (map string_bytes a.request.files.items) a.request.burdens a.request.parts a.request.workers a.request.csv a.explain
+
+-- what `clap` found asks for advice, with these options: --top is 10 and --faster is 2 where they aren't given
+abbrev pub GivesAdvice : Option (Text × List Row) → ℕ → ℕ → Option Text → Type 0
+GivesAdvice None top factor site = ⊥
+GivesAdvice (Some (name, rows)) top factor site =
+    (name ≡ codes "advise")
+    × IsNumberOr 0 4294967295 10 (one_of (codes "top") rows) top
+    × IsNumberOr 2 1000 2 (one_of (codes "faster") rows) factor
+    × (site ≡ first_of (codes "site") rows)
+
+-- advice is asked for just where `clap` found the command `advise`
+abbrev pub IsAdvised : Option (Text × List Row) → Option AdviseOptions → Type 0
+IsAdvised None advise = ⊥
+IsAdvised (Some (name, rows)) None = name ≡ codes "advise" → ⊥
+IsAdvised (Some (name, rows)) (Some o) = GivesAdvice (Some (name, rows)) o.top o.factor (option_map string_bytes o.site)
 
 -- the request is what `clap` found, with --explain or without
 abbrev pub IsRequestOf : Option (Text × List Row) → Request → Type 0

@@ -2,9 +2,10 @@
 
 ghost use Rattle.std.specs.Prelude.{◌≡◌, ◌∷◌, [], IfOk, false, codes};
 ghost use Rattle.clap.specs.Words.{app_of, rule_of};
-ghost use Rattle.spp_command_line.specs.Spprof.{IsAt, burden_rule, csv_rule, explain_rule, file_rule, input_rule, join_burden_rule, over_both, over_file, parts_rule, spprof, workers_rule};
+ghost use Rattle.spp_command_line.specs.Spprof.{IsAt, burden_rule, csv_rule, explain_rule, faster_rule, file_rule, input_rule, join_burden_rule, over_both, over_file, parts_rule, site_rule, spprof, top_rule, workers_rule};
 
 use clap::{Arg, ArgAction, Command, value_parser};
+use spp_change::Factor;
 use spp_cut::Parts;
 use spp_request::Workers;
 use std::alloc::{AllocError, Global};
@@ -25,12 +26,22 @@ const DEFAULT_PARTS_WORD: &str = "16";
 /// The number of workers where none is given, as a word.
 const DEFAULT_WORKERS_WORD: &str = "4";
 
+/// How many call sites are told of where no number is given.
+pub(crate) const DEFAULT_TOP: u32 = 10;
+
+/// The same as a word.
+const DEFAULT_TOP_WORD: &str = "10";
+
+/// How many times faster strands are made where no number is given, as a word.
+const DEFAULT_FACTOR_WORD: &str = "2";
+
 const AFTER_HELP: &str = "'spprof help COMMAND' tells more about a command, with an example
 
 Exit status:
   0  the answer stands on standard output, whole
-  1  the input is no good trace or text; standard error says why in one line, and
-     with --explain in a second one where, and what to do
+  1  the input is no good trace or text, or lacks the call site that is asked for;
+     standard error says why in one line, and with --explain in a second one where,
+     and what to do
   2  the command line is wrong
   3  a file or stream could not be read or written
   4  out of memory";
@@ -123,15 +134,53 @@ fn workers<'a>(alloc: Global) -> Arg<'a>
         .help("Threads that share the work, 1 to 64; the answer is the same for each number")
 }
 
-/// Whether the values of the tables are asked for alone.
-fn csv<'a>(alloc: Global) -> Arg<'a>
+/// How many call sites are told of.
+fn top<'a>(alloc: Global) -> Arg<'a>
+    ensures rule { rule_of result ≡ top_rule }
+    ensures local { result.global ≡ false }
+{
+    Arg::new(alloc, "top")
+        .long("top")
+        .value_name("N")
+        .value_parser(value_parser!(u32).range(1..=65536))
+        .default_value(DEFAULT_TOP_WORD)
+        .help("At most so many call sites are told of, 1 to 65536")
+}
+
+/// By how much strands are made faster.
+fn faster<'a>(alloc: Global) -> Arg<'a>
+    ensures rule { rule_of result ≡ faster_rule }
+    ensures local { result.global ≡ false }
+{
+    let most = i64::from(Factor::MOST);
+    Arg::new(alloc, "faster")
+        .long("faster")
+        .value_name("N")
+        .value_parser(value_parser!(u32).range(2..=most))
+        .default_value(DEFAULT_FACTOR_WORD)
+        .help("How many times faster what a call site runs itself is made, 2 to 1000")
+}
+
+/// The one call site that is told of.
+fn site<'a>(alloc: Global) -> Arg<'a>
+    ensures rule { rule_of result ≡ site_rule }
+    ensures local { result.global ≡ false }
+{
+    Arg::new(alloc, "site")
+        .long("site")
+        .value_name("NAME")
+        .help("Tell of this call site alone, on a critical path or not")
+}
+
+/// Whether comma-separated values are asked for.
+fn csv<'a>(alloc: Global, help: &'a str) -> Arg<'a>
     ensures rule { rule_of result ≡ csv_rule }
     ensures local { result.global ≡ false }
 {
     Arg::new(alloc, "csv")
         .long("csv")
         .action(ArgAction::SetTrue)
-        .help("Print the tables alone, as comma-separated values")
+        .help(help)
 }
 
 /// Whether a line of fault is to be explained.
@@ -206,7 +255,44 @@ fn profile<'a>(alloc: Global) -> Result<Command<'a>, AllocError>
 
 'spprof help' lists the exit statuses",
     )?
-    .arg(csv(alloc))?
+    .arg(csv(
+        alloc,
+        "Print the tables alone, as comma-separated values",
+    ))?
+    .arg(explain(alloc))
+}
+
+/// A command by parts, with the options of what is changed in a run.
+fn command_over_changes<'a>(
+    alloc: Global,
+    name: &'a str,
+    about: &'a str,
+    example: &'a str,
+) -> Result<Command<'a>, AllocError>
+    ensures { IfOk result (IsAt (over_file name.now (burden_rule ∷ join_burden_rule ∷ parts_rule ∷ workers_rule ∷ top_rule ∷ faster_rule ∷ site_rule ∷ []))) }
+{
+    command_by_parts(alloc, name, about, example)?
+        .arg(top(alloc))?
+        .arg(faster(alloc))?
+        .arg(site(alloc))
+}
+
+fn advise<'a>(alloc: Global) -> Result<Command<'a>, AllocError>
+    ensures { IfOk result (IsAt (over_file (codes "advise") (burden_rule ∷ join_burden_rule ∷ parts_rule ∷ workers_rule ∷ top_rule ∷ faster_rule ∷ site_rule ∷ csv_rule ∷ explain_rule ∷ []))) }
+{
+    command_over_changes(
+        alloc,
+        "advise",
+        "Tell how much faster more processors would make a run, and what changes at its call sites would bring",
+        "Example:
+  spprof advise --top 5 run.trace
+
+'spprof help' lists the exit statuses",
+    )?
+    .arg(csv(
+        alloc,
+        "Print the figures of each call site and change, as comma-separated values",
+    ))?
     .arg(explain(alloc))
 }
 
@@ -303,6 +389,7 @@ pub(crate) fn command_line<'a>(alloc: Global) -> Result<Command<'a>, AllocError>
         .subcommand(check(alloc)?)?
         .subcommand(figures(alloc)?)?
         .subcommand(profile(alloc)?)?
+        .subcommand(advise(alloc)?)?
         .subcommand(compare(alloc)?)?
         .subcommand(encode(alloc)?)?
         .subcommand(migrate(alloc)?)

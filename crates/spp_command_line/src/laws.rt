@@ -1,5 +1,5 @@
 //! What words of a command line ask for.
-ghost use Rattle.spp_command_line.specs.Laws.{CommandAlone, CompareBoth, CompareInParts, Dash, Explained, FiguresInParts, GreatBurdens, Help, HelpBefore, JoinBurden, NoCommand, NoCompare, NoParts, NoWorkers, OneWord, ProfileAsCsv, ProfileByWorkers, TwoBurdens, TwoWords, Version};
+ghost use Rattle.spp_command_line.specs.Laws.{Advise, AdviseHelp, CommandAlone, CompareBoth, CompareInParts, Dash, Explained, FiguresInParts, GreatBurdens, Help, HelpBefore, JoinBurden, NoAdvise, NoCommand, NoCompare, NoParts, NoWorkers, OneWord, ProfileAsCsv, ProfileByWorkers, TwoBurdens, TwoWords, Version};
 
 /// What the definitions say of words: of some shapes of words, and of lists of words worked by hand. Its contract is what
 /// it is for.
@@ -24,4 +24,7 @@ pub fn word_laws()
     ensures no_parts { NoParts }
     ensures no_workers { NoWorkers }
     ensures two_words { TwoWords }
+    ensures advise { Advise }
+    ensures no_advise { NoAdvise }
+    ensures advise_help { AdviseHelp }
 {}

@@ -1,22 +1,25 @@
 //! Reading the words of a command line.
-ghost use Rattle.std.specs.Prelude.{◌≡◌, ◌∷◌, [], IfErr, IfOk, IfSome, None, map};
+ghost use Rattle.std.specs.Prelude.{◌≡◌, ◌∷◌, [], IfErr, IfOk, IfSome, None, Some, codes, map};
 ghost use Rattle.std.specs.Option.{option_map};
 ghost use Rattle.std.specs.String.{string_bytes};
+ghost use Rattle.clap.specs.Matches.{found_of};
+ghost use Rattle.clap.specs.Walk.{rows_of};
 ghost use Rattle.clap.specs.Words.{fault_of, kind_of, subcommand_of};
 ghost use Rattle.clap.specs.declared.error.kind.ErrorKind.TheVariants.{MissingSubcommand, OutOfMemory};
 ghost use Rattle.spp_request.specs.declared.request.UsageFault.TheVariants.{Memory};
 ghost use Rattle.spp_request.specs.declared.request.Command.{Command};
 ghost use Rattle.spp_command_line.specs.Spprof.{spprof};
-ghost use Rattle.spp_command_line.specs.Usage.{EndsBy, IsAskedBy, IsNamed, IsRequestOf, paths_of, spoken};
+ghost use Rattle.spp_command_line.specs.Usage.{EndsBy, GivesAdvice, IsAdvised, IsAskedBy, IsNamed, IsRequestOf, paths_of, spoken};
 
 use crate::asked::Asked;
-use crate::command_line::{DEFAULT_BURDEN, command_line};
+use crate::command_line::{DEFAULT_BURDEN, DEFAULT_TOP, command_line};
 use crate::tips::text_in_place;
-use clap::Error;
+use clap::{ArgMatches, Error};
 use clap::error::ErrorKind;
+use spp_change::Factor;
 use spp_cut::Parts;
 use spp_maxplus::Burdens;
-use spp_request::{Command, Request, UsageFault, Workers};
+use spp_request::{AdviseOptions, Command, Request, UsageFault, Workers};
 use std::alloc::{AllocError, Global};
 use std::convert::AsStr;
 
@@ -48,7 +51,7 @@ fn command_of(name: &str) -> Option<Command>
     match name {
         "check" => Some(Command::Check),
         "figures" => Some(Command::Figures),
-        "profile" => Some(Command::Profile),
+        "profile" | "advise" => Some(Command::Profile),
         "compare" => Some(Command::Compare),
         "encode" => Some(Command::Encode),
         "migrate" => Some(Command::Migrate),
@@ -114,9 +117,31 @@ fn turn_help_into_option(words: &mut Vec<&str>)
     }
 }
 
+/// The options of `advise` that `clap` found.
+///
+/// # Errors
+///
+/// Where an allocation failed.
+fn options_of(alloc: Global, given: &ArgMatches) -> Result<AdviseOptions, AllocError>
+    ensures { IfOk result (λ o. GivesAdvice (Some (codes "advise", rows_of (found_of given.now))) o.top o.factor (option_map string_bytes o.site)) }
+{
+    let top = given.get_one::<u32>("top").unwrap_or(DEFAULT_TOP);
+    let factor = given.get_one::<u32>("faster").and_then(Factor::new);
+    let site = match given.get_str("site") {
+        Some(name) => Some(name.to_string(alloc)?),
+        None => None,
+    };
+    Ok(AdviseOptions {
+        top,
+        factor: factor.unwrap_or_default(),
+        site,
+    })
+}
+
 /// Reads what is asked for from words as `clap` is to read them.
 fn read_spoken<S: AsStr>(alloc: Global, words: &[S]) -> Result<Asked, UsageFault>
     ensures found { IfOk result (IsAskedBy (subcommand_of spprof (map S.text words.now))) }
+    ensures advise { IfOk result (λ a. IsAdvised (subcommand_of spprof (map S.text words.now)) a.advise) }
     ensures good { IfOk result (λ _. fault_of spprof (map S.text words.now) ≡ []) }
     ensures refused { IfErr result (EndsBy (fault_of spprof (map S.text words.now))) }
 {
@@ -139,6 +164,10 @@ fn read_spoken<S: AsStr>(alloc: Global, words: &[S]) -> Result<Asked, UsageFault
     let parts = given.get_one::<u32>("parts").and_then(Parts::new);
     let workers = given.get_one::<u32>("workers").and_then(Workers::new);
     let (before, after) = (given.get_str("BEFORE"), given.get_str("AFTER"));
+    let advise = match name {
+        "advise" => Some(options_of(alloc, given)?),
+        _ => None,
+    };
     Ok(Asked {
         request: Request {
             command,
@@ -148,6 +177,7 @@ fn read_spoken<S: AsStr>(alloc: Global, words: &[S]) -> Result<Asked, UsageFault
             workers: workers.unwrap_or_default(),
             csv: given.get_flag("csv"),
         },
+        advise,
         explain: given.get_flag("explain"),
     })
 }
@@ -165,6 +195,7 @@ fn read_spoken<S: AsStr>(alloc: Global, words: &[S]) -> Result<Asked, UsageFault
 /// The text that the user is to be shown, or that an allocation failed.
 pub fn read_words<S: AsStr>(alloc: Global, words: &[S]) -> Result<Asked, UsageFault>
     ensures found { IfOk result (IsAskedBy (subcommand_of spprof (spoken (map S.text words.now)))) }
+    ensures advise { IfOk result (λ a. IsAdvised (subcommand_of spprof (spoken (map S.text words.now))) a.advise) }
     ensures good { IfOk result (λ _. fault_of spprof (spoken (map S.text words.now)) ≡ []) }
     ensures refused { IfErr result (EndsBy (fault_of spprof (spoken (map S.text words.now)))) }
 {
@@ -173,7 +204,7 @@ pub fn read_words<S: AsStr>(alloc: Global, words: &[S]) -> Result<Asked, UsageFa
     read_spoken(alloc, words.as_slice())
 }
 
-/// The request alone of what the words ask for, as [`read_words`] reads them.
+/// The request alone of what the words ask for, as [`read_words`] reads them: that of a profile where they ask for advice.
 ///
 /// # Errors
 ///

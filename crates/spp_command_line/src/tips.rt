@@ -9,6 +9,8 @@ fn range_of(option: &str) -> Option<&'static str> {
         "--burden" | "--join-burden" => Some("0..=4294967295"),
         "--parts" => Some("1..=65536"),
         "--workers" => Some("1..=64"),
+        "--top" => Some("1..=65536"),
+        "--faster" => Some("2..=1000"),
         _ => None,
     }
 }
@@ -32,16 +34,25 @@ fn text_of_range(alloc: Global, option: &str, word: &str) -> Result<Option<Strin
 /// What to do where a command was given a word that it doesn't take; none where the text of `clap` says enough.
 fn tip_for(command: &str, word: &str) -> Option<&'static str> {
     match word {
-        "--csv" => Some("'--csv' is an option of 'profile'"),
-        "--burden" => Some("'--burden' is an option of 'figures', 'profile' and 'compare'"),
-        "--join-burden" => Some(
-            "'--join-burden' is an option of 'figures', 'profile' and 'compare'",
+        "--csv" => Some("'--csv' is an option of 'profile' and 'advise'"),
+        "--burden" => Some(
+            "'--burden' is an option of 'figures', 'profile', 'advise' and 'compare'",
         ),
-        "--parts" => Some("'--parts' is an option of 'figures', 'profile' and 'compare'"),
-        "--workers" => Some("'--workers' is an option of 'figures', 'profile' and 'compare'"),
+        "--join-burden" => Some(
+            "'--join-burden' is an option of 'figures', 'profile', 'advise' and 'compare'",
+        ),
+        "--parts" => Some("'--parts' is an option of 'figures', 'profile', 'advise' and 'compare'"),
+        "--workers" => Some(
+            "'--workers' is an option of 'figures', 'profile', 'advise' and 'compare'",
+        ),
+        "--top" => Some("'--top' is an option of 'advise'"),
+        "--faster" => Some("'--faster' is an option of 'advise'"),
+        "--site" => Some("'--site' is an option of 'advise'"),
         _ if word.starts_with('-') => None,
         _ => match command {
-            "figures" | "profile" => Some("'spprof compare' reads the traces of two runs"),
+            "figures" | "profile" | "advise" => Some(
+                "'spprof compare' reads the traces of two runs",
+            ),
             _ => None,
         },
     }

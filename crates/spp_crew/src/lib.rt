@@ -31,7 +31,7 @@ mod surveying;
 mod whole_profile;
 
 pub use gate::{Gate, OpenGate, Round};
-pub use marking::marks;
+pub use marking::{burdened_marks, marks};
 pub use once::profile_once;
 pub use profiling::{profile_in_rounds, tabled};
 pub use record_figures::RecordFigures;

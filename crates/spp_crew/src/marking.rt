@@ -8,6 +8,7 @@ ghost use Rattle.spp_frame.specs.Nesting.{IsWellFormed};
 ghost use Rattle.spp_frame.specs.declared.Fault.{Fault};
 ghost use Rattle.spp_frame.specs.declared.profile_fault.ProfileFault.TheVariants.{Bad};
 ghost use Rattle.spp_maxplus.specs.State.{unburdened};
+ghost use Rattle.spp_path.specs.Settled.{burdens_under};
 
 use crate::gate::{Gate, Round};
 use crate::profiling::tabled;
@@ -134,6 +135,44 @@ fn mark_halves<R: Threads + Wait + Sync, G: Gate>(
     (first_done, second_done)
 }
 
+/// What [`marks`] and [`burdened_marks`] do, for the one path or the other.
+///
+/// # Errors
+///
+/// As theirs.
+fn marks_under<R: Threads + Wait + Sync, G: Gate>(
+    rt: &R,
+    alloc: Global,
+    cut: &Cut<'_, '_>,
+    workers: u32,
+    burdens: Burdens,
+    under: Under,
+    gate: &G,
+    marks: &mut [u8],
+) -> Result<(), ProfileFault>
+    requires some { 0 < workers }
+    requires most { workers ≤ 64 }
+    requires bytes { length marks.old ≡ length cut.now.trace.records }
+    ensures formed { OnOk result (IsWellFormed cut.now.trace.records) }
+    ensures length { length marks.new ≡ length marks.old }
+    ensures marks { OnOk result (AreMarks cut.now.trace (burdens_under under burdens) marks.new) }
+    ensures fault { IfErr result (λ f. IsFaultOf cut.now.trace.records f) }
+    ensures kept { (fault : Fault) → result ≡ Err (Bad fault) → marks.new ≡ marks.old }
+    ensures stays { ¬ (IsWellFormed cut.now.trace.records) → marks.new ≡ marks.old }
+{
+    let count = cut.parts().len();
+    let found = survey(rt, alloc, cut, workers, burdens, gate)?;
+    let stacks = entries_of(alloc, cut, &found.summaries)?;
+    drop(found.summaries);
+    let Tabled { choices, .. } = tabled(rt, alloc, cut, &stacks, workers, burdens, gate)?;
+    let choices = choices.into_vec();
+    let settled = settle_by_hops(alloc, &stacks, &choices, under)?;
+    mark_range(
+        rt, alloc, cut, 0, count, &stacks, &settled, workers, gate, marks,
+    )?;
+    Ok(())
+}
+
 /// Marks which events of a cut trace are on its path, the one that is greatest without burdens, by so many workers, 1 to
 /// 64, each on a thread of its own but one (at most one for each part where events are marked): byte `i` is 1 where event
 /// `i` is on the path, else 0. The gate is called in the round [`Round::Summaries`] before a part is summarised, in the round
@@ -168,16 +207,43 @@ pub fn marks<R: Threads + Wait + Sync, G: Gate>(
     ensures kept { (fault : Fault) → result ≡ Err (Bad fault) → marks.new ≡ marks.old }
     ensures stays { ¬ (IsWellFormed cut.now.trace.records) → marks.new ≡ marks.old }
 {
-    let count = cut.parts().len();
     let burdens = Burdens::equal(0);
-    let found = survey(rt, alloc, cut, workers, burdens, gate)?;
-    let stacks = entries_of(alloc, cut, &found.summaries)?;
-    drop(found.summaries);
-    let Tabled { choices, .. } = tabled(rt, alloc, cut, &stacks, workers, burdens, gate)?;
-    let choices = choices.into_vec();
-    let settled = settle_by_hops(alloc, &stacks, &choices, Under::Zero)?;
-    mark_range(
-        rt, alloc, cut, 0, count, &stacks, &settled, workers, gate, marks,
-    )?;
-    Ok(())
+    marks_under(rt, alloc, cut, workers, burdens, Under::Zero, gate, marks)
+}
+
+/// Marks which events of a cut trace are on its burdened path, the first that is greatest under these burdens, as [`marks`]
+/// does for the path without burdens: in the same rounds, and in as much time and memory.
+///
+/// # Errors
+///
+/// As those of [`marks`].
+pub fn burdened_marks<R: Threads + Wait + Sync, G: Gate>(
+    rt: &R,
+    alloc: Global,
+    cut: &Cut<'_, '_>,
+    workers: u32,
+    burdens: Burdens,
+    gate: &G,
+    marks: &mut [u8],
+) -> Result<(), ProfileFault>
+    requires some { 0 < workers }
+    requires most { workers ≤ 64 }
+    requires bytes { length marks.old ≡ length cut.now.trace.records }
+    ensures formed { OnOk result (IsWellFormed cut.now.trace.records) }
+    ensures length { length marks.new ≡ length marks.old }
+    ensures marks { OnOk result (AreMarks cut.now.trace burdens marks.new) }
+    ensures fault { IfErr result (λ f. IsFaultOf cut.now.trace.records f) }
+    ensures kept { (fault : Fault) → result ≡ Err (Bad fault) → marks.new ≡ marks.old }
+    ensures stays { ¬ (IsWellFormed cut.now.trace.records) → marks.new ≡ marks.old }
+{
+    marks_under(
+        rt,
+        alloc,
+        cut,
+        workers,
+        burdens,
+        Under::Burdens,
+        gate,
+        marks,
+    )
 }

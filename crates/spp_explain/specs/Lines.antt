@@ -15,7 +15,7 @@ use Rattle.spp_text.specs.declared.fault.TextWhy.TheVariants as text
 use Rattle.spp_explain.specs.declared.input.Input.{Input}
 use Rattle.spp_explain.specs.declared.input.Run.{Run}
 use Rattle.spp_explain.specs.declared.line.Told.{Told}
-use Rattle.spp_explain.specs.declared.line.Told.TheVariants.{Header, Event, Text, CannotOpen, CannotRead, TooLong, CannotWrite, Memory}
+use Rattle.spp_explain.specs.declared.line.Told.TheVariants.{Header, Event, Text, NoSite, CannotOpen, CannotRead, TooLong, CannotWrite, Memory}
 
 -- a fault of a header that a line tells; to have no memory is told without a header
 abbrev pub IsToldHeader : HeaderFault → Type 0
@@ -40,6 +40,7 @@ abbrev pub line_of : Told → List ℕ
 line_of (Header fault) = codes "bad header: " ++ header_fault_text fault
 line_of (Event fault) = codes "bad event " ++ fault_text fault
 line_of (Text fault) = codes "bad text line " ++ decimal fault.line ++ codes ": " ++ text_why_text fault.why
+line_of NoSite = codes "no such call site"
 line_of CannotOpen = codes "cannot open input"
 line_of CannotRead = codes "cannot read input"
 line_of TooLong = codes "input too long"

@@ -188,7 +188,13 @@ const A_TRACE: Expected = Expected {
 const A_TEXT: Expected = Expected {
     wanted: "a trace as text",
     cause: "a trace where a text is wanted",
-    advice: "check, figures, profile, compare and migrate read it as it is",
+    advice: "check, figures, profile, advise, compare and migrate read it as it is",
+};
+
+const THE_SITE: Expected = Expected {
+    wanted: "the name of a call site of the trace, byte for byte",
+    cause: "the name of a function, or a name that the shell split or changed",
+    advice: "copy the name from the report of profile, and put it in single quotes",
 };
 
 const OF_MEMORY: Expected = Expected {
@@ -253,6 +259,7 @@ pub(crate) fn expected_at(told: Told, command: Command, input: &Input<'_>) -> Ex
         Told::Event(fault) => of_event(fault.why),
         Told::Text(_) if command == Command::Encode && header_of(input.front).is_some() => A_TEXT,
         Told::Text(fault) => of_text(fault.why),
+        Told::NoSite => THE_SITE,
         Told::CannotOpen => of_unopened(input.failure),
         Told::CannotRead => UNREAD,
         Told::TooLong => TOO_LONG,

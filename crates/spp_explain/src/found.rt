@@ -200,6 +200,7 @@ pub(crate) fn found(alloc: Global, told: Told, input: &Input<'_>) -> Result<Stri
         Told::Header(fault) => of_header(alloc, fault, input),
         Told::Event(fault) => of_event(alloc, fault, input),
         Told::Text(fault) => of_text(alloc, fault, input),
+        Told::NoSite => "the trace names no such call site".to_string(alloc),
         Told::CannotOpen | Told::CannotRead => of_failure(alloc, input.failure),
         Told::TooLong => "it has more bytes than an input may have".to_string(alloc),
         Told::CannotWrite => match input.failure {

@@ -18,6 +18,8 @@ pub(crate) enum Told {
     Event(Fault),
     /// Which line of a text is bad, and what is wrong with it.
     Text(TextFault),
+    /// A trace lacks the call site that is asked for.
+    NoSite,
     /// An input can't be opened.
     CannotOpen,
     /// An input can't be read.
@@ -175,6 +177,7 @@ pub(crate) fn read_line(line: &str) -> Option<Told>
         "input too long" => Some(Told::TooLong),
         "cannot write output" => Some(Told::CannotWrite),
         "out of memory" => Some(Told::Memory),
+        "no such call site" => Some(Told::NoSite),
         _ => read_bad(line),
     }
 }

@@ -1,20 +1,20 @@
 -- The csv crate's default writer writes the records of the table as they are defined.
-use Rattle.std.proofs.Common.{◌≡◌, ℕ, ◌≤◌, List, [], ◌∷◌, ◌++◌, refl, sym, ◌∙◌, ap, subst, arith, inl, inr, true, false}
-use Rattle.std.specs.Prelude.{Bool, ◌||◌, nat_eq, nat_lt, cond, decimal, zero, suc, ◌/◌, ◌%◌, map}
+use Rattle.std.proofs.Common.{◌≡◌, ℕ, ◌≤◌, ◌<◌, List, [], ◌∷◌, ◌++◌, length, take, get_or, refl, sym, ◌∙◌, ap, subst, arith, inl, inr, true, false}
+use Rattle.std.specs.Prelude.{Bool, ◌||◌, nat_eq, nat_le, nat_lt, cond, decimal, zero, suc, ◌/◌, ◌%◌, map}
 use Rattle.std.specs.Fmt.{digits, digits_onto, digit_glyph}
-use Rattle.std.specs.List.{AllByRecursion, list_any, flat_map, range_with_len}
+use Rattle.std.specs.List.{AllByRecursion, list_all, list_any, flat_map, range_with_len}
 use Rattle.std.specs.Io.KnownBytes.{Appends}
 use Rattle.std.specs.Prelude.{◌+◌, Result, Option, Ok, Err, IfOk, MatchResult, OnOk, is_ok, ◌≢◌}
 use Rattle.csv.specs.declared.writer.QuoteStyle.TheVariants as style
 use Rattle.csv.specs.declared.writer.Writer.{Writer}
 use Rattle.csv.specs.declared.writer.WriterBuilder.{WriterBuilder}
-use Rattle.std.proofs.lemmas.Bool.{cases_Bool, eqb-true, ne_eqb}
-use Rattle.std.proofs.lemmas.List.{append-nil, flat_map_more, map-id}
+use Rattle.std.proofs.lemmas.Bool.{cases_Bool, eqb-true, leb-true, ne_eqb}
+use Rattle.std.proofs.lemmas.List.{append-nil, flat_map_more, map-id, take_more}
 use Rattle.std.proofs.lemmas.List.FromFn.{map-range_with_len_more}
 use Rattle.csv.specs.Writing.{default_writer, needs_byte, needs_quotes, escaped, field_text, fields_text, is_blank, row_body, row_text, fields_written, has_written, writer_setup}
-use Rattle.spp_report.specs.Csv.{comma, quote, doubled, field, parted, record_text, columns}
+use Rattle.spp_report.specs.Csv.{comma, quote, doubled, field, parted, record_text}
 use Rattle.spp_report.specs.Appended.{appends_both}
-use Rattle.spp_report.specs.CsvWriters.{AwaitsRecord, IsPlain}
+use Rattle.spp_report.specs.CsvWriters.{AwaitsRecord, IsPlain, IsPlainRecord}
 
 or_none : (a b : Bool) → a || b || false || false || false ≡ a || b
 or_none true b = refl
@@ -50,16 +50,27 @@ unfolding fields_text
 same_body text [] h hs = append-nil _ ∙ same_field text h
 same_body text (next ∷ more) h hs = rw (same_field text h) (ap (λ (x : List ℕ). field text ++ comma ∷ x) (same_body next more hs.0 hs.1))
 
--- a record of two fields or more
-pub same_record : (text next : List ℕ) (more : List (List ℕ)) → AllByRecursion IsPlain (text ∷ next ∷ more)
-    → row_text default_writer (text ∷ next ∷ more) ≡ record_text (text ∷ next ∷ more)
+-- a record of two plain fields or more
+pub same_record : (fields : List (List ℕ)) → IsPlainRecord fields → row_text default_writer fields ≡ record_text fields
 unfolding is_blank
-same_record text next more h = ap (λ (x : List ℕ). x ++ 10 ∷ []) (same_body text (next ∷ more) h.0 h.1)
+same_record [] h = absurd (omega (arith, h.several))
+same_record (text ∷ []) h = absurd (omega (arith, h.several))
+same_record (text ∷ next ∷ more) h = ap (λ (x : List ℕ). x ++ 10 ∷ []) (same_body text (next ∷ more) h.plain.0 h.plain.1)
 
--- the header
-pub same_columns : row_text default_writer columns ≡ record_text columns
-unfolding escaped fields_text is_blank
-same_columns = refl
+-- a field, and all fields of a record, are plain where a test says so, which computes on literals
+pub plain_by_test : (text : List ℕ) → list_all (nat_le 32) text ≡ true → IsPlain text
+plain_by_test [] h = tt
+plain_by_test (b ∷ bs) h = elim (cases_Bool (nat_le 32 b)) [
+  | inl low ↦ (leb-true 32 b low, plain_by_test bs (rw low at h))
+  | inr high ↦ cc (rw high at h)
+]
+
+pub plain_fields_by_test : (fields : List (List ℕ)) → list_all (list_all (nat_le 32)) fields ≡ true → AllByRecursion IsPlain fields
+plain_fields_by_test [] h = tt
+plain_fields_by_test (text ∷ more) h = elim (cases_Bool (list_all (nat_le 32) text)) [
+  | inl plain ↦ (plain_by_test text plain, plain_fields_by_test more (rw plain at h))
+  | inr other ↦ cc (rw other at h)
+]
 
 -- the digits of a number
 plain_glyph : (d : ℕ) → 32 ≤ digit_glyph false d
@@ -79,18 +90,13 @@ plain_onto (suc k) n acc h =
     either true xs ys p q = p
     either false xs ys p q = q
 
-plain_decimal : (n : ℕ) → IsPlain (decimal n)
+pub plain_decimal : (n : ℕ) → IsPlain (decimal n)
 unfolding digits
 plain_decimal n = plain_onto 64 n [] tt
 
 pub plain_decimals : (ns : List ℕ) → AllByRecursion IsPlain (map decimal ns)
 plain_decimals [] = tt
 plain_decimals (n ∷ ns) = (plain_decimal n, plain_decimals ns)
-
--- two lists of such fields
-pub plain_both : (xs ys : List (List ℕ)) → AllByRecursion IsPlain xs → AllByRecursion IsPlain ys → AllByRecursion IsPlain (xs ++ ys)
-plain_both [] ys h k = k
-plain_both (x ∷ xs) ys h k = (h.0, plain_both xs ys h.1 k)
 
 -- a record written between two others, whose error is told as another
 pub wrote_record : {T E F W : Type 0} (r : Result T E) (s : Result T F) (w : Writer W) (old new : Option (List ℕ)) (fields : List (List ℕ)) (text : List ℕ)
@@ -117,6 +123,14 @@ pub one_more : (f : ℕ → List ℕ) (n : ℕ) (a b c : Option (List ℕ)) (tex
 one_more f n a b c text before here same =
     subst (λ (t : List ℕ). Appends a c t) (ap (λ (t : List ℕ). flat_map f (range_with_len 0 n) ++ t) same ∙ sym (parts_more f n))
     (appends_both a b c _ text before here)
+
+-- the text of one item of a loop more, behind those before it
+pub one_item_more : {X : Type 0} (f : X → List ℕ) (xs : List X) (i : ℕ) (x : X) (a b c : Option (List ℕ)) → i < length xs → x ≡ get_or xs i x
+    → Appends a b (flat_map f (take i xs)) → Appends b c (f x) → Appends a c (flat_map f (take (i + 1) xs))
+one_item_more f xs i x a b c h is before here =
+    let more : flat_map f (take (i + 1) xs) ≡ flat_map f (take i xs) ++ f x =
+    ap (flat_map f) (take_more xs i x h) ∙ sym (flat_map_more f [] (take i xs) (get_or xs i x)) ∙ ap (λ y. flat_map f (take i xs) ++ f y) (sym is) in
+    rw more (appends_both a b c _ (f x) before here)
 
 -- three parts, one after the other
 pub wrote_parts : {T E : Type 0} (r : Result T E) (a b c d : Option (List ℕ)) (xs ys zs : List ℕ)

@@ -8,3 +8,6 @@ pub mod CsvWriters
 pub mod Plain
 pub mod Comparison
 pub mod Runs
+pub mod Small
+pub mod Advice
+pub mod AdviceCsv

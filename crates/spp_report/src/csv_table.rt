@@ -1,13 +1,13 @@
 //! The tables of a run as comma-separated values.
 
-ghost use Rattle.std.specs.Prelude.{◌≡◌, ◌∷◌, ◌++◌, [], length, IfOk, OnOk};
+ghost use Rattle.std.specs.Prelude.{◌≡◌, ◌++◌, [], length, map, decimal, IfOk, OnOk};
 ghost use Rattle.std.specs.Io.KnownBytes.{Appends};
 ghost use Rattle.std.specs.List.{flat_map, range_with_len};
 ghost use Rattle.csv.specs.Records.{fields_of, partial_of};
 ghost use Rattle.csv.specs.Writing.{text_written};
 ghost use Rattle.spp_event.specs.Header.{HasGoodNames};
-ghost use Rattle.spp_report.specs.Csv.{cells, columns, csv_text as csv_of_profile, named_record, record_text, site_record};
-ghost use Rattle.spp_report.specs.CsvWriters.{AwaitsRecord, IsPlain};
+ghost use Rattle.spp_report.specs.Csv.{csv_text as csv_of_profile, named_record, record_text, site_record};
+ghost use Rattle.spp_report.specs.CsvWriters.{AwaitsRecord, IsPlain, IsPlainRecord};
 
 use crate::cells::numbers;
 use crate::named::Named;
@@ -46,26 +46,43 @@ const COLUMNS: [&[u8]; 25] = [
     b"burdened_path_caller_span",
 ];
 
-/// Adds the eight numbers of a row to a record.
-fn push_cells(fields: &mut ByteRecord, row: &Row) -> Result<(), AllocError>
+/// Adds numbers to a record.
+pub(crate) fn push_numbers(fields: &mut ByteRecord, numbers: &[u128]) -> Result<(), AllocError>
     requires { partial_of fields.old ≡ [] }
-    ensures fields { OnOk result (fields_of fields.new ≡ fields_of fields.old ++ cells row.now) }
+    ensures fields { OnOk result (fields_of fields.new ≡ fields_of fields.old ++ map decimal numbers.now) }
     ensures between { OnOk result (partial_of fields.new ≡ []) }
 {
     let mut digits = Buffer::new();
-    for number in &numbers(row) {
+    for number in numbers {
         fields.push_field(digits.format(*number).as_bytes())?;
     }
     Ok(())
 }
 
-/// Writes the names of the columns.
-fn write_columns<W: Write + Drop>(writer: &mut Writer<W>) -> Result<(), AllocError>
-    requires { AwaitsRecord writer.old }
-    ensures text { OnOk result (Appends (text_written W.contents writer.old) (text_written W.contents writer.new) (record_text columns)) }
+/// Writes the names of columns.
+pub(crate) fn write_columns<W: Write + Drop>(
+    writer: &mut Writer<W>,
+    columns: &[&[u8]],
+) -> Result<(), AllocError>
+    requires ready { AwaitsRecord writer.old }
+    requires plain { IsPlainRecord (map (λ name. name.now) columns.now) }
+    ensures text { OnOk result (Appends (text_written W.contents writer.old) (text_written W.contents writer.new) (record_text (map (λ name. name.now) columns.now))) }
     ensures next { OnOk result (AwaitsRecord writer.new) }
 {
-    writer.write_fields(&COLUMNS).map_err(|_| AllocError)
+    writer.write_fields(columns).map_err(|_| AllocError)
+}
+
+/// Writes a record.
+pub(crate) fn write_record<W: Write + Drop>(
+    writer: &mut Writer<W>,
+    fields: &ByteRecord,
+) -> Result<(), AllocError>
+    requires ready { AwaitsRecord writer.old }
+    requires plain { IsPlainRecord (fields_of fields.now) }
+    ensures text { OnOk result (Appends (text_written W.contents writer.old) (text_written W.contents writer.new) (record_text (fields_of fields.now))) }
+    ensures next { OnOk result (AwaitsRecord writer.new) }
+{
+    writer.write_byte_record(fields).map_err(|_| AllocError)
 }
 
 /// Writes the record of a name and its rows in the three tables. What `fields` held before is lost.
@@ -84,10 +101,10 @@ fn write_rows<W: Write + Drop>(
 {
     fields.clear();
     fields.push_field(name.as_bytes())?;
-    push_cells(fields, dag)?;
-    push_cells(fields, path)?;
-    push_cells(fields, burdened_path)?;
-    writer.write_byte_record(fields).map_err(|_| AllocError)
+    push_numbers(fields, &numbers(dag))?;
+    push_numbers(fields, &numbers(path))?;
+    push_numbers(fields, &numbers(burdened_path))?;
+    write_record(writer, fields)
 }
 
 /// Writes the record of each site, in order.
@@ -120,7 +137,7 @@ fn write_tables<W: Write + Drop>(
     requires names { HasGoodNames named.now.trace.now }
     ensures { OnOk result (Appends (text_written W.contents writer.old) (text_written W.contents writer.new) (csv_of_profile named.now.trace.now named.now.profile.now)) }
 {
-    write_columns(writer)?;
+    write_columns(writer, &COLUMNS)?;
     let profile = named.profile;
     let (dag, path) = (profile.dag.root_row(), profile.path.root_row());
     let burdened_path = profile.burdened_path.root_row();

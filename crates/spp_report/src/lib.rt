@@ -2,10 +2,15 @@
 //! interrupted, or fail.
 #![tactic(auto)]
 
+mod advice;
+mod advice_table;
+mod advised;
+mod bounds;
 mod cells;
 mod comparison;
 mod csv_table;
 mod figures;
+mod line;
 mod named;
 mod out_sink;
 mod plain;
@@ -13,6 +18,9 @@ mod run;
 mod sink;
 mod writing;
 
+pub use advice::advice_text;
+pub use advice_table::advice_csv;
+pub use advised::{Advice, ChangedRun, ListedSite};
 pub use comparison::{CompareRow, compare, compare_text};
 pub use csv_table::csv_text;
 pub use figures::{figures_text, hundredths};

@@ -1,17 +1,29 @@
 -- What goes with the status of a run, from why it ends.
-use Rattle.std.proofs.Common.{◌≡◌, ◌⊎◌, ℕ, List, inl, inr, arith}
-use Rattle.spp_request.specs.declared.request.Request.{Request}
+use Rattle.std.proofs.Common.{◌≡◌, ◌⊎◌, ◌∙◌, ℕ, List, ap, inl, inr, arith}
+use Rattle.std.specs.Prelude.{Result, Ok, Err, IfOk, IfErr}
+use Rattle.std.specs.String.{string_bytes}
 use Rattle.spp_shell.specs.Devices.{Devices, Told, WasRead}
-use Rattle.spp_shell.specs.Endings.{RunEnds, WritingEnds, AnswersWell, RefusesInput, OutputFails, InputFails, MemoryFails}
-use Rattle.spp_shell.specs.Inputs.{IsUnread, StayedWithin, first_place}
-use Rattle.spp_shell.specs.Requests.{text_for, line_for}
-use Rattle.spp_shell.specs.Troubles.{trouble_line}
+use Rattle.spp_shell.specs.Endings.{EndsBy, EndsRefused, WritingEnds, AnswersWell, RefusesInput, OutputFails, InputFails, MemoryFails}
+use Rattle.spp_shell.specs.Inputs.{IsRefusedBy, IsTroubleOf, IsUnread, StayedWithin}
+use Rattle.spp_shell.specs.Troubles.{trouble_line, trouble_status}
+use Rattle.spp_shell.specs.declared.place.Place.{Place}
+use Rattle.spp_shell.specs.declared.place.Place.TheVariants.{After}
+use Rattle.spp_shell.specs.declared.reading.ReadFault.{ReadFault}
+use Rattle.spp_shell.specs.declared.reading.ReadFault.TheVariants.{Device, TooLong, Memory}
+use Rattle.spp_shell.specs.declared.refusal.Refusal.{Refusal}
+use Rattle.spp_shell.specs.declared.refusal.Refusal.TheVariants as refusal
 use Rattle.spp_shell.specs.declared.trouble.Trouble.{Trouble}
 use Rattle.spp_shell.specs.declared.trouble.Trouble.TheVariants.{NoMemory}
 
-module _ (d : Devices) (request : Request) (status : ℕ) where
+-- an input that could not be read has a status of its own
+unread_status : (place : Place) (fault : ReadFault) (trouble : Trouble) → IsTroubleOf place fault trouble → trouble_status trouble ≡ 3
+unread_status place Device trouble is = ap trouble_status is
+unread_status place TooLong trouble is = ap trouble_status is
+unread_status place Memory trouble is = absurd is
+
+module _ (TextFor LineFor : List (List ℕ) → List ℕ → Type 0) (first : Place) (d : Devices) (status : ℕ) where
   -- the whole text went out
-  ends_good : status ≡ 0 → AnswersWell d request → RunEnds d request status
+  ends_good : status ≡ 0 → AnswersWell TextFor LineFor first d → EndsBy TextFor LineFor first d status
   ends_good is well = record {
     known = inl is;
     good = λ _. well;
@@ -21,7 +33,7 @@ module _ (d : Devices) (request : Request) (status : ℕ) where
   }
 
   -- the input is refused
-  ends_bad : status ≡ 1 → RefusesInput d request → RunEnds d request status
+  ends_bad : status ≡ 1 → RefusesInput TextFor LineFor first d → EndsBy TextFor LineFor first d status
   ends_bad is bad = record {
     known = inr (inl is);
     good = λ e. absurd (omega (arith, is, e));
@@ -31,7 +43,7 @@ module _ (d : Devices) (request : Request) (status : ℕ) where
   }
 
   -- a device failed
-  ends_failed : status ≡ 3 → OutputFails d request ⊎ InputFails d request → RunEnds d request status
+  ends_failed : status ≡ 3 → OutputFails TextFor LineFor first d ⊎ InputFails TextFor LineFor first d → EndsBy TextFor LineFor first d status
   ends_failed is failed = record {
     known = inr (inr (inl is));
     good = λ e. absurd (omega (arith, is, e));
@@ -41,7 +53,7 @@ module _ (d : Devices) (request : Request) (status : ℕ) where
   }
 
   -- an allocation failed
-  ends_out_of_memory : status ≡ 4 → MemoryFails d request → RunEnds d request status
+  ends_out_of_memory : status ≡ 4 → MemoryFails TextFor LineFor first d → EndsBy TextFor LineFor first d status
   ends_out_of_memory is failed = record {
     known = inr (inr (inr is));
     good = λ e. absurd (omega (arith, is, e));
@@ -51,22 +63,34 @@ module _ (d : Devices) (request : Request) (status : ℕ) where
   }
 
   -- there is a text, and it was written, whole or in part
-  pub run_answered : (inputs : List (List ℕ)) (text : List ℕ) → WasRead d.inputs inputs → text_for request.command request.burdens request.csv inputs text
-      → WritingEnds d.out d.err text status → RunEnds d request status
+  run_answered : (inputs : List (List ℕ)) (text : List ℕ) → WasRead d.inputs inputs → TextFor inputs text
+      → WritingEnds d.out d.err text status → EndsBy TextFor LineFor first d status
   run_answered inputs text read is (inl (good, wrote)) = ends_good good (inputs, text, read, is, wrote)
   run_answered inputs text read is (inr (failed, wrote)) = ends_failed failed (inl (inputs, text, read, is, wrote))
 
   -- the bytes are refused by a line
-  pub run_refused : (inputs : List (List ℕ)) (line : List ℕ) → status ≡ 1 → WasRead d.inputs inputs → line_for request.command inputs line
-      → d.out.Untouched → Told d.err line → RunEnds d request status
+  run_refused : (inputs : List (List ℕ)) (line : List ℕ) → status ≡ 1 → WasRead d.inputs inputs → LineFor inputs line
+      → d.out.Untouched → Told d.err line → EndsBy TextFor LineFor first d status
   run_refused inputs line is read refused out told = ends_bad is (inputs, line, read, refused, out, told)
 
   -- an input could not be read
-  pub run_unread : (trouble : Trouble) → status ≡ 3 → IsUnread d.inputs (first_place request.command) trouble
-      → d.out.Untouched → Told d.err (trouble_line trouble) → RunEnds d request status
-  run_unread trouble is unread out told = ends_failed is (inr (trouble, unread, out, told))
+  run_unread : (trouble : Trouble) → status ≡ trouble_status trouble → IsUnread d.inputs first trouble
+      → d.out.Untouched → Told d.err (trouble_line trouble) → EndsBy TextFor LineFor first d status
+  run_unread trouble is (inl (fault, of, refused, unused)) out told =
+      ends_failed (is ∙ unread_status first fault trouble of) (inr (trouble, inl (fault, of, refused, unused), out, told))
+  run_unread trouble is (inr (fault, of, good, refused)) out told =
+      ends_failed (is ∙ unread_status After fault trouble of) (inr (trouble, inr (fault, of, good, refused), out, told))
 
   -- an allocation failed
-  pub run_out_of_memory : status ≡ 4 → StayedWithin d.inputs (first_place request.command)
-      → d.out.Untouched → Told d.err (trouble_line NoMemory) → RunEnds d request status
+  run_out_of_memory : status ≡ 4 → StayedWithin d.inputs first
+      → d.out.Untouched → Told d.err (trouble_line NoMemory) → EndsBy TextFor LineFor first d status
   run_out_of_memory is within out told = ends_out_of_memory is (within, out, told)
+
+  -- as the answer, or why there is none, goes with it
+  pub run_ends : {T : Type 0} (items : T → List ℕ) (answer : Result T Refusal) → IfOk answer (λ text. (inputs : List (List ℕ)) × WasRead d.inputs inputs × TextFor inputs (items text))
+      → IfErr answer (IsRefusedBy d.inputs first LineFor) → IfOk answer (λ text. WritingEnds d.out d.err (items text) status) → IfErr answer (λ r. EndsRefused d.out d.err r status)
+      → EndsBy TextFor LineFor first d status
+  run_ends items (Ok text) (inputs, read, is) why wrote refused = run_answered inputs (items text) read is wrote
+  run_ends items (Err (refusal.Line told)) known (inputs, read, line) wrote (is, out, told_so) = run_refused inputs (string_bytes told) is read line out told_so
+  run_ends items (Err (refusal.Unread trouble)) known why wrote (is, out, told_so) = run_unread trouble is why out told_so
+  run_ends items (Err refusal.Memory) known why wrote (is, out, told_so) = run_out_of_memory is why out told_so

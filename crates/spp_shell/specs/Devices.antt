@@ -89,3 +89,11 @@ inputs_of first second = record { first = first; second = second }
 
 abbrev pub devices_of : Inputs → Taking → Taking → Devices
 devices_of inputs out err = record { inputs = inputs; out = out; err = err }
+
+-- an input that a run hasn't got
+abbrev pub no_input : Giving
+no_input = record { Gave = λ bytes. ⊥; Refused = λ fault. ⊥; Within = ⊥; Untouched = Unit {0} }
+
+-- the one input of a run that has no second
+abbrev pub input_alone : Giving → Inputs
+input_alone input = inputs_of input no_input

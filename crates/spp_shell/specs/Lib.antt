@@ -14,6 +14,7 @@ pub mod Figures
 pub mod Profiles
 pub mod Profiled
 pub mod Compare
+pub mod Advise
 pub mod Laws
 pub mod Inputs
 pub mod Requests

@@ -1,6 +1,8 @@
 //! The shell of the program: reads a request's inputs, answers it, and writes the answer or one line of fault.
 #![tactic(auto)]
 
+mod advise_task;
+mod advising;
 mod came;
 mod check_task;
 mod checked_records;
@@ -8,6 +10,7 @@ mod compare_task;
 mod encode_task;
 mod figured_records;
 mod figures_task;
+mod finding;
 mod header_end;
 mod in_source;
 mod input;
@@ -27,6 +30,7 @@ mod source;
 pub mod status;
 mod tell_input;
 mod telling;
+mod told_sites;
 mod trouble;
 mod usage;
 mod writing;
@@ -35,6 +39,6 @@ pub use in_source::InSource;
 pub use laws::migrate_laws;
 pub use place::Place;
 pub use reading::{INPUT_LIMIT, ReadFault, read_all, read_within};
-pub use running::run;
+pub use running::{advise, run};
 pub use source::{Source, SourceFault};
 pub use usage::{refuse_input, refuse_long_input, show_usage};

@@ -6,3 +6,4 @@ pub mod Steps
 pub mod Totals
 pub mod Weights
 pub mod Inwards
+pub mod Changes

@@ -1,7 +1,8 @@
 -- A summary while its events are read.
-use Rattle.std.specs.Prelude.{reverse, ◌∷◌}
+use Rattle.std.specs.Prelude.{ℕ, List, map, reverse, ◌∷◌}
 use Rattle.spp_summary.specs.declared.opens.Open.{Open}
 use Rattle.spp_summary.specs.declared.reading.Reading.{Reading}
+use Rattle.spp_piece.specs.declared.pieces.Frame.{Frame}
 use Rattle.spp_piece.specs.Summary.{Sum}
 use Rattle.spp_summary.specs.KeptFrames.{told, AreLaid}
 
@@ -15,3 +16,7 @@ so_far_with o p =
 
 abbrev pub IsLaid : Reading → Type 0
 IsLaid p = AreLaid p.run p.before (reverse p.opens.items) (reverse p.states.items) p.since
+
+-- the sites by which frames were entered
+abbrev pub sites_in : List Frame → List ℕ
+sites_in fs = map (λ f. f.site) fs

@@ -4,9 +4,10 @@
 //! bytes each, and the states of those in which more has happened than strands and calls of such frames; `returns` its
 //! unmatched returns, in 16 bytes each where a strand alone came before; `lists` chains and copies such lists; `storage` is
 //! all of these, and what a join does to them; `reading` what an event does to them, and `records` reads events by their
-//! bytes; `pending` what is still to be done to the innermost frame while later returns are taken in.
+//! bytes; `changed` reads a changed run; `pending` what is still to be done to the innermost frame while later returns are taken in.
 #![tactic(auto)]
 
+mod changed;
 mod frames;
 mod inward_frames;
 mod lists;
@@ -18,6 +19,7 @@ mod returns;
 mod storage;
 mod summary;
 
+pub use changed::changed_figures;
 pub use frames::FrameReader;
 pub use inward_frames::InwardFrames;
 pub use returns::ReturnReader;

@@ -13,7 +13,7 @@ use spp_explain::{FRONT, Run, explain};
 use spp_report::{OutSink, Sink, write_out};
 use spp_request::{Command, Request, UsageFault};
 use spp_shell::{
-    INPUT_LIMIT, InSource, Place, refuse_input, refuse_long_input, run, show_usage, status,
+    INPUT_LIMIT, InSource, Place, advise, refuse_input, refuse_long_input, run, show_usage, status,
 };
 use std::alloc::{AllocError, Global};
 use std::fs::OpenFile;
@@ -138,7 +138,15 @@ where
             };
         }
     };
-    let status = run(rt, rt.alloc(), request, &mut first, &mut second, out, err);
+    let status = run(
+        rt,
+        rt.alloc(),
+        request,
+        &mut first,
+        &mut second,
+        out,
+        err,
+    );
     Ended {
         status,
         first: first.into_inner().into_seen(),
@@ -149,7 +157,7 @@ where
 /// Answers a request over one input that is open.
 fn answer_input<R, I: Read + Drop, O: Sink, E: Sink>(
     rt: &R,
-    request: &Request,
+    asked: &Asked,
     mut input: InSource<Watched<I>>,
     out: &mut O,
     err: &mut E,
@@ -157,16 +165,22 @@ fn answer_input<R, I: Read + Drop, O: Sink, E: Sink>(
 where
     R: Threads + Wait + Sync + RandomSource + AllocGlobal,
 {
-    let mut no_second = InSource::new(io::empty());
-    let status = run(
-        rt,
-        rt.alloc(),
-        request,
-        &mut input,
-        &mut no_second,
-        out,
-        err,
-    );
+    let (alloc, request) = (rt.alloc(), &asked.request);
+    let status = match &asked.advise {
+        Some(options) => advise(rt, alloc, request, options, &mut input, out, err),
+        None => {
+            let mut no_second = InSource::new(io::empty());
+            run(
+                rt,
+                alloc,
+                request,
+                &mut input,
+                &mut no_second,
+                out,
+                err,
+            )
+        }
+    };
     Ended {
         status,
         first: input.into_inner().into_seen(),
@@ -183,10 +197,10 @@ where
     let Some(path) = request.files.first() else {
         let watched = Watched::new(rt.alloc(), rt.reader(), room);
         let input = InSource::new(watched);
-        return answer_input(rt, request, input, out, err);
+        return answer_input(rt, asked, input, out, err);
     };
     match open_or_refuse(rt, room, path.as_str(), Place::Only, out, err) {
-        Ok(input) => answer_input(rt, request, input, out, err),
+        Ok(input) => answer_input(rt, asked, input, out, err),
         Err((status, first)) => Ended {
             status,
             first,

@@ -26,8 +26,9 @@ returns c =
     let one = c.in_ok-subcommand.ensures.shape c.in_ok-check.ensures.1 ∙ ap₂ with_subcommand start (ap top_of c.in_ok-check.ensures.0) in
     let two = c.in_ok-subcommand-2.ensures.shape c.in_ok-figures.ensures.1 ∙ ap₂ with_subcommand one (ap top_of c.in_ok-figures.ensures.0) in
     let three = c.in_ok-subcommand-3.ensures.shape c.in_ok-profile.ensures.1 ∙ ap₂ with_subcommand two (ap top_of c.in_ok-profile.ensures.0) in
-    let four = c.in_ok-subcommand-4.ensures.shape c.in_ok-compare.ensures.1 ∙ ap₂ with_subcommand three (ap top_of c.in_ok-compare.ensures.0) in
-    let five = c.in_ok-subcommand-5.ensures.shape c.in_ok-encode.ensures.1 ∙ ap₂ with_subcommand four (ap top_of c.in_ok-encode.ensures.0) in
-    IfOk-weaker c.subcommand-6.result _ _
-    (λ d h. h.shape c.in_ok-migrate.ensures.1 ∙ ap₂ with_subcommand five (ap top_of c.in_ok-migrate.ensures.0))
-    c.subcommand-6.ensures
+    let four = c.in_ok-subcommand-4.ensures.shape c.in_ok-advise.ensures.1 ∙ ap₂ with_subcommand three (ap top_of c.in_ok-advise.ensures.0) in
+    let five = c.in_ok-subcommand-5.ensures.shape c.in_ok-compare.ensures.1 ∙ ap₂ with_subcommand four (ap top_of c.in_ok-compare.ensures.0) in
+    let six = c.in_ok-subcommand-6.ensures.shape c.in_ok-encode.ensures.1 ∙ ap₂ with_subcommand five (ap top_of c.in_ok-encode.ensures.0) in
+    IfOk-weaker c.subcommand-7.result _ _
+    (λ d h. h.shape c.in_ok-migrate.ensures.1 ∙ ap₂ with_subcommand six (ap top_of c.in_ok-migrate.ensures.0))
+    c.subcommand-7.ensures

@@ -1,5 +1,7 @@
-use Rattle.std.proofs.Common.{◌≡◌, ◌∙◌, ◌==◌, refl, sym, arith, subst, ℕ, true, false, List, [], ◌∷◌, Option, Some, None, unwrap_or, codes, ap, ap₂}
+use Rattle.std.proofs.Common.{◌≡◌, ◌∙◌, ◌==◌, inl, inr, refl, sym, arith, subst, ℕ, true, false, List, [], ◌∷◌, Option, Some, None, unwrap_or, codes, ap, ap₂}
+use Rattle.std.specs.Option.{option_map}
 use Rattle.std.specs.Str.{bytes_eq}
+use Rattle.std.specs.String.{string_bytes}
 use Rattle.clap.specs.Walk.{Row, Text}
 use Rattle.clap.specs.Simple.{subcommand_of}
 use Rattle.clap.specs.declared.parser.matches.ValueSource.TheVariants.{CommandLine, DefaultValue}
@@ -8,12 +10,13 @@ use Rattle.clap.specs.declared.builder.value_parser.Reading.TheVariants.{AsWritt
 use Rattle.spp_maxplus.specs.declared.state.Burdens.{Burdens}
 use Rattle.spp_maxplus.specs.State.{equal}
 use Rattle.spp_command_line.specs.Spprof.{spprof}
-use Rattle.spp_command_line.specs.Laws.{Ask, CommandAlone, Dash, Fail, Help, HelpBefore, OneWord, TwoWords, name_of}
+use Rattle.spp_command_line.specs.Laws.{AreOptions, Ask, AskAdvice, CommandAlone, Dash, Fail, Help, HelpBefore, OneWord, TwoWords, name_of}
 use Rattle.clap.proofs.OnLiterals.{clap_on_literals}
+use Rattle.spp_request.specs.declared.advise_options.AdviseOptions.{AdviseOptions}
 use Rattle.spp_request.specs.declared.request.Command.{Command}
 use Rattle.spp_request.specs.declared.request.Command.TheVariants.{Check, Figures, Profile, Compare, Encode, Migrate}
-use Rattle.spp_command_line.specs.Usage.{Gives, IsAskedBy, IsFlag, IsNamed, IsNumberIn, IsNumberOr, number_of, paths_of}
-use Rattle.clap.specs.declared.error.kind.ErrorKind.TheVariants.{DisplayHelp}
+use Rattle.spp_command_line.specs.Usage.{Gives, GivesAdvice, IsAdvised, IsAskedBy, IsFlag, IsNamed, IsNumberIn, IsNumberOr, number_of, paths_of, spoken}
+use Rattle.clap.specs.declared.error.kind.ErrorKind.TheVariants.{DisplayHelp, UnknownArgument}
 use Rattle.spp_command_line.proofs.laws.word_laws.Goals as goal
 
 -- a name is one command's
@@ -22,7 +25,10 @@ is_check Check e = refl
 is_check Figures e =
     let bad : true ≡ false = ap (λ (t : Text). bytes_eq t (codes "check")) e in
     cc
-is_check Profile e =
+is_check Profile (inl e) =
+    let bad : true ≡ false = ap (λ (t : Text). bytes_eq t (codes "check")) e in
+    cc
+is_check Profile (inr e) =
     let bad : true ≡ false = ap (λ (t : Text). bytes_eq t (codes "check")) e in
     cc
 is_check Compare e =
@@ -40,7 +46,10 @@ is_figures Check e =
     let bad : true ≡ false = ap (λ (t : Text). bytes_eq t (codes "figures")) e in
     cc
 is_figures Figures e = refl
-is_figures Profile e =
+is_figures Profile (inl e) =
+    let bad : true ≡ false = ap (λ (t : Text). bytes_eq t (codes "figures")) e in
+    cc
+is_figures Profile (inr e) =
     let bad : true ≡ false = ap (λ (t : Text). bytes_eq t (codes "figures")) e in
     cc
 is_figures Compare e =
@@ -71,6 +80,24 @@ is_profile Migrate e =
     let bad : true ≡ false = ap (λ (t : Text). bytes_eq t (codes "profile")) e in
     cc
 
+is_advise : (c : Command) → IsNamed (codes "advise") c → c ≡ Profile
+is_advise Check e =
+    let bad : true ≡ false = ap (λ (t : Text). bytes_eq t (codes "advise")) e in
+    cc
+is_advise Figures e =
+    let bad : true ≡ false = ap (λ (t : Text). bytes_eq t (codes "advise")) e in
+    cc
+is_advise Profile e = refl
+is_advise Compare e =
+    let bad : true ≡ false = ap (λ (t : Text). bytes_eq t (codes "advise")) e in
+    cc
+is_advise Encode e =
+    let bad : true ≡ false = ap (λ (t : Text). bytes_eq t (codes "advise")) e in
+    cc
+is_advise Migrate e =
+    let bad : true ≡ false = ap (λ (t : Text). bytes_eq t (codes "advise")) e in
+    cc
+
 is_encode : (c : Command) → IsNamed (codes "encode") c → c ≡ Encode
 is_encode Check e =
     let bad : true ≡ false = ap (λ (t : Text). bytes_eq t (codes "encode")) e in
@@ -78,7 +105,10 @@ is_encode Check e =
 is_encode Figures e =
     let bad : true ≡ false = ap (λ (t : Text). bytes_eq t (codes "encode")) e in
     cc
-is_encode Profile e =
+is_encode Profile (inl e) =
+    let bad : true ≡ false = ap (λ (t : Text). bytes_eq t (codes "encode")) e in
+    cc
+is_encode Profile (inr e) =
     let bad : true ≡ false = ap (λ (t : Text). bytes_eq t (codes "encode")) e in
     cc
 is_encode Compare e =
@@ -96,7 +126,10 @@ is_migrate Check e =
 is_migrate Figures e =
     let bad : true ≡ false = ap (λ (t : Text). bytes_eq t (codes "migrate")) e in
     cc
-is_migrate Profile e =
+is_migrate Profile (inl e) =
+    let bad : true ≡ false = ap (λ (t : Text). bytes_eq t (codes "migrate")) e in
+    cc
+is_migrate Profile (inr e) =
     let bad : true ≡ false = ap (λ (t : Text). bytes_eq t (codes "migrate")) e in
     cc
 is_migrate Compare e =
@@ -114,7 +147,10 @@ is_compare Check e =
 is_compare Figures e =
     let bad : true ≡ false = ap (λ (t : Text). bytes_eq t (codes "compare")) e in
     cc
-is_compare Profile e =
+is_compare Profile (inl e) =
+    let bad : true ≡ false = ap (λ (t : Text). bytes_eq t (codes "compare")) e in
+    cc
+is_compare Profile (inr e) =
     let bad : true ≡ false = ap (λ (t : Text). bytes_eq t (codes "compare")) e in
     cc
 is_compare Compare e = refl
@@ -189,14 +225,14 @@ returns-clause-figures_in_parts c = (refl, (λ a h. (is_figures a.request.comman
 
 pub returns-clause-profile_as_csv : goal.returns-clause-profile_as_csv
 unfolding clap_on_literals
-returns-clause-profile_as_csv c = (refl, (λ a h. (is_profile a.request.command h.0, h.1, as_given a.request.burdens (h.2.0.0 burden_unsaid, h.2.1), h.3.0 parts_unsaid, h.4.0 workers_unsaid, h.5.2 refl, h.6.1 refl)), (refl, refl, (spells (codes "15000") burden_unsaid, refl), spells (codes "16") parts_unsaid, spells (codes "4") workers_unsaid, flag_on, flag_off))
+returns-clause-profile_as_csv c = (refl, (λ a h. (is_profile a.request.command h.0, h.1, as_given a.request.burdens (h.2.0.0 burden_unsaid, h.2.1), h.3.0 parts_unsaid, h.4.0 workers_unsaid, h.5.2 refl, h.6.1 refl)), (inl refl, refl, (spells (codes "15000") burden_unsaid, refl), spells (codes "16") parts_unsaid, spells (codes "4") workers_unsaid, flag_on, flag_off))
 
 pub returns-clause-profile_by_workers : goal.returns-clause-profile_by_workers
 unfolding clap_on_literals
 returns-clause-profile_by_workers c = (
   refl,
   (λ a h. (is_profile a.request.command h.0, h.1, as_given a.request.burdens (h.2.0.0 burden_unsaid, h.2.1), h.3.0 parts_7, h.4.0 workers_2, h.5.1 refl, h.6.1 refl)),
-  (refl, refl, (spells (codes "15000") burden_unsaid, refl), spells (codes "7") parts_7, spells (codes "2") workers_2, flag_off, flag_off),
+  (inl refl, refl, (spells (codes "15000") burden_unsaid, refl), spells (codes "7") parts_7, spells (codes "2") workers_2, flag_off, flag_off),
 )
 
 pub returns-clause-explained : goal.returns-clause-explained
@@ -204,7 +240,7 @@ unfolding clap_on_literals
 returns-clause-explained c = (
   (refl, (λ a h. (is_check a.request.command h.0, h.1, as_given a.request.burdens h.2, h.3, h.4, h.5.0 refl, h.6.2 refl)), (refl, refl, (refl, refl), refl, refl, no_flag, flag_on)),
   (refl, (λ a h. (is_figures a.request.command h.0, h.1, as_given a.request.burdens (h.2.0.0 burden_unsaid, h.2.1), h.3.0 parts_unsaid, h.4.0 workers_unsaid, h.5.0 refl, h.6.2 refl)), (refl, refl, (spells (codes "15000") burden_unsaid, refl), spells (codes "16") parts_unsaid, spells (codes "4") workers_unsaid, no_flag, flag_on)),
-  (refl, (λ a h. (is_profile a.request.command h.0, h.1, as_given a.request.burdens (h.2.0.0 burden_unsaid, h.2.1), h.3.0 parts_unsaid, h.4.0 workers_unsaid, h.5.2 refl, h.6.2 refl)), (refl, refl, (spells (codes "15000") burden_unsaid, refl), spells (codes "16") parts_unsaid, spells (codes "4") workers_unsaid, flag_on, flag_on)),
+  (refl, (λ a h. (is_profile a.request.command h.0, h.1, as_given a.request.burdens (h.2.0.0 burden_unsaid, h.2.1), h.3.0 parts_unsaid, h.4.0 workers_unsaid, h.5.2 refl, h.6.2 refl)), (inl refl, refl, (spells (codes "15000") burden_unsaid, refl), spells (codes "16") parts_unsaid, spells (codes "4") workers_unsaid, flag_on, flag_on)),
   (refl, (λ a h. (is_compare a.request.command h.0, h.1, as_given a.request.burdens (h.2.0.0 burden_unsaid, h.2.1), h.3.0 parts_unsaid, h.4.0 workers_unsaid, h.5.0 refl, h.6.2 refl)), (refl, refl, (spells (codes "15000") burden_unsaid, refl), spells (codes "16") parts_unsaid, spells (codes "4") workers_unsaid, no_flag, flag_on)),
   (refl, (λ a h. (is_encode a.request.command h.0, h.1, as_given a.request.burdens h.2, h.3, h.4, h.5.0 refl, h.6.2 refl)), (refl, refl, (refl, refl), refl, refl, no_flag, flag_on)),
   (refl, (λ a h. (is_migrate a.request.command h.0, h.1, as_given a.request.burdens h.2, h.3, h.4, h.5.0 refl, h.6.2 refl)), (refl, refl, (refl, refl), refl, refl, no_flag, flag_on)),
@@ -224,12 +260,12 @@ returns-clause-two_burdens c = (
   (
     refl,
     (λ a h. (is_profile a.request.command h.0, h.1, each_given a.request.burdens (h.2.0.0 burden_3) (h.2.1.0 burden_0), h.3.0 parts_unsaid, h.4.0 workers_unsaid, h.5.1 refl, h.6.1 refl)),
-    (refl, refl, (spells (codes "3") burden_3, spells (codes "0") burden_0), spells (codes "16") parts_unsaid, spells (codes "4") workers_unsaid, flag_off, flag_off),
+    (inl refl, refl, (spells (codes "3") burden_3, spells (codes "0") burden_0), spells (codes "16") parts_unsaid, spells (codes "4") workers_unsaid, flag_off, flag_off),
   ),
   (
     refl,
     (λ a h. (is_profile a.request.command h.0, h.1, each_given a.request.burdens (h.2.0.0 burden_3) (h.2.1.0 burden_0), h.3.0 parts_unsaid, h.4.0 workers_unsaid, h.5.1 refl, h.6.1 refl)),
-    (refl, refl, (spells (codes "3") burden_3, spells (codes "0") burden_0), spells (codes "16") parts_unsaid, spells (codes "4") workers_unsaid, flag_off, flag_off),
+    (inl refl, refl, (spells (codes "3") burden_3, spells (codes "0") burden_0), spells (codes "16") parts_unsaid, spells (codes "4") workers_unsaid, flag_off, flag_off),
   ),
 )
 
@@ -305,7 +341,7 @@ one_profile x rest plain =
       (λ a h.
           let q : IsAskedBy (Some (codes "profile", rows)) a = subst (λ o. IsAskedBy o a) found h in
           (is_profile a.request.command q.0, q.1 ∙ path, as_given a.request.burdens (q.2.0.0 burden_unsaid, q.2.1), q.3.0 parts_unsaid, q.4.0 workers_unsaid, q.5.1 refl, q.6.1 refl)),
-      subst (λ o. Gives o Profile ((x ∷ rest) ∷ []) (equal 15000) 16 4 false false) (sym found) (refl, sym path, (spells (codes "15000") burden_unsaid, refl), spells (codes "16") parts_unsaid, spells (codes "4") workers_unsaid, flag_off, flag_off),
+      subst (λ o. Gives o Profile ((x ∷ rest) ∷ []) (equal 15000) 16 4 false false) (sym found) (inl refl, sym path, (spells (codes "15000") burden_unsaid, refl), spells (codes "16") parts_unsaid, spells (codes "4") workers_unsaid, flag_off, flag_off),
     )
 
 one_encode : (x : ℕ) (rest : Text) → (x == 45) ≡ false → Ask (codes "encode" ∷ (x ∷ rest) ∷ []) Encode ((x ∷ rest) ∷ []) (equal 15000) 16 4 false
@@ -361,7 +397,7 @@ alone : CommandAlone
 unfolding clap_on_literals
 alone Check over = (refl, (λ a h. (is_check a.request.command h.0, h.1, as_given a.request.burdens h.2, h.3, h.4, h.5.0 refl, h.6.1 refl)), (refl, refl, (refl, refl), refl, refl, no_flag, flag_off))
 alone Figures over = (refl, (λ a h. (is_figures a.request.command h.0, h.1, as_given a.request.burdens (h.2.0.0 burden_unsaid, h.2.1), h.3.0 parts_unsaid, h.4.0 workers_unsaid, h.5.0 refl, h.6.1 refl)), (refl, refl, (spells (codes "15000") burden_unsaid, refl), spells (codes "16") parts_unsaid, spells (codes "4") workers_unsaid, no_flag, flag_off))
-alone Profile over = (refl, (λ a h. (is_profile a.request.command h.0, h.1, as_given a.request.burdens (h.2.0.0 burden_unsaid, h.2.1), h.3.0 parts_unsaid, h.4.0 workers_unsaid, h.5.1 refl, h.6.1 refl)), (refl, refl, (spells (codes "15000") burden_unsaid, refl), spells (codes "16") parts_unsaid, spells (codes "4") workers_unsaid, flag_off, flag_off))
+alone Profile over = (refl, (λ a h. (is_profile a.request.command h.0, h.1, as_given a.request.burdens (h.2.0.0 burden_unsaid, h.2.1), h.3.0 parts_unsaid, h.4.0 workers_unsaid, h.5.1 refl, h.6.1 refl)), (inl refl, refl, (spells (codes "15000") burden_unsaid, refl), spells (codes "16") parts_unsaid, spells (codes "4") workers_unsaid, flag_off, flag_off))
 alone Compare over = absurd over
 alone Encode over = (refl, (λ a h. (is_encode a.request.command h.0, h.1, as_given a.request.burdens h.2, h.3, h.4, h.5.0 refl, h.6.1 refl)), (refl, refl, (refl, refl), refl, refl, no_flag, flag_off))
 alone Migrate over = (refl, (λ a h. (is_migrate a.request.command h.0, h.1, as_given a.request.burdens h.2, h.3, h.4, h.5.0 refl, h.6.1 refl)), (refl, refl, (refl, refl), refl, refl, no_flag, flag_off))
@@ -373,7 +409,7 @@ dash : Dash
 unfolding clap_on_literals
 dash Check over = (refl, (λ a h. (is_check a.request.command h.0, h.1, as_given a.request.burdens h.2, h.3, h.4, h.5.0 refl, h.6.1 refl)), (refl, refl, (refl, refl), refl, refl, no_flag, flag_off))
 dash Figures over = (refl, (λ a h. (is_figures a.request.command h.0, h.1, as_given a.request.burdens (h.2.0.0 burden_unsaid, h.2.1), h.3.0 parts_unsaid, h.4.0 workers_unsaid, h.5.0 refl, h.6.1 refl)), (refl, refl, (spells (codes "15000") burden_unsaid, refl), spells (codes "16") parts_unsaid, spells (codes "4") workers_unsaid, no_flag, flag_off))
-dash Profile over = (refl, (λ a h. (is_profile a.request.command h.0, h.1, as_given a.request.burdens (h.2.0.0 burden_unsaid, h.2.1), h.3.0 parts_unsaid, h.4.0 workers_unsaid, h.5.1 refl, h.6.1 refl)), (refl, refl, (spells (codes "15000") burden_unsaid, refl), spells (codes "16") parts_unsaid, spells (codes "4") workers_unsaid, flag_off, flag_off))
+dash Profile over = (refl, (λ a h. (is_profile a.request.command h.0, h.1, as_given a.request.burdens (h.2.0.0 burden_unsaid, h.2.1), h.3.0 parts_unsaid, h.4.0 workers_unsaid, h.5.1 refl, h.6.1 refl)), (inl refl, refl, (spells (codes "15000") burden_unsaid, refl), spells (codes "16") parts_unsaid, spells (codes "4") workers_unsaid, flag_off, flag_off))
 dash Compare over = absurd over
 dash Encode over = (refl, (λ a h. (is_encode a.request.command h.0, h.1, as_given a.request.burdens h.2, h.3, h.4, h.5.0 refl, h.6.1 refl)), (refl, refl, (refl, refl), refl, refl, no_flag, flag_off))
 dash Migrate over = (refl, (λ a h. (is_migrate a.request.command h.0, h.1, as_given a.request.burdens h.2, h.3, h.4, h.5.0 refl, h.6.1 refl)), (refl, refl, (refl, refl), refl, refl, no_flag, flag_off))
@@ -430,3 +466,68 @@ returns-clause-compare_in_parts c = (
 pub returns-clause-no_compare : goal.returns-clause-no_compare
 unfolding clap_on_literals
 returns-clause-no_compare c = (refl, refl, refl, refl, refl, refl)
+
+top_unsaid : IsNumberIn 0 4294967295 (codes "10")
+top_unsaid = ((omega arith, (omega arith, (omega arith, tt))), omega arith, omega arith)
+
+top_3 : IsNumberIn 0 4294967295 (codes "3")
+top_3 = burden_3
+
+faster_unsaid : IsNumberIn 2 1000 (codes "2")
+faster_unsaid = ((omega arith, (omega arith, tt)), omega arith, omega arith)
+
+faster_most : IsNumberIn 2 1000 (codes "1000")
+faster_most = ((omega arith, (omega arith, (omega arith, (omega arith, (omega arith, tt))))), omega arith, omega arith)
+
+-- the options are what their words spell
+as_advised : (found : Option (Text × List Row)) (o : Option AdviseOptions) (top factor : ℕ) (site : Option Text) → (IsAdvised found None → ⊥)
+    → ((p : AdviseOptions) → GivesAdvice found p.top p.factor (option_map string_bytes p.site) → AreOptions (Some p) top factor site)
+    → IsAdvised found o → AreOptions o top factor site
+as_advised None None top factor site asked same is = absurd is
+as_advised None (Some p) top factor site asked same is = absurd is
+as_advised (Some (name, rows)) None top factor site asked same is = absurd (asked is)
+as_advised (Some (name, rows)) (Some p) top factor site asked same is = same p is
+
+one_advise : (x : ℕ) (rest : Text) → (x == 45) ≡ false → AskAdvice (codes "advise" ∷ (x ∷ rest) ∷ []) ((x ∷ rest) ∷ []) false 10 2 None
+unfolding clap_on_literals given unsaid
+one_advise x rest plain =
+    let rows : List Row = given (codes "FILE") ((x ∷ rest) ∷ []) ∷ unsaid (codes "burden") (codes "15000") WithoutMinus ∷ unsaid (codes "parts") (codes "16") WithoutMinus ∷ unsaid (codes "workers") (codes "4") WithoutMinus ∷ unsaid (codes "top") (codes "10") WithoutMinus ∷ unsaid (codes "faster") (codes "2") WithoutMinus ∷ unsaid (codes "csv") (codes "false") AsWritten ∷ unsaid (codes "explain") (codes "false") AsWritten ∷ [] in
+    let found : subcommand_of spprof (codes "spprof" ∷ codes "advise" ∷ (x ∷ rest) ∷ []) ≡ Some (codes "advise", rows) = simp plain in
+    let path : paths_of (Some (x ∷ rest)) None None ≡ (x ∷ rest) ∷ [] = simp plain in (
+      (
+        rw plain (rw plain refl),
+      (λ a h.
+          let q : IsAskedBy (Some (codes "advise", rows)) a = subst (λ o. IsAskedBy o a) found h in
+          (is_advise a.request.command q.0, q.1 ∙ path, as_given a.request.burdens (q.2.0.0 burden_unsaid, q.2.1), q.3.0 parts_unsaid, q.4.0 workers_unsaid, q.5.1 refl, q.6.1 refl)),
+      subst (λ o. Gives o Profile ((x ∷ rest) ∷ []) (equal 15000) 16 4 false false) (sym found) (inr refl, sym path, (spells (codes "15000") burden_unsaid, refl), spells (codes "16") parts_unsaid, spells (codes "4") workers_unsaid, flag_off, flag_off),
+      ),
+      (λ o h. as_advised (Some (codes "advise", rows)) o 10 2 None (λ other. other refl) (λ p are. (are.1.0 top_unsaid, are.2.0 faster_unsaid, are.3)) (subst (λ f. IsAdvised f o) found h)),
+      subst (λ f. GivesAdvice f 10 2 None) (sym found) (refl, spells (codes "10") top_unsaid, spells (codes "2") faster_unsaid, refl),
+    )
+
+pub returns-clause-advise : goal.returns-clause-advise
+unfolding clap_on_literals
+returns-clause-advise c = (
+  ((refl, (λ a h. (is_advise a.request.command h.0, h.1, as_given a.request.burdens (h.2.0.0 burden_unsaid, h.2.1), h.3.0 parts_unsaid, h.4.0 workers_unsaid, h.5.1 refl, h.6.1 refl)), (inr refl, refl, (spells (codes "15000") burden_unsaid, refl), spells (codes "16") parts_unsaid, spells (codes "4") workers_unsaid, flag_off, flag_off)),
+    (λ o h. as_advised (subcommand_of spprof (spoken (codes "spprof" ∷ codes "advise" ∷ []))) o 10 2 None (λ other. other refl) (λ p are. (are.1.0 top_unsaid, are.2.0 faster_unsaid, are.3)) h),
+    (refl, spells (codes "10") top_unsaid, spells (codes "2") faster_unsaid, refl)),
+  ((refl, (λ a h. (is_advise a.request.command h.0, h.1, as_given a.request.burdens (h.2.0.0 burden_unsaid, h.2.1), h.3.0 parts_unsaid, h.4.0 workers_unsaid, h.5.1 refl, h.6.1 refl)), (inr refl, refl, (spells (codes "15000") burden_unsaid, refl), spells (codes "16") parts_unsaid, spells (codes "4") workers_unsaid, flag_off, flag_off)),
+    (λ o h. as_advised (subcommand_of spprof (spoken (codes "spprof" ∷ codes "advise" ∷ codes "-" ∷ []))) o 10 2 None (λ other. other refl) (λ p are. (are.1.0 top_unsaid, are.2.0 faster_unsaid, are.3)) h),
+    (refl, spells (codes "10") top_unsaid, spells (codes "2") faster_unsaid, refl)),
+  one_advise,
+  ((refl, (λ a h. (is_advise a.request.command h.0, h.1, as_given a.request.burdens (h.2.0.0 burden_unsaid, h.2.1), h.3.0 parts_unsaid, h.4.0 workers_unsaid, h.5.2 refl, h.6.1 refl)), (inr refl, refl, (spells (codes "15000") burden_unsaid, refl), spells (codes "16") parts_unsaid, spells (codes "4") workers_unsaid, flag_on, flag_off)),
+    (λ o h. as_advised (subcommand_of spprof (spoken (codes "spprof" ∷ codes "advise" ∷ codes "--top" ∷ codes "3" ∷ codes "--site" ∷ codes "b" ∷ codes "--faster=1000" ∷ codes "--csv" ∷ codes "a" ∷ []))) o 3 1000 (Some (codes "b")) (λ other. other refl) (λ p are. (are.1.0 top_3, are.2.0 faster_most, are.3)) h),
+    (refl, spells (codes "3") top_3, spells (codes "1000") faster_most, refl)),
+)
+
+no_second : (x y : ℕ) (rest more : Text) → (x == 45) ≡ false → (y == 45) ≡ false → Fail (codes "advise" ∷ (x ∷ rest) ∷ (y ∷ more) ∷ []) UnknownArgument
+unfolding clap_on_literals
+no_second x y rest more plain plain2 = simp (plain, plain2)
+
+pub returns-clause-no_advise : goal.returns-clause-no_advise
+unfolding clap_on_literals
+returns-clause-no_advise c = (no_second, refl, refl, refl, refl, refl)
+
+pub returns-clause-advise_help : goal.returns-clause-advise_help
+unfolding clap_on_literals
+returns-clause-advise_help c = (refl, refl)

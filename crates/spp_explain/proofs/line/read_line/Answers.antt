@@ -1,7 +1,7 @@
 use Rattle.std.proofs.Common.{◌≡◌, Some}
 use Rattle.spp_explain.specs.Lines.{IsTold, line_of}
 use Rattle.spp_explain.specs.declared.line.Told.{Told}
-use Rattle.spp_explain.specs.declared.line.Told.TheVariants.{Header, Event, Text, CannotOpen, CannotRead, TooLong, CannotWrite, Memory}
+use Rattle.spp_explain.specs.declared.line.Told.TheVariants.{Header, Event, Text, NoSite, CannotOpen, CannotRead, TooLong, CannotWrite, Memory}
 use Rattle.spp_explain.proofs.line.read_line.Goals as goal
 
 pub returns-in_default : goal.returns-in_default
@@ -16,3 +16,4 @@ returns-in_default c = record { known = known }
     known TooLong told is = absurd (c.in_default.not-text-3 is)
     known CannotWrite told is = absurd (c.in_default.not-text-4 is)
     known Memory told is = absurd (c.in_default.not-text-5 is)
+    known NoSite told is = absurd (c.in_default.not-text-6 is)

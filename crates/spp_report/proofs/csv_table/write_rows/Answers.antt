@@ -1,24 +1,42 @@
-use Rattle.std.proofs.Common.{◌≡◌, ◌∷◌, ◌++◌, [], List, ℕ, ◌∙◌, ap}
+use Rattle.std.proofs.Common.{◌≡◌, ◌∷◌, ◌++◌, [], List, ℕ, arith, refl, sym, subst}
+use Rattle.std.specs.Prelude.{map, decimal}
 use Rattle.csv.specs.Records.{fields_of}
-use Rattle.csv.specs.Writing.{default_writer, row_text}
-use Rattle.std.specs.List.{AllByRecursion}
-use Rattle.spp_report.specs.Csv.{cells, numbers, record_text}
-use Rattle.spp_report.specs.CsvWriters.{IsPlain}
-use Rattle.spp_report.proofs.CsvTexts.{wrote_record, same_record, plain_both, plain_decimals}
+use Rattle.spp_dag.specs.declared.row.Row.{Row}
+use Rattle.spp_report.specs.Csv.{cells, numbers}
+use Rattle.spp_report.specs.CsvWriters.{IsPlain, IsPlainRecord}
+use Rattle.spp_report.proofs.CsvTexts.{plain_decimals}
+use Rattle.spp_report.proofs.Elements.{all_append}
 use Rattle.spp_report.proofs.csv_table.write_rows.Goals as goal
+
+-- a name, and then the numbers of three rows
+row_fields : (name : List ℕ) (dag path burdened_path : Row) (f₁ f₂ f₃ f₄ : List (List ℕ)) (n₁ n₂ n₃ : List ℕ) → f₁ ≡ name ∷ []
+    → n₁ ≡ numbers dag → n₂ ≡ numbers path → n₃ ≡ numbers burdened_path
+    → f₂ ≡ f₁ ++ map decimal n₁ → f₃ ≡ f₂ ++ map decimal n₂ → f₄ ≡ f₃ ++ map decimal n₃
+    → f₄ ≡ name ∷ cells dag ++ cells path ++ cells burdened_path
+row_fields name dag path burdened_path f₁ f₂ f₃ f₄ n₁ n₂ n₃ e r₁ r₂ r₃ h₂ h₃ h₄ = rw (h₄, h₃, h₂, e, r₁, r₂, r₃) refl
+
+plain_row : (name : List ℕ) (dag path burdened_path : Row) → IsPlain name → IsPlainRecord (name ∷ cells dag ++ cells path ++ cells burdened_path)
+plain_row name dag path burdened_path h = record {
+  several = omega arith;
+  plain = (
+    h,
+    all_append IsPlain (cells dag ++ cells path) (cells burdened_path)
+        (all_append IsPlain (cells dag) (cells path) (plain_decimals (numbers dag)) (plain_decimals (numbers path))) (plain_decimals (numbers burdened_path)),
+  );
+}
+
+pub write_record-requires-clause-plain : goal.write_record-requires-clause-plain
+write_record-requires-clause-plain g c =
+    let a = c.args in
+    let first : fields_of c.push_field.new.self ≡ a.name.now ∷ [] = rw (c.clear.ensures.fields, c.clear.ensures.partial, c.as_bytes.ensures.value) at c.in_ok-push_field.ensures.fields in
+    subst IsPlainRecord
+    (sym (row_fields a.name.now a.dag.now a.path.now a.burdened_path.now _ _ _ _ _ _ _ first c.numbers.ensures c.numbers-2.ensures c.numbers-3.ensures
+    c.in_ok-push_numbers.ensures.fields c.in_ok-push_numbers-2.ensures.fields c.in_ok-push_numbers-3.ensures.fields))
+    (plain_row a.name.now a.dag.now a.path.now a.burdened_path.now c.requires.plain)
 
 pub returns-clause-text : goal.returns-clause-text
 returns-clause-text g c =
-    let name = c.args.name.now in
-    let dag = c.args.dag.now in
-    let path = c.args.path.now in
-    let burdened_path = c.args.burdened_path.now in
-    let first : fields_of c.push_field.new.self ≡ name ∷ [] = rw (c.clear.ensures.fields, c.clear.ensures.partial, c.as_bytes.ensures.value) at c.in_ok-push_field.ensures.fields in
-    let half : fields_of c.push_cells.new.fields ≡ name ∷ cells dag = c.in_ok-push_cells.ensures.fields ∙ ap (λ (fs : List (List ℕ)). fs ++ cells dag) first in
-    let both : fields_of c.push_cells-2.new.fields ≡ name ∷ cells dag ++ cells path = c.in_ok-push_cells-2.ensures.fields ∙ ap (λ (fs : List (List ℕ)). fs ++ cells path) half in
-    let fields : fields_of c.push_cells-3.new.fields ≡ name ∷ cells dag ++ cells path ++ cells burdened_path = c.in_ok-push_cells-3.ensures.fields ∙ ap (λ (fs : List (List ℕ)). fs ++ cells burdened_path) both in
-    let plain : AllByRecursion IsPlain (cells dag ++ cells path) = plain_both (cells dag) (cells path) (plain_decimals (numbers dag)) (plain_decimals (numbers path)) in
-    wrote_record c.write_byte_record.result c.map_err.result c.args.writer.now _ _ (fields_of c.push_cells-3.new.fields) (record_text (name ∷ cells dag ++ cells path ++ cells burdened_path)) c.map_err.ensures.variant c.requires.ready
-    (ap (λ (fs : List (List ℕ)). row_text default_writer fs) fields
-    ∙ same_record name _ _ (c.requires.plain, plain_both (cells dag ++ cells path) (cells burdened_path) plain (plain_decimals (numbers burdened_path))))
-    c.write_byte_record.ensures.bytes
+    let a = c.args in
+    let first : fields_of c.push_field.new.self ≡ a.name.now ∷ [] = rw (c.clear.ensures.fields, c.clear.ensures.partial, c.as_bytes.ensures.value) at c.in_ok-push_field.ensures.fields in
+    rw (row_fields a.name.now a.dag.now a.path.now a.burdened_path.now _ _ _ _ _ _ _ first c.numbers.ensures c.numbers-2.ensures c.numbers-3.ensures
+    c.in_ok-push_numbers.ensures.fields c.in_ok-push_numbers-2.ensures.fields c.in_ok-push_numbers-3.ensures.fields) at c.write_record.ensures.text

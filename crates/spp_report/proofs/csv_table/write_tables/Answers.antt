@@ -1,10 +1,14 @@
+use Rattle.std.proofs.Common.{lit≤, refl}
 use Rattle.std.specs.Prelude.{codes, length}
 use Rattle.std.specs.Io.KnownBytes.{Appends}
 use Rattle.std.specs.List.{flat_map, range_with_len}
 use Rattle.csv.specs.Writing.{text_written}
 use Rattle.spp_report.specs.Csv.{columns, record_text, named_record, site_record}
-use Rattle.spp_report.proofs.CsvTexts.{wrote_parts}
+use Rattle.spp_report.proofs.CsvTexts.{plain_fields_by_test, wrote_parts}
 use Rattle.spp_report.proofs.csv_table.write_tables.Goals as goal
+
+pub write_columns-requires-clause-plain : goal.write_columns-requires-clause-plain
+write_columns-requires-clause-plain g c = record { several = lit≤ tt; plain = plain_fields_by_test columns refl }
 
 pub returns : goal.returns
 returns g c =
