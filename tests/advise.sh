@@ -129,3 +129,9 @@ expect 'advise: a site, and a bad event' 1 '' "bad event 1: unclosed 1$lf" "$fol
 expect 'advise: a site twice' 2 '' 'error: *' "$small" advise --site A --site A
 expect 'advise: a site without a name' 2 '' 'error: *' "$small" advise --site
 expect 'a site of profile' 2 '' "error: *tip: '--site' is an option of 'advise'*" "$small" profile --site A
+one_word="*tip: a call site is named by one word, as in --site='NAME'$lf*"
+expect 'advise: a site named by two words' 2 '' "error: unexpected argument '$small' found$lf$one_word" /dev/null advise --site main: load "$small"
+for name in -x -5; do
+    expect "advise: a site named $name" 2 '' "error: *$one_word" "$small" advise --site $name
+    expect "advise: no site named $name" 1 '' "no such call site$lf" "$small" advise --site=$name
+done

@@ -170,6 +170,8 @@ each_refused 'advise, a recorded trace' 0 15 'work 32744*' '' "$examples/nqueens
 each_refused 'advise by one worker' 0 0 'work 17*' '' "$examples/small.compact" "$spprof" advise --workers 1
 each_refused 'advise, many call sites' 0 8 'work 10*' '' "$folder/many" "$spprof" advise --parts 9 --workers 2
 each_refused 'advise, a bad event' 1 3 '' 'bad event 4: tag' "$folder/tag" "$spprof" advise
+each_refused 'advise as a table, one call site' 0 0 'name,*' '' "$examples/small.compact" "$spprof" advise --csv --site A --workers 1
+each_refused 'advise, no such call site' 1 0 '' 'no such call site' "$examples/small.sptrace" "$spprof" advise --site B
 # An input of 69 MB, for the peaks below, with more call sites than a profile by blocks takes.
 awk 'BEGIN { print "func f"; for (n = 0; n < 1025; n++) print "site s" n
     for (n = 0; n < 4300000; n++) print "strand", n % 7 }' | "$spprof" encode > "$folder/long"

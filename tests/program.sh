@@ -298,6 +298,8 @@ expect 'advise: a folder' 3 '' "cannot read input$lf" "$small" advise "$folder"
 # Longer than an input may be: a named regular file is refused at once, before it is read, and so is each of two. These files take
 # no place on the disk.
 too_long="input too long$lf"
+# A header of version 2, and bytes behind it that are one item, which is bad, however many they are.
+printf 'SPTRACE2\0\0\0\1\0\0\0\0\0\0\0\0\0\0\0\1\0\1f' | tee "$folder/long" "$folder/longer" "$folder/longest" > "$folder/endless"
 truncate -s 9G "$folder/long" && truncate -s 8589934593 "$folder/longer" && truncate -s 8589934592 "$folder/longest"
 in_little() { # SECONDS NAME STATUS OUT ERR INPUT WORDS..: within so many seconds and 100 MB of memory
     local seconds=$1 name=$2 wanted=$3 out=$4 err=$5 input=$6
@@ -317,8 +319,15 @@ in_little 1 'compare: a file that is too long and none' 3 '' "before: $too_long"
 in_little 1 'compare: a bad file and one that is too long' 3 '' "after: $too_long" /dev/null compare "$top/README.md" "$folder/long"
 # A file of the greatest length is read, and so is an input that tells no length: here up to where memory ends.
 in_little 9 'a file as long as an input may be' 4 '' "out of memory$lf" /dev/null check "$folder/longest"
-in_little 9 'a device without an end by name' 4 '' "out of memory$lf" /dev/null check /dev/zero
-in_little 9 'an input without an end' 4 '' "out of memory$lf" /dev/zero check
+in_little 9 'a device without an end by name' 4 '' "out of memory$lf" /dev/null encode /dev/zero
+in_little 9 'an input without an end' 4 '' "out of memory$lf" <(cat "$folder/endless" /dev/zero) check
+# What no trace begins with is refused without reading on, by each command that reads a trace.
+for command in check figures profile advise migrate; do
+    in_little 1 "$command of zeros without an end" 1 '' "bad header: magic$lf" /dev/null $command /dev/zero
+    in_little 1 "$command of an input that stays open" 1 '' "bad header: limits$lf" <(printf 'SPTRACE1%016d' 0 | tr 0 '\0'; sleep 5) $command
+done
+in_little 1 'encode of zeros in a file' 1 '' "bad text line 1: word$lf" <(head -c 100 /dev/zero) encode
+in_little 1 'compare: zeros without an end' 1 '' "after: bad header: magic$lf" /dev/null compare "$small" /dev/zero
 in_little 9 'an input from a file that is too long' 4 '' "out of memory$lf" "$folder/long" check
 # A file whose length the system tells as 0, though it has bytes.
 expect 'a file that tells no length' 1 '' "bad header: magic$lf" /dev/null check /proc/version
@@ -762,12 +771,12 @@ expect 'explain: a long trace' 1 '' \
 expect 'explain: a good trace' 0 "work 17$lf" '' "$small" check --explain
 expect 'explain: a good text' 0 'SPTRACE1*' '' "$top/examples/small.txt" encode --explain
 expect 'explain: a word too many' 2 '' "error: unexpected argument 'b' found$lf*" /dev/null check --explain a b
-in_little 9 'explain: out of memory' 4 '' "out of memory${lf}spprof: /dev/zero: the system has no more memory; *; to do: record less*$lf" \
-    /dev/null check --explain /dev/zero
+in_little 9 'explain: out of memory' 4 '' "out of memory${lf}spprof: $folder/longest: the system has no more memory; *; to do: record less*$lf" \
+    /dev/null check --explain "$folder/longest"
 # To compare, either of the files may have taken the memory.
 no_memory="out of memory${lf}spprof: the system has no more memory; *$lf"
-in_little 9 'explain: out of memory at a first file' 4 '' "$no_memory" /dev/null compare --explain /dev/zero "$small"
-in_little 9 'explain: out of memory at a second file' 4 '' "$no_memory" /dev/null compare --explain "$small" /dev/zero
+in_little 9 'explain: out of memory at a first file' 4 '' "$no_memory" /dev/null compare --explain "$folder/longest" "$small"
+in_little 9 'explain: out of memory at a second file' 4 '' "$no_memory" /dev/null compare --explain "$small" "$folder/longest"
 # The output and the device for faults.
 "$spprof" check --explain < "$small" > /dev/full 2> "$folder/err"
 status=$?

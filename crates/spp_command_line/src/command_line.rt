@@ -255,10 +255,7 @@ fn profile<'a>(alloc: Global) -> Result<Command<'a>, AllocError>
 
 'spprof help' lists the exit statuses",
     )?
-    .arg(csv(
-        alloc,
-        "Print the tables alone, as comma-separated values",
-    ))?
+    .arg(csv(alloc, "Print the tables alone, as comma-separated values"))?
     .arg(explain(alloc))
 }
 

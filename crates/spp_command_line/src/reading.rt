@@ -14,8 +14,8 @@ ghost use Rattle.spp_command_line.specs.Usage.{EndsBy, GivesAdvice, IsAdvised, I
 use crate::asked::Asked;
 use crate::command_line::{DEFAULT_BURDEN, DEFAULT_TOP, command_line};
 use crate::tips::text_in_place;
-use clap::{ArgMatches, Error};
 use clap::error::ErrorKind;
+use clap::{ArgMatches, Error};
 use spp_change::Factor;
 use spp_cut::Parts;
 use spp_maxplus::Burdens;

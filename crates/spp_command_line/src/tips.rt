@@ -58,6 +58,17 @@ fn tip_for(command: &str, word: &str) -> Option<&'static str> {
     }
 }
 
+/// Whether a call site is asked for by its name.
+fn names_site<S: AsStr>(words: &[S]) -> bool {
+    for word in words {
+        let word = word.as_str();
+        if word == "--site" || word.starts_with("--site=") {
+            return true;
+        }
+    }
+    false
+}
+
 /// The text with that tip in place of its own.
 fn with_tip(alloc: Global, text: &str, tip: &str) -> Result<Option<String>, AllocError> {
     match (text.split_once("\n\n"), text.split_once("\n\nUsage: ")) {
@@ -94,7 +105,12 @@ pub(crate) fn text_in_place<S: AsStr>(
         before = word;
     }
     let command = words.get(1).map_or("", |word| word.as_str());
-    match tip_for(command, refused) {
+    let tip = if command == "advise" && names_site(words) {
+        Some("a call site is named by one word, as in --site='NAME'")
+    } else {
+        tip_for(command, refused)
+    };
+    match tip {
         Some(tip) => with_tip(alloc, text, tip),
         None => Ok(None),
     }

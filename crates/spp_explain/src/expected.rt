@@ -194,7 +194,7 @@ const A_TEXT: Expected = Expected {
 const THE_SITE: Expected = Expected {
     wanted: "the name of a call site of the trace, byte for byte",
     cause: "the name of a function, or a name that the shell split or changed",
-    advice: "copy the name from the report of profile, and put it in single quotes",
+    advice: "copy the name from the report of profile, as in --site='NAME'",
 };
 
 const OF_MEMORY: Expected = Expected {

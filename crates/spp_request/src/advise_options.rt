@@ -7,7 +7,7 @@ use spp_change::Factor;
 /// What is asked of `advise`, beside the request that names the run, its burdens and its workers.
 #[derive(Debug, Drop)]
 pub struct AdviseOptions {
-    /// How many call sites it tells of at most, the root frame not counted. The trace is read two or three times for each.
+    /// How many call sites it tells of at most, the root frame not counted. The trace is read up to three times for each.
     pub top: u32,
     /// By how much it makes strands faster.
     pub factor: Factor,

@@ -4,7 +4,7 @@ use Rattle.std.specs.Prelude.{Result, Ok, Err, IfOk, IfErr}
 use Rattle.std.specs.String.{string_bytes}
 use Rattle.spp_shell.specs.Devices.{Devices, Told, WasRead}
 use Rattle.spp_shell.specs.Endings.{EndsBy, EndsRefused, WritingEnds, AnswersWell, RefusesInput, OutputFails, InputFails, MemoryFails}
-use Rattle.spp_shell.specs.Inputs.{IsRefusedBy, IsTroubleOf, IsUnread, StayedWithin}
+use Rattle.spp_shell.specs.Inputs.{IsLineOf, IsRefusedBy, IsTroubleOf, IsUnread, StayedWithin}
 use Rattle.spp_shell.specs.Troubles.{trouble_line, trouble_status}
 use Rattle.spp_shell.specs.declared.place.Place.{Place}
 use Rattle.spp_shell.specs.declared.place.Place.TheVariants.{After}
@@ -69,9 +69,9 @@ module _ (TextFor LineFor : List (List ℕ) → List ℕ → Type 0) (first : Pl
   run_answered inputs text read is (inr (failed, wrote)) = ends_failed failed (inl (inputs, text, read, is, wrote))
 
   -- the bytes are refused by a line
-  run_refused : (inputs : List (List ℕ)) (line : List ℕ) → status ≡ 1 → WasRead d.inputs inputs → LineFor inputs line
+  run_refused : (line : List ℕ) → status ≡ 1 → IsLineOf d.inputs LineFor line
       → d.out.Untouched → Told d.err line → EndsBy TextFor LineFor first d status
-  run_refused inputs line is read refused out told = ends_bad is (inputs, line, read, refused, out, told)
+  run_refused line is refused out told = ends_bad is (line, refused, out, told)
 
   -- an input could not be read
   run_unread : (trouble : Trouble) → status ≡ trouble_status trouble → IsUnread d.inputs first trouble
@@ -91,6 +91,6 @@ module _ (TextFor LineFor : List (List ℕ) → List ℕ → Type 0) (first : Pl
       → IfErr answer (IsRefusedBy d.inputs first LineFor) → IfOk answer (λ text. WritingEnds d.out d.err (items text) status) → IfErr answer (λ r. EndsRefused d.out d.err r status)
       → EndsBy TextFor LineFor first d status
   run_ends items (Ok text) (inputs, read, is) why wrote refused = run_answered inputs (items text) read is wrote
-  run_ends items (Err (refusal.Line told)) known (inputs, read, line) wrote (is, out, told_so) = run_refused inputs (string_bytes told) is read line out told_so
+  run_ends items (Err (refusal.Line told)) known line wrote (is, out, told_so) = run_refused (string_bytes told) is line out told_so
   run_ends items (Err (refusal.Unread trouble)) known why wrote (is, out, told_so) = run_unread trouble is why out told_so
   run_ends items (Err refusal.Memory) known why wrote (is, out, told_so) = run_out_of_memory is why out told_so

@@ -1,5 +1,5 @@
 -- What is told of an input, from the bytes that it gave.
-use Rattle.std.proofs.Common.{◌≡◌, ℕ, List, [], ap}
+use Rattle.std.proofs.Common.{◌≡◌, ℕ, List, [], ap, inl}
 use Rattle.std.specs.Prelude.{Result, Ok, Err, IfOk, IfErr}
 use Rattle.spp_event.specs.Recordings.{Recording}
 use Rattle.spp_event.specs.declared.version.Version.TheVariants.{One}
@@ -19,7 +19,7 @@ told_of_given g bytes gave Tells (Err e) is = tt
 
 -- the line for them
 pub line_of_given : (g : Giving) (bytes : List ℕ) → g.Gave bytes → g.Within → (place : Place) (LineFor : List ℕ → List ℕ → Type 0) (e : Refusal) → IfLine e (LineFor bytes) → IsInputRefused g place LineFor e
-line_of_given g bytes gave within place LineFor (refusal.Line told) is = (bytes, gave, is)
+line_of_given g bytes gave within place LineFor (refusal.Line told) is = inl (bytes, gave, is)
 line_of_given g bytes gave within place LineFor (refusal.Unread trouble) is = absurd is
 line_of_given g bytes gave within place LineFor refusal.Memory is = within
 

@@ -1,7 +1,7 @@
 -- What is known of the devices of a run when it has ended.
 use Rattle.std.specs.Prelude.{◌≡◌, ℕ, ◌≤◌, ◌^◌, ◌⊎◌, List, [], ◌∷◌, length, take, Option}
 use Rattle.spp_report.specs.Devices.{FailedAfter}
-use Rattle.spp_shell.specs.Reading.{GaveAll, ReadWithin}
+use Rattle.spp_shell.specs.Reading.{GaveAll, GaveFirst, ReadWithin}
 use Rattle.spp_shell.specs.Refusals.{ReadRefused}
 use Rattle.spp_shell.specs.declared.reading.ReadFault.{ReadFault}
 
@@ -46,6 +46,9 @@ Told d told = TookWhole d told ⊎ TookPart d told
 pub record Giving : Type 1 where
   -- it gave exactly these bytes up to its end, at most 2^33 of them in as many reads, and never failed
   pub Gave : List ℕ → Type 0
+  -- it gave exactly these bytes first, at most 2^33 of them in fewer reads, and never failed; its end was not seen, and it
+  -- wasn't asked for more
+  pub Began : List ℕ → Type 0
   -- it could not be read whole, for this reason
   pub Refused : ReadFault → Type 0
   -- at most 2^33 bytes came of it in as many reads, up to its end or not
@@ -61,6 +64,7 @@ module _ {S : Type 0} (answered : S → Option (List ℕ) → S → Type 0) (fai
   abbrev pub giving_of : Giving
   giving_of = record {
     Gave = GaveWithin;
+    Began = λ front. GaveFirst answered (2 ^ 33) (2 ^ 33) old front new × (failures new ≡ failures old);
     Refused = λ fault. ReadRefused answered failed failures (2 ^ 33) (2 ^ 33) old fault new;
     Within = ReadWithin answered (2 ^ 33) (2 ^ 33) old new ⊎ ((bytes : List ℕ) × GaveWithin bytes);
     Untouched = new ≡ old;
@@ -78,6 +82,13 @@ WasRead d (bytes ∷ []) = d.first.Gave bytes × d.second.Untouched
 WasRead d (before ∷ after ∷ []) = d.first.Gave before × d.second.Gave after
 WasRead d (before ∷ after ∷ other ∷ more) = ⊥
 
+-- the last input that was read began with the front; those read before it gave exactly these bytes, in order; no other was
+-- used
+abbrev pub WasBegun : Inputs → List (List ℕ) → List ℕ → Type 0
+WasBegun d [] front = d.first.Began front × d.second.Untouched
+WasBegun d (before ∷ []) front = d.first.Gave before × d.second.Began front
+WasBegun d (before ∷ other ∷ more) front = ⊥
+
 -- all devices of a run: its inputs, its output, and the device for faults
 pub record Devices : Type 1 where
   pub inputs : Inputs
@@ -92,7 +103,7 @@ devices_of inputs out err = record { inputs = inputs; out = out; err = err }
 
 -- an input that a run hasn't got
 abbrev pub no_input : Giving
-no_input = record { Gave = λ bytes. ⊥; Refused = λ fault. ⊥; Within = ⊥; Untouched = Unit {0} }
+no_input = record { Gave = λ bytes. ⊥; Began = λ front. ⊥; Refused = λ fault. ⊥; Within = ⊥; Untouched = Unit {0} }
 
 -- the one input of a run that has no second
 abbrev pub input_alone : Giving → Inputs

@@ -12,7 +12,7 @@ use Rattle.spp_shell.specs.declared.trouble.Trouble.TheVariants.{CannotWrite, No
 use Rattle.spp_maxplus.specs.declared.state.Burdens.{Burdens}
 use Rattle.spp_shell.specs.Advise.{IsAdviseLine, IsAdviseText}
 use Rattle.spp_shell.specs.Devices.{Taking, Devices, TookWhole, TookPart, Told, WasRead}
-use Rattle.spp_shell.specs.Inputs.{IsUnread, StayedWithin, first_place}
+use Rattle.spp_shell.specs.Inputs.{IsLineOf, IsUnread, StayedWithin, first_place}
 use Rattle.spp_shell.specs.Requests.{text_for, line_for}
 use Rattle.spp_shell.specs.Troubles.{trouble_line, trouble_status}
 
@@ -42,9 +42,9 @@ module _ (TextFor LineFor : List (List ℕ) → List ℕ → Type 0) (first : Pl
   abbrev pub AnswersWell : Type 0
   AnswersWell = (inputs : List (List ℕ)) × (text : List ℕ) × WasRead d.inputs inputs × TextFor inputs text × WritesWell d.out d.err text
 
-  -- the definitions refuse the bytes read, and the line is theirs
+  -- the definitions refuse the bytes read, or those that came whatever could follow them, and the line is theirs
   abbrev pub RefusesInput : Type 0
-  RefusesInput = (inputs : List (List ℕ)) × (fault : List ℕ) × WasRead d.inputs inputs × LineFor inputs fault × d.out.Untouched × Told d.err fault
+  RefusesInput = (fault : List ℕ) × IsLineOf d.inputs LineFor fault × d.out.Untouched × Told d.err fault
 
   -- the text for the bytes read could not be written whole
   abbrev pub OutputFails : Type 0

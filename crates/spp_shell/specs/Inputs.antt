@@ -1,8 +1,8 @@
 -- Which inputs of a run were read, and what is told where one could not be.
-use Rattle.std.specs.Prelude.{◌≡◌, ◌⊎◌, ℕ, List}
+use Rattle.std.specs.Prelude.{◌≡◌, ◌⊎◌, ℕ, List, [], ◌∷◌, ◌++◌}
 use Rattle.std.specs.String.{string_bytes}
 use Rattle.spp_shell.specs.Compare.{IsGoodTrace}
-use Rattle.spp_shell.specs.Devices.{Giving, Inputs, WasRead}
+use Rattle.spp_shell.specs.Devices.{Giving, Inputs, WasBegun, WasRead}
 use Rattle.spp_shell.specs.declared.place.Place.{Place}
 use Rattle.spp_shell.specs.declared.place.Place.TheVariants.{Only, Before, After}
 use Rattle.spp_shell.specs.declared.reading.ReadFault.{ReadFault}
@@ -30,9 +30,24 @@ abbrev pub TellsRead : Place → ReadFault → Refusal → Type 0
 TellsRead place Memory told = told ≡ refusal.Memory
 TellsRead place fault told = (trouble : Trouble) × (told ≡ refusal.Unread trouble) × IsTroubleOf place fault trouble
 
+-- the line is foreseen: the input began with bytes that have it whatever follows them, and no more was read
+abbrev pub IsForeseen : Giving → (List ℕ → List ℕ → Type 0) → List ℕ → Type 0
+IsForeseen input LineFor told = (front : List ℕ) × input.Began front × ((more : List ℕ) → LineFor (front ++ more) told)
+
+-- the line is that for the bytes of the input, which was read whole, or it is foreseen
+abbrev pub IsLineOfInput : Giving → (List ℕ → List ℕ → Type 0) → List ℕ → Type 0
+IsLineOfInput input LineFor told = ((bytes : List ℕ) × input.Gave bytes × LineFor bytes told) ⊎ IsForeseen input LineFor told
+
+-- the line is that for the bytes of the inputs that were read, or it is foreseen: the last of them began with bytes that have
+-- it whatever follows them
+abbrev pub IsLineOf : Inputs → (List (List ℕ) → List ℕ → Type 0) → List ℕ → Type 0
+IsLineOf d LineFor told =
+    ((inputs : List (List ℕ)) × WasRead d inputs × LineFor inputs told)
+    ⊎ ((whole : List (List ℕ)) × (front : List ℕ) × WasBegun d whole front × ((more : List ℕ) → LineFor (whole ++ (front ++ more) ∷ []) told))
+
 -- why one input has no answer, where LineFor gives the lines of fault for bytes that are refused
 abbrev pub IsInputRefused : Giving → Place → (List ℕ → List ℕ → Type 0) → Refusal → Type 0
-IsInputRefused input place LineFor (refusal.Line told) = (bytes : List ℕ) × input.Gave bytes × LineFor bytes (string_bytes told)
+IsInputRefused input place LineFor (refusal.Line told) = IsLineOfInput input LineFor (string_bytes told)
 IsInputRefused input place LineFor (refusal.Unread told) = (fault : ReadFault) × IsTroubleOf place fault told × input.Refused fault
 IsInputRefused input place LineFor refusal.Memory = input.Within
 
@@ -58,6 +73,6 @@ module _ (d : Inputs) (first : Place) where
 
   -- why there is no answer, where LineFor gives the lines of fault for bytes that are refused
   abbrev pub IsRefusedBy : (List (List ℕ) → List ℕ → Type 0) → Refusal → Type 0
-  IsRefusedBy LineFor (refusal.Line told) = (inputs : List (List ℕ)) × WasRead d inputs × LineFor inputs (string_bytes told)
+  IsRefusedBy LineFor (refusal.Line told) = IsLineOf d LineFor (string_bytes told)
   IsRefusedBy LineFor (refusal.Unread told) = IsUnread told
   IsRefusedBy LineFor refusal.Memory = StayedWithin

@@ -16,7 +16,7 @@ ghost use Rattle.spp_site.specs.Profiles.{IsProfileOf};
 
 use crate::advising::{changes_of, listed, named_runs};
 use crate::finding::figures_of;
-use crate::input::read_or_refuse;
+use crate::input::read_trace_or_refuse;
 use crate::opening::{open_or_refuse, refusal_of_event};
 use crate::place::Place;
 use crate::profile_task::profile_or_refuse;
@@ -157,6 +157,6 @@ pub(crate) fn answer_advise<R: Threads + Wait + Sync, S: Source>(
     ensures text { IfOk result (λ text. (bytes : List ℕ) × (giving_of S.answered S.failed S.failures source.old source.new).Gave bytes × IsAdviseText request.now.burdens request.now.csv options.now (bytes ∷ []) text.items) }
     ensures refused { IfErr result (IsInputRefused (giving_of S.answered S.failed S.failures source.old source.new) Only (IsOneAdviseLine options.now)) }
 {
-    let bytes = read_or_refuse(alloc, source, Place::Only)?;
+    let bytes = read_trace_or_refuse(alloc, source, Place::Only)?;
     advise_bytes(rt, alloc, request, options, bytes.as_slice())
 }

@@ -1,5 +1,5 @@
 //! What came of an input that is read step by step.
-ghost use Rattle.std.specs.Prelude.{◌≡◌, ◌≤◌, ◌^◌, length, take};
+ghost use Rattle.std.specs.Prelude.{◌≡◌, ◌<◌, ◌≤◌, ◌^◌, length, take};
 
 use std::alloc::Global;
 
@@ -14,7 +14,7 @@ pub(crate) struct Came {
     pub(crate) reads: u64,
     ghost held: { filled ≤ length bytes.items },
     ghost few: { filled ≤ 2 ^ 33 },
-    ghost turns: { reads ≤ 2 ^ 33 },
+    ghost turns: { reads < 2 ^ 33 },
 }
 
 impl Came {

@@ -15,11 +15,11 @@ ghost use Rattle.spp_shell.specs.Check.{IsCheckText, IsCheckLine, IsOneCheckLine
 use crate::came::Came;
 use crate::checked_records::CheckedRecords;
 use crate::header_end::HeaderEnd;
-use crate::input::refusal_of_read;
+use crate::input::{read_front, read_rest_or_refuse, refusal_of_read};
 use crate::opening::{open_or_refuse, refusal_of_event, refusal_of_header};
 use crate::place::Place;
-use crate::reading::{INPUT_LIMIT, PIECE, make_first_room};
-use crate::reading_on::{Front, read_on};
+use crate::reading::PIECE;
+use crate::reading_on::Front;
 use crate::record_stream::{Head, RecordStream};
 use crate::refusal::Refusal;
 use crate::source::Source;
@@ -98,29 +98,16 @@ fn check_whole<S: Source>(
     ensures text { (s : S) → HasRead S.answered S.failed S.failures came.reads s (take came.filled came.bytes.items) source.old → IfOk result (λ text. (bytes : List ℕ) × (giving_of S.answered S.failed S.failures s source.new).Gave bytes × IsCheckText (bytes ∷ []) text.items) }
     ensures refused { (s : S) → HasRead S.answered S.failed S.failures came.reads s (take came.filled came.bytes.items) source.old → IfErr result (IsInputRefused (giving_of S.answered S.failed S.failures s source.new) Only IsOneCheckLine) }
 {
-    let Came {
-        mut bytes,
-        filled,
-        reads,
-    } = came;
-    make_first_room(&mut bytes, hint, INPUT_LIMIT);
-    let came = Came {
-        bytes,
-        filled,
-        reads,
-    };
-    match read_on(source, came, hint, None) {
-        Ok(Front::Whole(bytes)) => answer_check(alloc, bytes.as_slice()),
-        Ok(Front::Part(_)) => unreachable!(),
-        Err(fault) => Err(refusal_of_read(fault, Place::Only)),
-    }
+    let bytes = read_rest_or_refuse(source, came, hint, Place::Only)?;
+    answer_check(alloc, bytes.as_slice())
 }
 
 /// The work of the trace that an input is, as a text, or why there is none.
 ///
 /// The records of a trace of version 1 are checked as they come: the memory is that of its header, with room up to a
 /// quarter more but within the source's hint, that of 65,536 bytes, and, until the header is opened, that for its names,
-/// linear in their number. Any other input is read whole, and so is one for whose names memory is refused.
+/// linear in their number. Any other input is read whole, and so is one for whose names memory is refused; where no trace
+/// begins as it does, it is refused without reading on where [`Head::of`] shows that.
 pub(crate) fn check_input<R: Threads + Wait + Sync, S: Source>(
     rt: &R,
     alloc: Global,
@@ -130,15 +117,12 @@ pub(crate) fn check_input<R: Threads + Wait + Sync, S: Source>(
     ensures refused { IfErr result (IsInputRefused (giving_of S.answered S.failed S.failures source.old source.new) Only IsOneCheckLine) }
 {
     let hint = source.hint();
-    let front = match read_on(source, Came::nothing(alloc), hint, Some(HeaderEnd::new())) {
-        Ok(front) => front,
-        Err(fault) => return Err(refusal_of_read(fault, Place::Only)),
-    };
+    let front = read_front(alloc, source, hint, Place::Only, HeaderEnd::new())?;
     let came = match front {
         Front::Whole(bytes) => return answer_check(alloc, bytes.as_slice()),
         Front::Part(came) => came,
     };
-    match Head::of(alloc, came.as_slice()) {
+    match Head::of(alloc, came.as_slice())? {
         Some(head) => check_records(rt, alloc, source, head, came),
         None => check_whole(alloc, source, came, hint),
     }

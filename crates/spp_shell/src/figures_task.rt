@@ -16,11 +16,10 @@ ghost use Rattle.spp_shell.specs.declared.place.Place.TheVariants.{Only};
 use crate::came::Came;
 use crate::figured_records::FiguredRecords;
 use crate::header_end::HeaderEnd;
-use crate::input::refusal_of_read;
+use crate::input::{read_front, read_rest_or_refuse, refusal_of_read};
 use crate::opening::{open_or_refuse, refusal_of_event, refusal_of_header};
 use crate::place::Place;
-use crate::reading::{INPUT_LIMIT, make_first_room};
-use crate::reading_on::{Front, read_on};
+use crate::reading_on::Front;
 use crate::record_stream::{BLOCK, Head, RecordStream};
 use crate::records::Records;
 use crate::refusal::Refusal;
@@ -146,29 +145,15 @@ fn figure_whole<R: Threads + Wait + Sync, S: Source>(
     ensures text { (s : S) → HasRead S.answered S.failed S.failures came.reads s (take came.filled came.bytes.items) source.old → IfOk result (λ text. (bytes : List ℕ) × (giving_of S.answered S.failed S.failures s source.new).Gave bytes × IsFiguresText request.now.burdens (bytes ∷ []) text.items) }
     ensures refused { (s : S) → HasRead S.answered S.failed S.failures came.reads s (take came.filled came.bytes.items) source.old → IfErr result (IsInputRefused (giving_of S.answered S.failed S.failures s source.new) Only IsOneCheckLine) }
 {
-    let Came {
-        mut bytes,
-        filled,
-        reads,
-    } = came;
-    make_first_room(&mut bytes, hint, INPUT_LIMIT);
-    let came = Came {
-        bytes,
-        filled,
-        reads,
-    };
-    match read_on(source, came, hint, None) {
-        Ok(Front::Whole(bytes)) => answer_figures(rt, alloc, request, bytes.as_slice()),
-        Ok(Front::Part(_)) => unreachable!(),
-        Err(fault) => Err(refusal_of_read(fault, Place::Only)),
-    }
+    let bytes = read_rest_or_refuse(source, came, hint, Place::Only)?;
+    answer_figures(rt, alloc, request, bytes.as_slice())
 }
 
 /// The figures of the run whose trace an input gives, as a text, or why there is none.
 ///
 /// The records of a trace of version 1 are read in blocks of 65,536 as they come, and let go; by two workers or more each block
 /// is read by a thread of its own, while the next ones come. Any other input is read whole first, and cut into parts, and so is
-/// one where memory is refused for its header.
+/// one where memory is refused for its header; where no trace begins as it does, it is refused without reading on where [`Head::of`] shows that.
 pub(crate) fn figures_input<R: Threads + Wait + Sync, S: Source>(
     rt: &R,
     alloc: Global,
@@ -179,15 +164,12 @@ pub(crate) fn figures_input<R: Threads + Wait + Sync, S: Source>(
     ensures refused { IfErr result (IsInputRefused (giving_of S.answered S.failed S.failures source.old source.new) Only IsOneCheckLine) }
 {
     let hint = source.hint();
-    let front = match read_on(source, Came::nothing(alloc), hint, Some(HeaderEnd::new())) {
-        Ok(front) => front,
-        Err(fault) => return Err(refusal_of_read(fault, Place::Only)),
-    };
+    let front = read_front(alloc, source, hint, Place::Only, HeaderEnd::new())?;
     let came = match front {
         Front::Whole(bytes) => return answer_figures(rt, alloc, request, bytes.as_slice()),
         Front::Part(came) => came,
     };
-    let Some(head) = Head::of(alloc, came.as_slice()) else {
+    let Some(head) = Head::of(alloc, came.as_slice())? else {
         return figure_whole(rt, alloc, request, source, came, hint);
     };
     let Ok(records) = records_behind(alloc, request, head) else {

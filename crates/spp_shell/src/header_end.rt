@@ -1,22 +1,36 @@
-//! Where the header of a trace of version 1 ends, before it is opened.
+//! Where the header of a trace ends, before it is opened.
+
+use spp_event::is_name;
 
 /// The bytes before the names.
 const NUMBERS: usize = 24;
 
-/// The most names that a header may have.
-const MOST_NAMES: u64 = 1 << 17;
+/// The most functions that a header may name, and the most sites.
+const MOST_NAMES: u32 = 1 << 16;
+
+/// The most events that a header may claim.
+const MOST_EVENTS: u32 = 1 << 28;
+
+/// A header that names at most so many functions and sites is opened twice where its trace is read whole: once for its
+/// faults, before more is read, and then with the trace. For so few names that takes no time that counts.
+const FEW_NAMES: u64 = 1 << 11;
+
+/// A name that begins within so many bytes is judged when it is there, a later one when the header ends.
+const JUDGED: usize = 1 << 16;
 
 /// The most bytes that a name may have.
 const LONGEST_NAME: usize = 200;
 
-/// Looks for the end of a header of version 1 in bytes that grow, and for what no such header has. It is advice, for not
-/// opening a header before it is there: what the bytes are is for [`open_trace`](spp_event::open_trace) to say.
+/// Looks for the end of a header in bytes that grow, and for what no trace begins with. It is advice, for opening a header
+/// neither before it is there nor long after: what the bytes are is for [`open_trace`](spp_event::open_trace) to say.
 #[derive(Drop)]
 pub(crate) struct HeaderEnd {
     /// Where the next name begins; none where the numbers before the names weren't there yet.
     at: Option<usize>,
     /// How many names are left.
     names: u64,
+    /// How many names are looked at, at most.
+    most: u64,
 }
 
 /// What stands at the place of a name.
@@ -24,7 +38,7 @@ pub(crate) struct HeaderEnd {
 enum Next {
     /// The bytes end before the name does.
     Missing,
-    /// Bytes that are no name, by their length.
+    /// Bytes that are no name.
     Bad,
     /// A name that ends before this place.
     Name(usize),
@@ -34,6 +48,34 @@ enum Next {
 fn word(bytes: &[u8], at: usize) -> Option<u32> {
     let field = bytes.get(at..)?.first_chunk()?;
     Some(u32::from_be_bytes(*field))
+}
+
+/// How many names there are to be, by the numbers before them: 0 where no trace begins with these, `None` where they aren't
+/// there.
+fn names_behind(bytes: &[u8]) -> Option<u64> {
+    let funcs = word(bytes, 8)?;
+    let sites = word(bytes, 12)?;
+    let root = word(bytes, 16)?;
+    let events = word(bytes, 20)?;
+    let magic = bytes.first_chunk();
+    let is_trace = magic == Some(b"SPTRACE1") || magic == Some(b"SPTRACE2");
+    let are_few = funcs <= MOST_NAMES && sites <= MOST_NAMES && events <= MOST_EVENTS;
+    if is_trace && are_few && root < funcs {
+        Some(u64::from(funcs) + u64::from(sites))
+    } else {
+        Some(0)
+    }
+}
+
+/// Whether a front is worth opening for its faults alone: it names few functions and sites, or no trace begins with its
+/// numbers.
+pub(crate) fn is_opened_early(bytes: &[u8]) -> bool {
+    names_behind(bytes).is_some_and(|names| names <= FEW_NAMES)
+}
+
+/// How many sites a header names; none where that isn't there.
+pub(crate) fn sites_named(bytes: &[u8]) -> Option<u32> {
+    word(bytes, 12)
 }
 
 /// What stands at a place.
@@ -49,7 +91,8 @@ fn next_in(bytes: &[u8], at: usize) -> Next {
         return Next::Bad;
     }
     match rest.get(..2 + len) {
-        Some(name) => Next::Name(at + name.len()),
+        Some(spelled) if at > JUDGED || is_name(&spelled[2..]) => Next::Name(at + spelled.len()),
+        Some(_) => Next::Bad,
         None => Next::Missing,
     }
 }
@@ -57,23 +100,37 @@ fn next_in(bytes: &[u8], at: usize) -> Next {
 impl HeaderEnd {
     /// Before the first byte.
     pub(crate) fn new() -> HeaderEnd {
-        HeaderEnd { at: None, names: 0 }
+        HeaderEnd {
+            at: None,
+            names: 0,
+            most: u64::MAX,
+        }
     }
 
-    /// Where the next name begins; none where the numbers before the names aren't there. Where these are those of no
-    /// header, no name is left.
+    /// The same, for a header that is opened early only where it names few: the end of few names is enough.
+    pub(crate) fn of_few() -> HeaderEnd {
+        HeaderEnd {
+            at: None,
+            names: 0,
+            most: FEW_NAMES,
+        }
+    }
+
+    /// Where the next name begins; none where the numbers before the names aren't there. Where no trace begins with these,
+    /// no name is left. Of version 2, which is read whole, few names are looked at.
     fn begun(&mut self, bytes: &[u8]) -> Option<usize> {
         if self.at.is_none() {
-            let names = u64::from(word(bytes, 8)?) + u64::from(word(bytes, 12)?);
-            let is_head = bytes.first_chunk() == Some(b"SPTRACE1") && names <= MOST_NAMES;
-            self.names = if is_head { names } else { 0 };
+            let is_compact = bytes.first_chunk() == Some(b"SPTRACE2");
+            let most = if is_compact { FEW_NAMES } else { self.most };
+            self.names = names_behind(bytes)?.min(most);
             self.at = Some(NUMBERS);
         }
         self.at
     }
 
-    /// Whether the header ends within these bytes, or they begin none; they are those of the calls before and more. All calls
-    /// together take a time linear in the number of names, and of calls.
+    /// Whether the header ends within these bytes, or begins with 24 bytes or names that are bad; they are those of the calls
+    /// before and more. Where it ends, two sites may still have one name, and late names be bad. All calls together take a time linear in the bytes of the
+    /// header, and in the number of calls.
     pub(crate) fn is_in(&mut self, bytes: &[u8]) -> bool {
         let Some(mut at) = self.begun(bytes) else {
             return false;

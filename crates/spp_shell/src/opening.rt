@@ -1,5 +1,6 @@
-//! Opening the bytes of a trace, and how bytes are refused that are none, or of a trace with a bad event.
-ghost use Rattle.std.specs.Prelude.{◌≡◌, ◌≢◌, List, ℕ, IfOk, IfErr};
+//! Opening the bytes of a trace, or those that one begins with, and how bytes are refused that are none, or of a trace with
+//! a bad event.
+ghost use Rattle.std.specs.Prelude.{◌≡◌, ◌≢◌, ◌++◌, List, ℕ, IfOk, IfSome, IfErr};
 ghost use Rattle.std.specs.String.{string_bytes};
 ghost use Rattle.spp_event.specs.Header.{IsTraceOf};
 ghost use Rattle.spp_shell.specs.Tasks.{IfLine};
@@ -49,5 +50,24 @@ pub(crate) fn open_or_refuse<'a>(alloc: Global, bytes: &'a [u8]) -> Result<Trace
     match open_trace(alloc, bytes) {
         Ok(trace) => Ok(trace),
         Err(fault) => Err(refusal_of_header(alloc, fault)),
+    }
+}
+
+/// The trace that these bytes are if none follow; none where it may take what follows to tell what is wrong with them: where
+/// they end within the header, or where there are too many, and where an allocation failed.
+///
+/// # Errors
+///
+/// Where no trace begins with these bytes: the line for them is the same whatever follows.
+pub(crate) fn open_front<'a>(alloc: Global, bytes: &'a [u8]) -> Result<Option<Trace<'a>>, Refusal>
+    ensures found { IfOk result (λ o. IfSome o (λ t. IsTraceOf bytes.now t)) }
+    ensures refused { IfErr result (λ refusal. IfLine refusal (λ line. (more : List ℕ) → TellsHeader (bytes.now ++ more) line)) }
+{
+    match open_trace(alloc, bytes) {
+        Ok(trace) => Ok(Some(trace)),
+        Err(fault) => match fault {
+            HeaderFault::Short | HeaderFault::Trailing | HeaderFault::Memory => Ok(None),
+            _ => Err(refusal_of_header(alloc, fault)),
+        },
     }
 }

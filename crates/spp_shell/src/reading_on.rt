@@ -54,8 +54,9 @@ pub(crate) fn read_more<S: Source>(
     Ok(Some(more))
 }
 
-/// Reads on behind what came, until a header ends within the bytes, where one is looked for, or the input ends. The hint is
-/// what the source told of its length. The bounds of [`INPUT_LIMIT`] hold for all reads together.
+/// Reads on behind what came until the input ends, or, where a header is looked for, until it ends within the bytes or no
+/// trace begins with them. The hint is what the source told of its length. The bounds of [`INPUT_LIMIT`] hold for all reads
+/// together.
 ///
 /// # Errors
 ///
@@ -76,6 +77,15 @@ pub(crate) fn read_on<S: Source>(
         reads,
     } = came;
     for turn in reads..INPUT_LIMIT {
+        if let Some(header) = &mut header
+            && header.is_in(&bytes[..filled])
+        {
+            return Ok(Front::Part(Came {
+                bytes,
+                filled,
+                reads: turn,
+            }));
+        }
         let Ok(()) = make_room(&mut bytes, filled, hint) else {
             return Err(ReadFault::Memory);
         };
@@ -86,15 +96,6 @@ pub(crate) fn read_on<S: Source>(
                 return Ok(Front::Whole(bytes));
             }
             Ok(Some(more)) => filled = more,
-        }
-        if let Some(header) = &mut header
-            && header.is_in(&bytes[..filled])
-        {
-            return Ok(Front::Part(Came {
-                bytes,
-                filled,
-                reads: turn + 1,
-            }));
         }
     }
     Err(ReadFault::TooLong)

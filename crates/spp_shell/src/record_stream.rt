@@ -1,13 +1,17 @@
 //! A trace of version 1 whose records are gone over as they come.
 ghost use Rattle.std.specs.Prelude.{◌≡◌, ◌+◌, ◌-◌, ◌*◌, ◌^◌, ◌<◌, ◌≤◌, ◌++◌, ℕ, List, [], length, take, drop, slice_range, IfOk, OnOk, IfSome, IfErr};
 ghost use Rattle.spp_event.specs.Heads.{IsRecordHead};
+ghost use Rattle.spp_shell.specs.Check.{TellsHeader};
+ghost use Rattle.spp_shell.specs.Tasks.{IfLine};
 
 use crate::came::Came;
+use crate::header_end::is_opened_early;
+use crate::opening::open_front;
 use crate::reading::{INPUT_LIMIT, PIECE, ReadFault, make_room};
 use crate::reading_on::read_more;
 use crate::records::Records;
+use crate::refusal::Refusal;
 use crate::source::Source;
-use spp_event::open_trace;
 use std::alloc::{AllocError, Global};
 use std::sync::Wait;
 use std::thread::Threads;
@@ -29,27 +33,32 @@ pub(crate) struct Head {
 }
 
 impl Head {
-    /// The header that these bytes begin with; none where they are not the front of a trace of version 1, or an
-    /// allocation failed. The time and the memory are those of [`open_trace`].
-    pub(crate) fn of(alloc: Global, bytes: &[u8]) -> Option<Head>
-        ensures head { IfSome result (λ h. IsRecordHead (take h.len bytes.now) h.sites h.funcs h.count) }
-        ensures within { IfSome result (λ h. h.len ≤ length bytes.now) }
+    /// The header that these bytes begin with; none where they are not the front of a trace of version 1, of one of version 2
+    /// with many names, which isn't opened, or an allocation failed. The time and the memory are those of [`open_trace`](spp_event::open_trace).
+    ///
+    /// # Errors
+    ///
+    /// Where no trace begins with these bytes, but for what [`open_front`] says.
+    pub(crate) fn of(alloc: Global, bytes: &[u8]) -> Result<Option<Head>, Refusal>
+        ensures head { IfOk result (λ o. IfSome o (λ h. IsRecordHead (take h.len bytes.now) h.sites h.funcs h.count)) }
+        ensures within { IfOk result (λ o. IfSome o (λ h. h.len ≤ length bytes.now)) }
+        ensures refused { IfErr result (λ refusal. IfLine refusal (λ line. (more : List ℕ) → TellsHeader (bytes.now ++ more) line)) }
     {
-        if bytes.first_chunk() != Some(b"SPTRACE1") {
-            return None;
+        if bytes.first_chunk() == Some(b"SPTRACE2") && !is_opened_early(bytes) {
+            return Ok(None);
         }
-        let Ok(trace) = open_trace(alloc, bytes) else {
-            return None;
+        let Some(trace) = open_front(alloc, bytes)? else {
+            return Ok(None);
         };
         if trace.version() != 1 {
-            return None;
+            return Ok(None);
         }
-        Some(Head {
+        Ok(Some(Head {
             sites: trace.sites(),
             funcs: trace.funcs(),
             count: trace.count(),
             len: bytes.len() - trace.body_len() as usize,
-        })
+        }))
     }
 }
 

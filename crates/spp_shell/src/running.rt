@@ -11,7 +11,7 @@ use crate::check_task::check_input;
 use crate::compare_task::answer_compare;
 use crate::encode_task::answer_encode;
 use crate::figures_task::figures_input;
-use crate::input::read_or_refuse;
+use crate::input::{read_or_refuse, read_trace_or_refuse};
 use crate::migrate_task::answer_migrate;
 use crate::place::Place;
 use crate::profile_task::answer_profile;
@@ -48,7 +48,7 @@ fn answer<R: Threads + Wait + Sync + RandomSource, S: Source, T: Source>(
             answer_encode(alloc, bytes.as_slice())
         }
         Command::Migrate => {
-            let bytes = read_or_refuse(alloc, first, Place::Only)?;
+            let bytes = read_trace_or_refuse(alloc, first, Place::Only)?;
             answer_migrate(alloc, bytes.as_slice())
         }
     }
@@ -74,7 +74,8 @@ fn end<O: Sink, E: Sink>(answer: Result<Vec<u8>, Refusal>, out: &mut O, err: &mu
 /// fault to `err`. Gives the exit status:
 ///
 /// - 0: `out` took exactly the text that the definitions give for the bytes read, and never failed.
-/// - 1: the definitions refuse these bytes, and `err` was told their line of fault.
+/// - 1: the definitions refuse these bytes, and `err` was told their line of fault. Where they refuse the bytes that came
+///   whatever follows them, this may be before the end of the input: no more is read then.
 /// - 3: `out` failed after a first part of that text, and took no more; or an input failed, or was too long, and `out` is
 ///   untouched.
 /// - 4: an allocation failed, and `out` is untouched.
@@ -102,7 +103,7 @@ pub fn run<R: Threads + Wait + Sync + RandomSource, S: Source, T: Source, O: Sin
 /// One run of `advise`, over the input of a request, whose command isn't looked at: as [`run`], with the text of `advise` for
 /// these options.
 ///
-/// It reads a trace whole, and two or three times for each call site that it tells of, by its workers; it takes a byte for
+/// It reads a trace whole, and up to three times for each call site that it tells of, by its workers; it takes a byte for
 /// each event besides, and for each worker what the open frames of a run take.
 pub fn advise<R: Threads + Wait + Sync, S: Source, O: Sink, E: Sink>(
     rt: &R,

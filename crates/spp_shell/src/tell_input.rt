@@ -1,9 +1,9 @@
 //! The profile of the run whose trace an input gives.
-ghost use Rattle.std.specs.Prelude.{◌≡◌, ◌<◌, ◌≤◌, ◌^◌, ℕ, List, length, take, IfOk, IfSome, IfErr};
+ghost use Rattle.std.specs.Prelude.{◌≡◌, ◌<◌, ◌≤◌, ◌^◌, ◌++◌, ℕ, List, length, take, IfOk, IfSome, IfErr};
 ghost use Rattle.spp_event.specs.Heads.{IsRecordHead};
 ghost use Rattle.spp_event.specs.Header.{IsTraceOf};
 ghost use Rattle.spp_event.specs.Recordings.{Recording};
-ghost use Rattle.spp_shell.specs.Check.{IsOneCheckLine};
+ghost use Rattle.spp_shell.specs.Check.{IsOneCheckLine, TellsHeader};
 ghost use Rattle.spp_shell.specs.Devices.{giving_of};
 ghost use Rattle.spp_shell.specs.Inputs.{IsInputRefused};
 ghost use Rattle.spp_shell.specs.Profiled.{IsBeginning, IsProfiled, IsProfiledBy, IsRunOf, IsTold, profiled_by};
@@ -13,14 +13,13 @@ ghost use Rattle.spp_shell.specs.Tasks.{IfLine};
 ghost use Rattle.spp_shell.specs.declared.profiled_records.ProfiledRecords.{ProfiledRecords as ProfiledRecordsValue};
 
 use crate::came::Came;
-use crate::header_end::HeaderEnd;
-use crate::input::refusal_of_read;
+use crate::header_end::{HeaderEnd, is_opened_early, sites_named};
+use crate::input::{read_front, read_rest_or_refuse, refusal_of_read};
 use crate::opening::{open_or_refuse, refusal_of_event, refusal_of_header};
 use crate::place::Place;
 use crate::profile_task::profile_or_refuse;
 use crate::profiled_records::ProfiledRecords;
-use crate::reading::{INPUT_LIMIT, make_first_room};
-use crate::reading_on::{Front, read_on};
+use crate::reading_on::Front;
 use crate::record_stream::{BLOCK, Head, RecordStream};
 use crate::records::Records;
 use crate::refusal::Refusal;
@@ -70,22 +69,8 @@ fn tell_whole<R: Threads + Wait + Sync, S: Source, T: Telling>(
     ensures told { (s : S) → HasRead S.answered S.failed S.failures came.reads s (take came.filled came.bytes.items) source.old → IfOk result (λ told. (bytes : List ℕ) × (giving_of S.answered S.failed S.failures s source.new).Gave bytes × IsTold (T.tells telling.now) request.now.burdens bytes told) }
     ensures refused { (s : S) → HasRead S.answered S.failed S.failures came.reads s (take came.filled came.bytes.items) source.old → IfErr result (IsInputRefused (giving_of S.answered S.failed S.failures s source.new) place IsOneCheckLine) }
 {
-    let Came {
-        mut bytes,
-        filled,
-        reads,
-    } = came;
-    make_first_room(&mut bytes, hint, INPUT_LIMIT);
-    let came = Came {
-        bytes,
-        filled,
-        reads,
-    };
-    match read_on(source, came, hint, None) {
-        Ok(Front::Whole(bytes)) => tell_bytes(rt, alloc, request, bytes.as_slice(), telling),
-        Ok(Front::Part(_)) => unreachable!(),
-        Err(fault) => Err(refusal_of_read(fault, place)),
-    }
+    let bytes = read_rest_or_refuse(source, came, hint, place)?;
+    tell_bytes(rt, alloc, request, bytes.as_slice(), telling)
 }
 
 /// The profile of a run whose records came as a stream, or why there is none.
@@ -175,28 +160,31 @@ fn records_of(
     })
 }
 
-/// Whether the numbers of a header say that it names few call sites. It is advice, for not opening a header in vain.
-fn are_few_sites(bytes: &[u8]) -> bool {
-    match bytes.get(12..).and_then(|rest| rest.first_chunk()) {
-        Some(field) => u32::from_be_bytes(*field) <= FEW_SITES,
-        None => false,
-    }
-}
-
 /// The header of a trace of version 1 that these bytes begin with, and its bytes, where it names few call sites; none where
 /// they don't, or an allocation failed.
-fn header_of(alloc: Global, bytes: &[u8]) -> Option<(Head, Vec<u8>)>
-    ensures head { IfSome result (λ h. IsRecordHead (take h.0.len bytes.now) h.0.sites h.0.funcs h.0.count) }
-    ensures within { IfSome result (λ h. h.0.len ≤ length bytes.now) }
-    ensures bytes { IfSome result (λ h. h.1.items ≡ take h.0.len bytes.now) }
+///
+/// # Errors
+///
+/// Where no trace begins with these bytes, but for what [`open_front`](crate::opening::open_front) says.
+fn header_of(alloc: Global, bytes: &[u8]) -> Result<Option<(Head, Vec<u8>)>, Refusal>
+    ensures head { IfOk result (λ o. IfSome o (λ h. IsRecordHead (take h.0.len bytes.now) h.0.sites h.0.funcs h.0.count)) }
+    ensures within { IfOk result (λ o. IfSome o (λ h. h.0.len ≤ length bytes.now)) }
+    ensures bytes { IfOk result (λ o. IfSome o (λ h. h.1.items ≡ take h.0.len bytes.now)) }
+    ensures refused { IfErr result (λ refusal. IfLine refusal (λ line. (more : List ℕ) → TellsHeader (bytes.now ++ more) line)) }
 {
-    if !are_few_sites(bytes) {
-        return None;
+    let are_few = sites_named(bytes).is_some_and(|sites| sites <= FEW_SITES);
+    if !are_few && !is_opened_early(bytes) {
+        return Ok(None);
     }
-    let head = Head::of(alloc, bytes)?;
+    let Some(head) = Head::of(alloc, bytes)? else {
+        return Ok(None);
+    };
+    if head.sites > FEW_SITES {
+        return Ok(None);
+    }
     match bytes[..head.len].to_vec(alloc) {
-        Ok(header) => Some((head, header)),
-        Err(_) => None,
+        Ok(header) => Ok(Some((head, header))),
+        Err(_) => Ok(None),
     }
 }
 
@@ -204,7 +192,8 @@ fn header_of(alloc: Global, bytes: &[u8]) -> Option<(Head, Vec<u8>)>
 ///
 /// The records of a trace of version 1 that names few call sites are profiled as they come, in blocks of 65,536 records, and let
 /// go; by two workers or more each block is read by a thread of its own, while the next ones come. Any other input is read
-/// whole first, and so is one where memory is refused for its header or for the beginning of its profile.
+/// whole first, and so is one where memory is refused for its header or for the beginning of its profile; where no trace
+/// begins as it does, it is refused without reading on where [`open_front`](crate::opening::open_front) shows that.
 pub(crate) fn tell_input<R: Threads + Wait + Sync, S: Source, T: Telling>(
     rt: &R,
     alloc: Global,
@@ -217,15 +206,12 @@ pub(crate) fn tell_input<R: Threads + Wait + Sync, S: Source, T: Telling>(
     ensures refused { IfErr result (IsInputRefused (giving_of S.answered S.failed S.failures source.old source.new) place IsOneCheckLine) }
 {
     let hint = source.hint();
-    let front = match read_on(source, Came::nothing(alloc), hint, Some(HeaderEnd::new())) {
-        Ok(front) => front,
-        Err(fault) => return Err(refusal_of_read(fault, place)),
-    };
+    let front = read_front(alloc, source, hint, place, HeaderEnd::new())?;
     let came = match front {
         Front::Whole(bytes) => return tell_bytes(rt, alloc, request, bytes.as_slice(), telling),
         Front::Part(came) => came,
     };
-    let Some((head, header)) = header_of(alloc, came.as_slice()) else {
+    let Some((head, header)) = header_of(alloc, came.as_slice())? else {
         return tell_whole(rt, alloc, request, source, place, came, hint, telling);
     };
     let Ok(trace) = open_trace(alloc, header.as_slice()) else {

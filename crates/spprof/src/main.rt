@@ -138,15 +138,7 @@ where
             };
         }
     };
-    let status = run(
-        rt,
-        rt.alloc(),
-        request,
-        &mut first,
-        &mut second,
-        out,
-        err,
-    );
+    let status = run(rt, rt.alloc(), request, &mut first, &mut second, out, err);
     Ended {
         status,
         first: first.into_inner().into_seen(),
@@ -170,15 +162,7 @@ where
         Some(options) => advise(rt, alloc, request, options, &mut input, out, err),
         None => {
             let mut no_second = InSource::new(io::empty());
-            run(
-                rt,
-                alloc,
-                request,
-                &mut input,
-                &mut no_second,
-                out,
-                err,
-            )
+            run(rt, alloc, request, &mut input, &mut no_second, out, err)
         }
     };
     Ended {

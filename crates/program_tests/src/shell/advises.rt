@@ -1,11 +1,12 @@
 //! Runs of `advise`.
 
-use super::commands::request_for;
-use super::fakes::{dripping, empty_cup};
+use super::commands::{NO_FRONTS, request_for};
+use super::fakes::{dripping, empty_cup, failing};
 use spp_request::{AdviseOptions, Command};
 use spp_shell::advise;
 use std::random::RandomSource;
 use std::sync::Wait;
+use std::test::Fail;
 use std::thread::Threads;
 
 /// A trace of the functions `main` and `f`, and of the site `A`: a strand of 1, a child that is spawned with a strand of 10, a
@@ -84,6 +85,24 @@ fn advice_ends_with<R: Threads + Wait + Sync + RandomSource + AllocGlobal>(
         rt, alloc, &request, &options, &mut input, &mut out, &mut err,
     );
     got == ends && out.taken.as_slice() == text && err.taken.as_slice() == line
+}
+
+#[test]
+fn what_no_trace_begins_with_is_refused_as_soon_as_it_came(rt: HostRuntime) -> Result<(), Fail> {
+    let alloc = rt.alloc();
+    let request = request_for(alloc, Command::Profile);
+    for (front, fault) in NO_FRONTS {
+        let (mut out, mut err) = (empty_cup(alloc, 100), empty_cup(alloc, 100));
+        let mut input = failing(front, front.len() as u64);
+        let options = AdviseOptions::default();
+        let ends = advise(
+            &rt, alloc, &request, &options, &mut input, &mut out, &mut err,
+        );
+        let line = format!(in alloc; "bad header: {fault}\n")?;
+        assert_eq!(rt; ends, 1, "{line}");
+        assert_eq!(rt; err.taken.as_slice(), line.as_bytes());
+    }
+    Ok(())
 }
 
 #[test]

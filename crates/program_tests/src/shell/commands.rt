@@ -10,6 +10,37 @@ use std::random::RandomSource;
 use std::sync::Wait;
 use std::thread::Threads;
 
+/// Bytes that no trace begins with, no more of them than show it, and what is wrong with them.
+pub const NO_FRONTS: &[(&[u8], &str)] = &[
+    (b"\0\0\0\0\0\0\0\0\0\0\0\0\0\0\0\0\0\0\0\0\0\0\0\0", "magic"),
+    (b"SPTRACE3\0\0\0\x01\0\0\0\0\0\0\0\0\0\0\0\0", "magic"),
+    (b"SPTRACE1\0\0\0\0\0\0\0\0\0\0\0\0\0\0\0\0", "limits"),
+    (b"SPTRACE1\0\x01\0\x01\0\0\0\0\0\0\0\0\0\0\0\0", "limits"),
+    (b"SPTRACE1\0\0\0\x01\0\x01\0\x01\0\0\0\0\0\0\0\0", "limits"),
+    (b"SPTRACE2\0\0\0\x01\0\0\0\0\0\0\0\0\x10\0\0\x01", "limits"),
+    (
+        b"SPTRACE1\0\0\0\x02\0\0\0\0\0\0\0\x02\0\0\0\0",
+        "root function",
+    ),
+    (b"SPTRACE1\0\0\0\x01\0\0\0\0\0\0\0\0\0\0\0\0\0\0", "name 0"),
+    (
+        b"SPTRACE2\0\0\0\x02\0\0\0\0\0\0\0\0\0\0\0\0\0\x01f\0\xc9",
+        "name 1",
+    ),
+    (
+        b"SPTRACE1\0\0\0\x01\0\0\0\x01\0\0\0\0\0\0\0\0\0\x01f\0\x02A\x7f",
+        "name 1",
+    ),
+    (
+        b"SPTRACE1\0\0\0\x01\0\0\0\x02\0\0\0\0\0\0\0\0\0\x01A\0\x01A\0\x01A",
+        "same name 2",
+    ),
+    (
+        b"SPTRACE2\0\0\0\x01\0\0\0\x01\0\0\0\0\0\0\0\0\0\x01f\0\x06(root)",
+        "same name 1",
+    ),
+];
+
 /// A request for this over inputs without a name, with burdens of 3, 16 parts and 4 workers.
 pub fn request_for(alloc: Global, command: Command) -> Request {
     Request {

@@ -1,6 +1,6 @@
 //! Runs of `compare`.
 
-use super::commands::request_for;
+use super::commands::{NO_FRONTS, request_for};
 use super::fakes::{Drip, dripping, empty_cup, failing, unread};
 use spp_cut::Parts;
 use spp_event::{Event, record_of};
@@ -216,6 +216,28 @@ fn a_fault_of_the_second_input_is_told_as_its_own(rt: HostRuntime) -> Result<(),
     let first = dripping(good.as_slice());
     let line = "after: cannot read input\n";
     assert!(rt; ends_with(&rt, &request, first, unread(), 3, "", line));
+    Ok(())
+}
+
+#[test]
+fn what_no_trace_begins_with_is_told_of_either_input(rt: HostRuntime) -> Result<(), Fail> {
+    let request = request_by(rt.alloc(), 16, 4);
+    let good = trace(rt.alloc(), &[b"A".as_slice()], SYNCED)?;
+    for (front, fault) in NO_FRONTS {
+        let reads = front.len() as u64;
+        let line = format!(in rt.alloc(); "before: bad header: {fault}\n")?;
+        let first = failing(front, reads);
+        assert!(rt;
+            ends_with(&rt, &request, first, unread(), 1, "", line.as_str()),
+            "{line}"
+        );
+        let line = format!(in rt.alloc(); "after: bad header: {fault}\n")?;
+        let (first, second) = (dripping(good.as_slice()), failing(front, reads));
+        assert!(rt;
+            ends_with(&rt, &request, first, second, 1, "", line.as_str()),
+            "{line}"
+        );
+    }
     Ok(())
 }
 

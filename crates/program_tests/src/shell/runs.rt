@@ -1,10 +1,10 @@
 //! Whole runs: what goes out, what is told, and the status.
 
-use super::commands::{command_ends_with, request_for};
+use super::commands::{NO_FRONTS, command_ends_with, request_for};
 use super::fakes::{Cup, dripping, empty_cup, failing, unread};
 use spp_report::{OutSink, Sink};
 use spp_request::{Command, Request, UsageFault};
-use spp_shell::{Place, refuse_input, refuse_long_input, run, show_usage};
+use spp_shell::{InSource, Place, Source, refuse_input, refuse_long_input, run, show_usage};
 use std::alloc::{AllocError, Global};
 use std::io;
 use std::io::{ErrorKind, Write};
@@ -209,6 +209,65 @@ fn an_input_that_fails_ends_with_status_3(rt: HostRuntime) -> Result<(), Fail> {
         assert_eq!(rt; err.taken.as_slice(), b"cannot read input\n".as_slice());
     }
     Ok(())
+}
+
+/// The commands that read one trace.
+const OF_A_TRACE: &[Command] = &[
+    Command::Check,
+    Command::Figures,
+    Command::Profile,
+    Command::Migrate,
+];
+
+/// The status and the line that a command ends with over an input.
+fn ending<R: Threads + Wait + Sync + RandomSource + AllocGlobal, S: Source>(
+    rt: &R,
+    command: Command,
+    first: &mut S,
+) -> (u8, Vec<u8>) {
+    let alloc = rt.alloc();
+    let (mut out, mut err) = (empty_cup(alloc, 100), empty_cup(alloc, 100));
+    let request = request_for(alloc, command);
+    let ends = run(
+        rt,
+        alloc,
+        &request,
+        first,
+        &mut unread(),
+        &mut out,
+        &mut err,
+    );
+    (ends, err.taken)
+}
+
+/// Each input fails behind its bytes: where no trace begins with them, it isn't read so far; where one byte less came it is.
+#[test]
+fn what_no_trace_begins_with_is_refused_as_soon_as_it_came(rt: HostRuntime) -> Result<(), Fail> {
+    for (front, fault) in NO_FRONTS {
+        let line = format!(in rt.alloc(); "bad header: {fault}\n")?;
+        let reads = front.len() as u64;
+        for command in OF_A_TRACE {
+            let mut first = failing(front, reads);
+            let (ends, told) = ending(&rt, *command, &mut first);
+            assert_eq!(rt; (ends, first.reads), (1, reads), "{line}");
+            assert_eq!(rt; told.as_slice(), line.as_bytes());
+            let mut shorter = failing(front, reads.saturating_sub(1));
+            let (ends, told) = ending(&rt, *command, &mut shorter);
+            assert_eq!(rt; ends, 3, "{line}");
+            assert_eq!(rt; told.as_slice(), b"cannot read input\n".as_slice());
+        }
+    }
+    Ok(())
+}
+
+#[test]
+fn an_input_without_an_end_is_refused(rt: HostRuntime) {
+    for command in OF_A_TRACE {
+        let mut first = InSource::new(io::repeat(0));
+        let (ends, told) = ending(&rt, *command, &mut first);
+        assert_eq!(rt; ends, 1);
+        assert_eq!(rt; told.as_slice(), b"bad header: magic\n".as_slice());
+    }
 }
 
 #[test]

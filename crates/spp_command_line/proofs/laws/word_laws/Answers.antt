@@ -496,10 +496,10 @@ one_advise x rest plain =
     let path : paths_of (Some (x ∷ rest)) None None ≡ (x ∷ rest) ∷ [] = simp plain in (
       (
         rw plain (rw plain refl),
-      (λ a h.
-          let q : IsAskedBy (Some (codes "advise", rows)) a = subst (λ o. IsAskedBy o a) found h in
-          (is_advise a.request.command q.0, q.1 ∙ path, as_given a.request.burdens (q.2.0.0 burden_unsaid, q.2.1), q.3.0 parts_unsaid, q.4.0 workers_unsaid, q.5.1 refl, q.6.1 refl)),
-      subst (λ o. Gives o Profile ((x ∷ rest) ∷ []) (equal 15000) 16 4 false false) (sym found) (inr refl, sym path, (spells (codes "15000") burden_unsaid, refl), spells (codes "16") parts_unsaid, spells (codes "4") workers_unsaid, flag_off, flag_off),
+        (λ a h.
+            let q : IsAskedBy (Some (codes "advise", rows)) a = subst (λ o. IsAskedBy o a) found h in
+            (is_advise a.request.command q.0, q.1 ∙ path, as_given a.request.burdens (q.2.0.0 burden_unsaid, q.2.1), q.3.0 parts_unsaid, q.4.0 workers_unsaid, q.5.1 refl, q.6.1 refl)),
+        subst (λ o. Gives o Profile ((x ∷ rest) ∷ []) (equal 15000) 16 4 false false) (sym found) (inr refl, sym path, (spells (codes "15000") burden_unsaid, refl), spells (codes "16") parts_unsaid, spells (codes "4") workers_unsaid, flag_off, flag_off),
       ),
       (λ o h. as_advised (Some (codes "advise", rows)) o 10 2 None (λ other. other refl) (λ p are. (are.1.0 top_unsaid, are.2.0 faster_unsaid, are.3)) (subst (λ f. IsAdvised f o) found h)),
       subst (λ f. GivesAdvice f 10 2 None) (sym found) (refl, spells (codes "10") top_unsaid, spells (codes "2") faster_unsaid, refl),
@@ -508,16 +508,22 @@ one_advise x rest plain =
 pub returns-clause-advise : goal.returns-clause-advise
 unfolding clap_on_literals
 returns-clause-advise c = (
-  ((refl, (λ a h. (is_advise a.request.command h.0, h.1, as_given a.request.burdens (h.2.0.0 burden_unsaid, h.2.1), h.3.0 parts_unsaid, h.4.0 workers_unsaid, h.5.1 refl, h.6.1 refl)), (inr refl, refl, (spells (codes "15000") burden_unsaid, refl), spells (codes "16") parts_unsaid, spells (codes "4") workers_unsaid, flag_off, flag_off)),
+  (
+    (refl, (λ a h. (is_advise a.request.command h.0, h.1, as_given a.request.burdens (h.2.0.0 burden_unsaid, h.2.1), h.3.0 parts_unsaid, h.4.0 workers_unsaid, h.5.1 refl, h.6.1 refl)), (inr refl, refl, (spells (codes "15000") burden_unsaid, refl), spells (codes "16") parts_unsaid, spells (codes "4") workers_unsaid, flag_off, flag_off)),
     (λ o h. as_advised (subcommand_of spprof (spoken (codes "spprof" ∷ codes "advise" ∷ []))) o 10 2 None (λ other. other refl) (λ p are. (are.1.0 top_unsaid, are.2.0 faster_unsaid, are.3)) h),
-    (refl, spells (codes "10") top_unsaid, spells (codes "2") faster_unsaid, refl)),
-  ((refl, (λ a h. (is_advise a.request.command h.0, h.1, as_given a.request.burdens (h.2.0.0 burden_unsaid, h.2.1), h.3.0 parts_unsaid, h.4.0 workers_unsaid, h.5.1 refl, h.6.1 refl)), (inr refl, refl, (spells (codes "15000") burden_unsaid, refl), spells (codes "16") parts_unsaid, spells (codes "4") workers_unsaid, flag_off, flag_off)),
+    (refl, spells (codes "10") top_unsaid, spells (codes "2") faster_unsaid, refl),
+  ),
+  (
+    (refl, (λ a h. (is_advise a.request.command h.0, h.1, as_given a.request.burdens (h.2.0.0 burden_unsaid, h.2.1), h.3.0 parts_unsaid, h.4.0 workers_unsaid, h.5.1 refl, h.6.1 refl)), (inr refl, refl, (spells (codes "15000") burden_unsaid, refl), spells (codes "16") parts_unsaid, spells (codes "4") workers_unsaid, flag_off, flag_off)),
     (λ o h. as_advised (subcommand_of spprof (spoken (codes "spprof" ∷ codes "advise" ∷ codes "-" ∷ []))) o 10 2 None (λ other. other refl) (λ p are. (are.1.0 top_unsaid, are.2.0 faster_unsaid, are.3)) h),
-    (refl, spells (codes "10") top_unsaid, spells (codes "2") faster_unsaid, refl)),
+    (refl, spells (codes "10") top_unsaid, spells (codes "2") faster_unsaid, refl),
+  ),
   one_advise,
-  ((refl, (λ a h. (is_advise a.request.command h.0, h.1, as_given a.request.burdens (h.2.0.0 burden_unsaid, h.2.1), h.3.0 parts_unsaid, h.4.0 workers_unsaid, h.5.2 refl, h.6.1 refl)), (inr refl, refl, (spells (codes "15000") burden_unsaid, refl), spells (codes "16") parts_unsaid, spells (codes "4") workers_unsaid, flag_on, flag_off)),
+  (
+    (refl, (λ a h. (is_advise a.request.command h.0, h.1, as_given a.request.burdens (h.2.0.0 burden_unsaid, h.2.1), h.3.0 parts_unsaid, h.4.0 workers_unsaid, h.5.2 refl, h.6.1 refl)), (inr refl, refl, (spells (codes "15000") burden_unsaid, refl), spells (codes "16") parts_unsaid, spells (codes "4") workers_unsaid, flag_on, flag_off)),
     (λ o h. as_advised (subcommand_of spprof (spoken (codes "spprof" ∷ codes "advise" ∷ codes "--top" ∷ codes "3" ∷ codes "--site" ∷ codes "b" ∷ codes "--faster=1000" ∷ codes "--csv" ∷ codes "a" ∷ []))) o 3 1000 (Some (codes "b")) (λ other. other refl) (λ p are. (are.1.0 top_3, are.2.0 faster_most, are.3)) h),
-    (refl, spells (codes "3") top_3, spells (codes "1000") faster_most, refl)),
+    (refl, spells (codes "3") top_3, spells (codes "1000") faster_most, refl),
+  ),
 )
 
 no_second : (x y : ℕ) (rest more : Text) → (x == 45) ≡ false → (y == 45) ≡ false → Fail (codes "advise" ∷ (x ∷ rest) ∷ (y ∷ more) ∷ []) UnknownArgument

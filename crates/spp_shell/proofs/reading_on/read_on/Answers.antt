@@ -19,10 +19,7 @@ returns-in-Ok-None-clause-read g c = λ s h.
     subst (λ (l : List ℕ). (giving_of g.S.Source.answered g.S.Source.failed g.S.Source.failures s c.read_more.new.source).Gave l) (sym (c.truncate.ensures.items ∙ c.in-Ok-None.ensures.kept)) got
 
 pub returns-in-loop-turn-clause-read : goal.returns-in-loop-turn-clause-read
-returns-in-loop-turn-clause-read g c = λ s h.
-    let lt : c.loop-turn.turn < 2 ^ 33 = omega (arith, c.loop-turn-test.true) in
-    let here = subst (λ (l : List ℕ). HasRead g.S.Source.answered g.S.Source.failed g.S.Source.failures c.loop-turn.turn s l c.loop-turn.source) (sym c.in-Ok.ensures.kept) (c.loop-turn.invariant.read s h) in
-    rw c.in-Ok-Some.field-0-is at (c.in-Ok-Some.ensures.read c.loop-turn.turn s [] lt refl here)
+returns-in-loop-turn-clause-read g c = λ s h. c.loop-turn.invariant.read s h
 
 pub loop-turn-preserved : goal.loop-turn-preserved
 loop-turn-preserved g c =
