@@ -97,9 +97,9 @@ each_refused() { # NAME STATUS STARTS OUT ERR INPUT PROGRAM WORDS..: what the pr
 # Each call twice: of the crew figures, profile, the same in three rounds, and marks by two workers, with 1, 1, 4 and 3 threads.
 each_refused 'the calls' 0 18 "$(cat "$tests/../crates/memory_probe/stdout")" '' /dev/null "$probe"
 
-# A round has a thread for each worker but one. `profile` of a trace that is read whole has one round, or three where there are
-# many call sites, and settles its paths on two threads then; of one that comes in blocks it has a thread for each block. With
-# one worker it has none.
+# A round has a thread for each worker but one. `profile` of a trace of many call sites, which is read whole, has three rounds,
+# and settles its paths on two threads; of any other, which comes in blocks, it has a thread for each block. With one worker it
+# has none.
 examples=$tests/../examples
 head -c 23 "$examples/small.sptrace" > "$folder/short"
 { head -c 100 "$examples/small.sptrace"; head -c 16 /dev/zero | tr '\0' '\5'; } > "$folder/tag"
@@ -113,9 +113,8 @@ each_refused 'figures, a recorded trace' 0 1 'work 136861*' '' "$examples/cilkso
 each_refused 'figures by one worker' 0 0 'work 136861*' '' "$examples/cilksort.sptrace" "$spprof" figures --workers 1
 each_refused 'figures, a bad event' 1 1 '' 'bad event 4: tag' "$folder/tag" "$spprof" figures --burden 3
 each_refused 'figures, a bad event by one worker' 1 0 '' 'bad event 4: tag' "$folder/tag" "$spprof" figures --workers 1
-each_refused 'figures, version 2' 0 3 'work 136861*' '' "$examples/cilksort.compact" "$spprof" figures
-each_refused 'figures, in one part' 0 3 'work 136861*' '' "$examples/cilksort.compact" "$spprof" figures --parts 1
-each_refused 'figures, more parts than events' 0 3 'work 17*' '' "$examples/small.compact" "$spprof" figures --parts 20
+each_refused 'figures, version 2' 0 1 'work 136861*' '' "$examples/cilksort.compact" "$spprof" figures
+each_refused 'figures, more parts than events' 0 1 'work 17*' '' "$examples/small.compact" "$spprof" figures --parts 20
 each_refused 'profile, a recorded trace' 0 1 'work 32744*' '' "$examples/nqueens.sptrace" "$spprof" profile
 each_refused 'profile as tables alone' 0 1 'name,count*' '' "$examples/nqueens.sptrace" "$spprof" profile --csv
 # Two children that are waited for, in a block that a thread reads.
@@ -127,16 +126,19 @@ each_refused 'profile by workers' 0 1 'name,count*' '' "$folder/two" "$spprof" p
 { awk 'BEGIN { print "func main\nfunc f"; for (n = 0; n < 1025; n++) printf "site s%d\n", n }' && printf '%s\n' 'strand 1' \
     'spawn 0 1' 'strand 4' 'return' 'spawn 0 1' 'strand 2' 'return' 'sync' 'strand 3'; } | "$spprof" encode > "$folder/many"
 each_refused 'profile in three rounds' 0 4 'name,count*' '' "$folder/many" "$spprof" profile --csv --parts 9 --workers 2
-# The same in version 2, which is read whole: there a profile takes one round, here in parts of one event.
+# The same in version 2: one block as well.
 "$spprof" migrate < "$folder/two" > "$folder/two.compact"
-each_refused 'figures in parts' 0 1 'work 10*' '' "$folder/two.compact" "$spprof" figures --parts 9 --workers 2
-each_refused 'profile in one round' 0 1 'name,count*' '' "$folder/two.compact" "$spprof" profile --csv --parts 9 --workers 2
+each_refused 'figures by workers, version 2' 0 1 'work 10*' '' "$folder/two.compact" "$spprof" figures --workers 2
+each_refused 'profile by workers, version 2' 0 1 'name,count*' '' "$folder/two.compact" "$spprof" profile --csv --workers 2
 # Three blocks of up to 65,536 events, each of which a thread reads, in frames that are open at their ends.
 awk 'BEGIN { print "func main\nsite A"; for (n = 0; n < 50; n++) print "spawn 0 0\nstrand 3"
     for (n = 0; n < 140000; n++) print "strand 1"; for (n = 0; n < 50; n++) print "return\nsync" }' | "$spprof" encode \
     > "$folder/blocks"
 each_refused 'figures over blocks' 0 3 'work 140150*' '' "$folder/blocks" "$spprof" figures
 each_refused 'profile over blocks' 0 3 'name,count*' '' "$folder/blocks" "$spprof" profile --csv --workers 2
+# Two blocks of 131,072 bytes, and one that is less.
+"$spprof" migrate < "$folder/blocks" > "$folder/blocks.compact"
+each_refused 'profile over blocks, version 2' 0 3 'name,count*' '' "$folder/blocks.compact" "$spprof" profile --csv --workers 2
 each_refused 'profile by one worker' 0 0 'work 32744*' '' "$examples/nqueens.sptrace" "$spprof" profile --workers 1
 each_refused 'compare by one worker' 0 0 'work 10 17*' '' /dev/null "$spprof" compare --workers 1 "$folder/two" "$examples/small.sptrace"
 each_refused 'marks by workers' 0 3 '111100011' '' "$folder/two" "$printer" marks 9 2
@@ -163,7 +165,7 @@ each_refused 'check, a long header' 0 0 'work 5' '' "$folder/names" "$spprof" ch
 each_refused 'check, a long header by name' 0 0 'work 5' '' /dev/null "$spprof" check "$folder/names"
 each_refused 'check, a long header of version 2' 0 0 'work 5' '' "$folder/names.compact" "$spprof" check
 each_refused 'check, one of version 2 by name' 0 0 'work 5' '' /dev/null "$spprof" check "$folder/names.compact"
-each_refused 'profile, version 2' 0 3 'work 32744*' '' "$examples/nqueens.compact" "$spprof" profile
+each_refused 'profile, version 2' 0 1 'work 32744*' '' "$examples/nqueens.compact" "$spprof" profile
 # `advise` reads the trace whole: a profile, the marks of the burdened path in three rounds, and the changed runs, here four and
 # two, which the workers share.
 each_refused 'advise, a recorded trace' 0 15 'work 32744*' '' "$examples/nqueens.sptrace" "$spprof" advise
@@ -197,18 +199,18 @@ peaks_within() { # BOUND STATUS INPUT WORDS..: so many KiB are used at most, and
 }
 # Where all of an input is read, that takes at most 1.3 times its size from a pipe, and 1.1 times by name, where its length
 # is known. The size is a little more than 2^26 bytes: room that doubles would be nearly twice that, and room that isn't made
-# once passes 1.1. `profile` reads all where there are many call sites, and `check` all of a trace of version 2.
+# once passes 1.1. `profile` reads all where there are many call sites.
 size=$(($(stat -c %s "$folder/long") / 1024))
 peaks_within $((size * 13 / 10)) 0 "$folder/long" profile --workers 1
 peaks_within $((size * 11 / 10)) 0 "$folder/long" profile --workers 1 "$folder/long"
 # `advise` reads every trace whole, and has a byte for each event, a sixteenth of the size, besides.
 peaks_within $((size * 13 / 10)) 0 "$folder/long" advise --workers 1
 peaks_within $((size * 12 / 10)) 0 "$folder/long" advise --workers 1 "$folder/long"
-# Figures of version 1 go by blocks, and keep no trace.
+# Figures go by blocks, and keep no trace.
 peaks_within 20000 0 "$folder/long" figures --workers 1
 peaks_within 20000 0 "$folder/long" figures "$folder/long"
-# A profile that goes by blocks keeps no trace, however many frames are on the path: some are called, and others spawned, each
-# of which is longer than the one before.
+# A profile that goes by blocks keeps no trace, in version 2 as well, however many frames are on the path: some are called, and
+# others spawned, each of which is longer than the one before.
 awk 'BEGIN { print "func f"; for (n = 0; n < 40; n++) print "site s" n
     for (n = 0; n < 1400000; n++) print (n < 700000 ? "call " : "spawn ") n % 40, 0 "\nstrand", n "\nreturn" }' | "$spprof" encode \
     > "$folder/row"
@@ -217,7 +219,7 @@ peaks_within 20000 0 "$folder/row" profile --workers 1
 peaks_within 20000 0 "$folder/row" profile --workers 1 "$folder/row"
 "$spprof" migrate < "$folder/row" > "$folder/row.compact"
 size=$(($(stat -c %s "$folder/row.compact") / 1024))
-peaks_within $((size * 11 / 10 + 4000)) 0 "$folder/row.compact" profile --workers 1 "$folder/row.compact"
+peaks_within 20000 0 "$folder/row.compact" profile --workers 1 "$folder/row.compact"
 # By several workers too, where no child is longer than the first: children of few call sites are added up as they close.
 peak_within() { # BOUND INPUT WORDS..: so many KiB are used at most
     local bound=$1 input=$2 peak
@@ -234,8 +236,7 @@ awk 'BEGIN { print "func f"; for (n = 0; n < 40; n++) print "site s" n
     for (n = 0; n < 1400000; n++) print "spawn", n % 40, "0\nstrand 5\nreturn" }' | "$spprof" encode > "$folder/row"
 peak_within 24000 "$folder/row" profile --workers 2
 size=$(($(stat -c %s "$folder/long") / 1024))
-# Of a trace of version 1 `check` keeps the header and a piece: most of what is measured is the process that starts the
-# program.
+# `check` keeps the header and a piece of a trace: most of what is measured is the process that starts the program.
 peaks_within 20000 0 "$folder/long" check
 peaks_within 20000 0 "$folder/long" check "$folder/long"
 # Of one with a header of 13 MB too: the peak is that of the header, with a quarter more at most, and of its names.
@@ -246,8 +247,8 @@ peaks_within 24000 0 "$folder/headed" check
 peaks_within 24000 0 "$folder/headed" check "$folder/headed"
 { echo 'func f' && yes "strand $((2 ** 63 - 1))" | head -n 5800000; } | "$spprof" encode | "$spprof" migrate > "$folder/compact"
 size=$(($(stat -c %s "$folder/compact") / 1024))
-peaks_within $((size * 13 / 10)) 0 "$folder/compact" check
-peaks_within $((size * 11 / 10)) 0 "$folder/compact" check "$folder/compact"
+peaks_within 20000 0 "$folder/compact" check
+peaks_within 20000 0 "$folder/compact" figures --workers 1 "$folder/compact"
 # The first run's bytes are let go before the second is read: the peak is that of the larger run, and not of both.
 one=$(peak_of 0 profile "$folder/long")
 both=$(peak_of 0 compare "$folder/long" "$folder/long")

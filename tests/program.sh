@@ -44,18 +44,14 @@ expect 'nqueens' 0 "work 32744$lf" '' "$top/examples/nqueens.sptrace" check
 
 # The figures of the recorded traces are that program's too.
 figures_of() { # NAME FILE BURDEN WORK SPAN BURDENED PARALLELISM BURDENED_PARALLELISM
-    local text="work $4${lf}span $5${lf}burdened $6${lf}parallelism $7${lf}burdened parallelism $8$lf" parts workers
+    local text="work $4${lf}span $5${lf}burdened $6${lf}parallelism $7${lf}burdened parallelism $8$lf" workers
     expect "figures of $1" 0 "$text" '' /dev/null figures --burden "$3" "$2"
     for workers in 1 2 64; do
         expect "figures of $1 by $workers workers" 0 "$text" '' /dev/null figures --workers $workers --burden "$3" "$2"
     done
-    # Version 2 goes by parts.
     "$spprof" migrate "$2" > "$folder/compact"
-    for parts in 1 2 7 65536; do
-        expect "figures of $1 in $parts parts" 0 "$text" '' "$folder/compact" figures --parts $parts --burden "$3"
-    done
     for workers in 1 2 64; do
-        expect "figures of $1 in parts by $workers workers" 0 "$text" '' "$folder/compact" figures --parts 7 --workers $workers --burden "$3"
+        expect "figures of $1 in version 2 by $workers workers" 0 "$text" '' "$folder/compact" figures --workers $workers --burden "$3"
     done
 }
 figures_of 'the small trace' "$small" 3 17 13 16 1.30 1.06
@@ -408,12 +404,12 @@ most is saved by A: 2 times faster, burdened span 1000005 to 1000003, 0.00 per c
 (ulimit -v 1200000 && timeout 60 "$spprof" profile --csv --workers 3 "$folder/nested" > "$folder/out" 2> "$folder/err")
 status=$?
 judge 'tables of a million nested calls in blocks' 0 "name,*${lf}(root),1,0,1,5,5,1,5,5,1,0,1,5,5,1,5,5,1,0,1,5,5,1,5,5${lf}A,1000000,5,1,5,5,1,5,5,1000000,5,1,5,5,1,5,5,1000000,5,1,5,5,1,5,5$lf" ''
-# By way of 65,536 parts too, without a list of all open frames for each: the tables, in version 2, which is read whole, and the
-# marks of the path.
+# In blocks of version 2 as well.
 "$spprof" migrate < "$folder/nested" > "$folder/nested.compact"
-(ulimit -v 700000 && timeout 60 "$spprof" profile --csv --parts 65536 --workers 3 "$folder/nested.compact" > "$folder/out" 2> "$folder/err")
+(ulimit -v 1200000 && timeout 60 "$spprof" profile --csv --workers 3 "$folder/nested.compact" > "$folder/out" 2> "$folder/err")
 status=$?
-judge 'tables of a million nested calls in parts' 0 "name,*${lf}(root),1,0,1,5,5,1,5,5,1,0,1,5,5,1,5,5,1,0,1,5,5,1,5,5${lf}A,1000000,5,1,5,5,1,5,5,1000000,5,1,5,5,1,5,5,1000000,5,1,5,5,1,5,5$lf" ''
+judge 'tables of a million nested calls in blocks of version 2' 0 "name,*${lf}(root),1,0,1,5,5,1,5,5,1,0,1,5,5,1,5,5,1,0,1,5,5,1,5,5${lf}A,1000000,5,1,5,5,1,5,5,1000000,5,1,5,5,1,5,5,1000000,5,1,5,5,1,5,5$lf" ''
+# The marks of the path by way of 65,536 parts, without a list of all open frames for each.
 (ulimit -v 700000 && timeout 60 "$printer" marks 65536 3 < "$folder/nested" > "$folder/out" 2> "$folder/err")
 status=$?
 { head -c 2000001 /dev/zero | tr '\0' 1 && echo; } | cmp -s - "$folder/out" || status=125

@@ -357,6 +357,11 @@ what they run was compiled without $flag, as libraries are" $compiler work $flag
     if [ $is_bound ]; then
         record /dev/full finish
         left 'a full device' 3 "spprof_record: recorded.c:* REC_*: cannot write /dev/full, $unkept: *" "$old"
+    fi
+    # There may be no /dev/stdout, or none that this user can open.
+    has_output=
+    ! (set -o pipefail && "${as_user[@]}" test -e /dev/stdout | cat) || has_output=1
+    if [ $has_output ] && [ $is_bound ]; then
         exec 3< "$folder/out"
         record /dev/stdout finish
         "$spprof" check <&3 > "$folder/answer" 2>> "$folder/err" && mv "$folder/answer" "$folder/out"
@@ -367,10 +372,14 @@ what they run was compiled without $flag, as libraries are" $compiler work $flag
         status=$?
         judge 'the recorder: a pipe' 0 'work *' ''
     fi
-    # The command runs the program with its output in a pipe, which is closed before the trace can go there.
-    record trace exit "ln -s /dev/stdout out && { SPTRACE=out $recorded close; echo \$? >&2; } | cat"
-    left 'a pipe that is closed' 0 "spprof_record: recorded.c:* REC_*: cannot write out, $unkept: *${lf}3$lf$nothing" \
-        "link: link to earlier${lf}out: link to *${lf}trace: earlier"
+    if [ $has_output ]; then
+        # The command runs the program with its output in a pipe, which is closed before the trace can go there.
+        record trace exit "ln -s /dev/stdout out && { SPTRACE=out $recorded close; echo \$? >&2; } | cat"
+        left 'a pipe that is closed' 0 "spprof_record: recorded.c:* REC_*: cannot write out, $unkept: *${lf}3$lf$nothing" \
+            "link: link to earlier${lf}out: link to *${lf}trace: earlier"
+    else
+        echo 'recorder: SKIPPED standard output by name: there is no /dev/stdout that can be opened'
+    fi
     cd "$top" || exit 1
 }
 if command -v gcc > /dev/null; then

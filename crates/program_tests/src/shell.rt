@@ -3,6 +3,7 @@
 mod advises;
 mod checks;
 mod commands;
+mod compact_pieces;
 mod compares;
 mod devices;
 mod encodes;

@@ -1,8 +1,8 @@
 -- What a block comes to where it stands in a trace.
-use Rattle.std.proofs.Common.{◌≡◌, ℕ, ◌+◌, ◌/◌, ◌++◌, List, length, take, sym, ap, subst, ◌∙◌, arith}
+use Rattle.std.proofs.Common.{◌≡◌, ℕ, ◌+◌, ◌++◌, List, length, take, sym, ap, subst, ◌∙◌, arith}
 use Rattle.std.proofs.Math.Seq.{take-append_seam, take-append-add}
-use Rattle.spp_event.specs.declared.version.Version.TheVariants.{One}
-use Rattle.spp_event.specs.Recordings.{Record, Recording, records_of}
+use Rattle.spp_event.specs.declared.version.Version.{Version}
+use Rattle.spp_event.specs.Recordings.{Record, Recording, count_in, records_of}
 use Rattle.spp_event.proofs.RecordPlaces.{length-records_of}
 use Rattle.spp_maxplus.specs.declared.state.Burdens.{Burdens}
 use Rattle.spp_piece.specs.Account.{Account, account_of, together}
@@ -19,8 +19,12 @@ module _ (t : Recording) (b : Burdens) (i : ℕ) (block : Block) (at : IsBlockAt
   part_at part is = subst (λ (c : Burdens). IsPartProfile t c i (count_of block) part) at.under (is t i at.part)
 
   -- its records, by its bytes as they were found
-  pub read_there : (l : List ℕ) → l ≡ block.bytes.items → HasPart t block.sites block.funcs i (records_of One block.sites block.funcs (length (take block.len l) / 16) (take block.len l))
-  read_there l e = subst (λ (m : List ℕ). HasPart t block.sites block.funcs i (records_of One block.sites block.funcs (length (take block.len m) / 16) (take block.len m))) (sym e) at.part
+  pub read_there : (v : Version) → block.version ≡ v → (l : List ℕ) → l ≡ block.bytes.items → count_of block ≡ count_in block.version (take block.len block.bytes.items)
+      → HasPart t block.sites block.funcs i (records_of v block.sites block.funcs (count_in v (take block.len l)) (take block.len l))
+  read_there v is l e counted =
+      subst (λ (w : Version). HasPart t block.sites block.funcs i (records_of w block.sites block.funcs (count_in w (take block.len l)) (take block.len l))) is
+      (subst (λ (m : List ℕ). HasPart t block.sites block.funcs i (records_of block.version block.sites block.funcs (count_in block.version (take block.len m)) (take block.len m))) (sym e)
+      (subst (λ (n : ℕ). HasPart t block.sites block.funcs i (records_of block.version block.sites block.funcs n (take block.len block.bytes.items))) counted at.part))
 
   before_is : take i t.records ≡ at.part.before
   before_is = ap (λ (l : List Record). take i l) at.part.records ∙ ap (λ (n : ℕ). take n (at.part.before ++ (records_in block ++ at.part.behind))) (sym at.part.at) ∙ take-append_seam at.part.before (records_in block ++ at.part.behind)
@@ -30,7 +34,7 @@ module _ (t : Recording) (b : Burdens) (i : ℕ) (block : Block) (at : IsBlockAt
       ap (λ (l : List Record). take (i + count_of block) l) at.part.records
       ∙ ap (λ (n : ℕ). take (n + count_of block) (at.part.before ++ (records_in block ++ at.part.behind))) (sym at.part.at)
       ∙ take-append-add at.part.before (records_in block ++ at.part.behind) (count_of block)
-      ∙ ap (λ (n : ℕ). at.part.before ++ take n (records_in block ++ at.part.behind)) (sym (length-records_of One block.sites block.funcs (count_of block) (take block.len block.bytes.items)))
+      ∙ ap (λ (n : ℕ). at.part.before ++ take n (records_in block ++ at.part.behind)) (sym (length-records_of block.version block.sites block.funcs (count_of block) (take block.len block.bytes.items)))
       ∙ ap (λ (l : List Record). at.part.before ++ l) (take-append_seam (records_in block) at.part.behind)
 
   -- the summary of the records before and that of the block are that of both
@@ -43,5 +47,9 @@ module _ (t : Recording) (b : Burdens) (i : ℕ) (block : Block) (at : IsBlockAt
       ap (λ (x : Account). together x right) first ∙ ap (λ (x : Account). together (account_of b 0 at.part.before) x) second
       ∙ both_account b 0 at.part.before (records_in block) ∙ ap (λ (l : List Record). account_of b 0 l) (sym both_are)
 
-pub so_far_there : (t : Recording) (b : Burdens) (k : ℕ) (block : Block) (l : List ℕ) (r : ProfileSoFar) → l ≡ block.bytes.items → IsSoFar t b (k + length (take block.len l) / 16) r → IsSoFar t b (k + count_of block) r
-so_far_there t b k block l r e = subst (λ (m : List ℕ). IsSoFar t b (k + length (take block.len m) / 16) r) e
+pub so_far_there : (t : Recording) (b : Burdens) (k : ℕ) (block : Block) (v : Version) → block.version ≡ v → (l : List ℕ) (r : ProfileSoFar) → l ≡ block.bytes.items → count_of block ≡ count_in block.version (take block.len block.bytes.items)
+    → IsSoFar t b (k + count_in v (take block.len l)) r → IsSoFar t b (k + count_of block) r
+so_far_there t b k block v is l r e counted so_far =
+    subst (λ (n : ℕ). IsSoFar t b (k + n) r) (sym counted)
+    (subst (λ (m : List ℕ). IsSoFar t b (k + count_in block.version (take block.len m)) r) e
+    (subst (λ (w : Version). IsSoFar t b (k + count_in w (take block.len l)) r) (sym is) so_far))

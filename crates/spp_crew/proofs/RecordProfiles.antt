@@ -1,11 +1,11 @@
 -- What blocks of records come to, one behind the other.
-use Rattle.std.proofs.Common.{◌≡◌, ℕ, ◌+◌, ◌-◌, ◌/◌, ◌≤◌, ◌<◌, List, [], ◌++◌, length, get_or, replicate, Result, Ok, Err, IfOk, IfErr, refl, sym, ap, subst, ◌∙◌, arith, inl, inr}
+use Rattle.std.proofs.Common.{◌≡◌, ℕ, ◌+◌, ◌-◌, ◌≤◌, ◌<◌, List, [], ◌++◌, length, get_or, replicate, Result, Ok, Err, IfOk, IfErr, refl, sym, ap, subst, ◌∙◌, arith, inl, inr}
 use Rattle.std.proofs.lemmas.Bool.{cases_lt}
-use Rattle.std.proofs.lemmas.List.{length-take-le, length-append, append_assoc, length-replicate, get_or-replicate, get_or_append_left, get_or-append_right}
+use Rattle.std.proofs.lemmas.List.{length-append, append_assoc, length-replicate, get_or-replicate, get_or_append_left, get_or-append_right}
 use Rattle.spp_event.specs.declared.records.EventFault.TheVariants.{Truncated}
 use Rattle.spp_event.specs.declared.version.Version.TheVariants.{One}
 use Rattle.spp_event.specs.Records.{IsEventOf}
-use Rattle.spp_event.specs.Recordings.{Record, Recording, AreEventsOf, records_of, record_at}
+use Rattle.spp_event.specs.Recordings.{Record, Recording, AreEventsOf, record_at}
 use Rattle.spp_event.proofs.GoodRecords.{are_events_of}
 use Rattle.spp_event.proofs.TakenFromFront.{IsBytes-take}
 use Rattle.spp_event.proofs.RecordPlaces.{length-records_of}
@@ -139,49 +139,39 @@ events_nil sites funcs i lt = absurd (let z : ⊥ = omega (arith, lt) in z)
 
 -- ---- a block more
 
-module _ (block : Block) (rs : List Record) (at : block.first ≡ length rs) (within : block.len ≤ length block.bytes.items) where
-  -- its bytes are as many as it says
-  long : length (bytes_of block) ≡ block.len
-  long = length-take-le block.len block.bytes.items within
+module _ (block : Block) (rs : List Record) (at : block.first ≡ length rs) where
+  pub count_more : block.first + count_of block ≡ length (rs ++ records_in block)
+  count_more = omega (arith, at, length-append rs (records_in block), length-records_of block.version block.sites block.funcs (count_of block) (bytes_of block))
 
-  -- its records, by that number
-  abbrev more : List Record
-  more = records_of One block.sites block.funcs (block.len / 16) (bytes_of block)
+  pub good_more : ((i : ℕ) → get_or block.bytes.items i 0 < 256) → AreEventsOf block.sites block.funcs rs → AreEventsOf block.sites block.funcs (rs ++ records_in block)
+  good_more fits good = events_both block.sites block.funcs rs (records_in block) good (are_events_of block.version block.sites block.funcs (count_of block) (bytes_of block) (IsBytes-take block.len block.bytes.items fits))
 
-  same : records_in block ≡ more
-  same = ap (λ (n : ℕ). records_of One block.sites block.funcs (n / 16) (bytes_of block)) long
-
-  pub count_more : block.first + block.len / 16 ≡ length (rs ++ more)
-  count_more = omega (arith, at, length-append rs more, length-records_of One block.sites block.funcs (block.len / 16) (bytes_of block))
-
-  pub good_more : ((i : ℕ) → get_or block.bytes.items i 0 < 256) → AreEventsOf block.sites block.funcs rs → AreEventsOf block.sites block.funcs (rs ++ more)
-  good_more fits good = events_both block.sites block.funcs rs more good (are_events_of One block.sites block.funcs (block.len / 16) (bytes_of block) (IsBytes-take block.len block.bytes.items fits))
-
-  module _ (t : Recording) (head : RecordHead) (sites : block.sites ≡ head.sites) (funcs : block.funcs ≡ head.funcs) (b : BeginsWith t head (rs ++ more)) where
+  module _ (t : Recording) (head : RecordHead) (sites : block.sites ≡ head.sites) (funcs : block.funcs ≡ head.funcs) (b : BeginsWith t head (rs ++ records_in block)) where
     -- it stands there in each trace that begins with these
     pub block_at : IsBlockAt t block.burdens block.first block
     block_at =
+        let more = records_in block in
         let part : HasPart t head.sites head.funcs (length rs) more = has_part t head rs more b in
         let there : HasPart t block.sites block.funcs (length rs) more = subst (λ (n : ℕ). HasPart t n block.funcs (length rs) more) (sym sites) (subst (λ (n : ℕ). HasPart t head.sites n (length rs) more) (sym funcs) part) in
         record {
           under = refl;
           first = refl;
-          part = subst (λ (i : ℕ). HasPart t block.sites block.funcs i (records_in block)) (sym at) (subst (λ (l : List Record). HasPart t block.sites block.funcs (length rs) l) (sym same) there);
+          part = subst (λ (i : ℕ). HasPart t block.sites block.funcs i more) (sym at) there;
         }
 
     pub before_block : BeginsWith t head rs
-    before_block = begins_before t head rs more b
+    before_block = begins_before t head rs (records_in block) b
 
-    pub block_within : block.first + block.len / 16 ≤ head.count
-    block_within = omega (arith, at, begins_within t head rs more b, length-records_of One block.sites block.funcs (block.len / 16) (bytes_of block))
+    pub block_within : block.first + count_of block ≤ head.count
+    block_within = omega (arith, at, begins_within t head rs (records_in block) b, length-records_of block.version block.sites block.funcs (count_of block) (bytes_of block))
 
   module _ {A P T : Type 0} (block_of : T → Block) (is_so_far : Recording → Burdens → ℕ → A → Type 0) (s : Shown A P T) where
     -- what is shown of a trace that begins with the records before
     pub shown_before : (t : Recording) → IsShown block_of is_so_far t block.burdens (length rs) s → IsShown block_of is_so_far t block.burdens block.first s
     shown_before t = subst (λ (k : ℕ). IsShown block_of is_so_far t block.burdens k s) (sym at)
 
-    pub shown_behind : (t : Recording) → IsShown block_of is_so_far t block.burdens (block.first + count_of block) s → IsShown block_of is_so_far t block.burdens (length (rs ++ more)) s
-    shown_behind t = subst (λ (k : ℕ). IsShown block_of is_so_far t block.burdens k s) (ap (λ (n : ℕ). block.first + n / 16) long ∙ count_more)
+    pub shown_behind : (t : Recording) → IsShown block_of is_so_far t block.burdens (block.first + count_of block) s → IsShown block_of is_so_far t block.burdens (length (rs ++ records_in block)) s
+    shown_behind t = subst (λ (k : ℕ). IsShown block_of is_so_far t block.burdens k s) count_more
 
 -- ---- the end
 

@@ -1,7 +1,6 @@
--- A block of records, where it stands in a trace, and what it comes to.
-use Rattle.std.specs.Prelude.{◌≡◌, ℕ, ◌+◌, ◌/◌, ◌≤◌, ◌^◌, List, length, take}
-use Rattle.spp_event.specs.declared.version.Version.TheVariants.{One}
-use Rattle.spp_event.specs.Recordings.{Record, Recording, records_of}
+-- A block of events, where it stands in a trace, and what it comes to.
+use Rattle.std.specs.Prelude.{◌≡◌, ℕ, ◌+◌, ◌≤◌, ◌^◌, List, length, take}
+use Rattle.spp_event.specs.Recordings.{Record, Recording, count_in, records_of}
 use Rattle.spp_maxplus.specs.declared.state.Burdens.{Burdens}
 use Rattle.spp_piece.specs.Account.{Account, account_of}
 use Rattle.spp_part.specs.declared.part_profile.PartProfile.{PartProfile}
@@ -13,24 +12,25 @@ use Rattle.spp_crew.specs.declared.profiled_blocks.PartOf.{PartOf}
 use Rattle.spp_crew.specs.declared.figured_blocks.SummaryOf.{SummaryOf}
 use Rattle.std.specs.declared.thread.PromisedHandle.{PromisedHandle}
 
--- the bytes of a block's records
+-- the bytes of a block's events
 abbrev pub bytes_of : Block → List ℕ
 bytes_of block = take block.len block.bytes.items
 
--- how many records it has
+-- how many events it has
 abbrev pub count_of : Block → ℕ
-count_of block = length (bytes_of block) / 16
+count_of block = block.count
 
 -- its records
 abbrev pub records_in : Block → List Record
-records_in block = records_of One block.sites block.funcs (count_of block) (bytes_of block)
+records_in block = records_of block.version block.sites block.funcs (count_of block) (bytes_of block)
 
 -- its numbers are within the limits of a trace
 pub record IsReadable (block : Block) : Type 0 where
   pub sites : block.sites ≤ 65536
   pub funcs : block.funcs ≤ 65536
   pub within : block.len ≤ length block.bytes.items
-  pub few : block.first + block.len / 16 ≤ 2 ^ 28
+  pub counted : count_of block ≡ count_in block.version (bytes_of block)
+  pub few : block.first + count_of block ≤ 2 ^ 28
 
 -- it is read under these burdens, and its records are those of the trace from the one at i on
 pub record IsBlockAt (trace : Recording) (burdens : Burdens) (i : ℕ) (block : Block) : Type 0 where

@@ -1,4 +1,4 @@
--- What a header of version 1 says.
+-- What a header says.
 use Rattle.std.specs.Prelude.{◌<◌, ◌≤◌, ◌^◌}
 use Rattle.spp_crew.specs.declared.record_head.RecordHead.{RecordHead}
 

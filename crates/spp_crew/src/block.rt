@@ -1,4 +1,4 @@
-//! Blocks of records, and what the first records of a run come to, onto which blocks are joined.
+//! Blocks of events, and what the first events of a run come to, onto which blocks are joined.
 
 ghost use Rattle.std.specs.Prelude.{◌≡◌, ◌+◌, ℕ, IfOk, IfErr};
 ghost use Rattle.spp_event.specs.Recordings.{Recording};
@@ -6,6 +6,7 @@ ghost use Rattle.spp_frame.specs.Answers.{IsFaultOf};
 ghost use Rattle.spp_maxplus.specs.declared.state.Burdens.{Burdens as BurdensValue};
 ghost use Rattle.spp_crew.specs.Blocks.{IsReadable, IsBlockAt, count_of};
 
+use spp_event::Version;
 use spp_frame::ProfileFault;
 use spp_maxplus::Burdens;
 use std::alloc::{AllocError, Global};
@@ -14,13 +15,17 @@ use std::thread::Threads;
 /// The bytes of a record.
 pub(crate) const RECORD: usize = 16;
 
-/// The records of a block, and how they are read.
+/// The events of a block, and how they are read.
 #[derive(Drop)]
 pub(crate) struct Block {
+    /// How they are spelled.
+    pub(crate) version: Version,
     /// Their bytes, and others behind them.
     pub(crate) bytes: Vec<u8>,
     /// How many bytes they have.
     pub(crate) len: usize,
+    /// How many events they are.
+    pub(crate) count: u32,
     /// The position of the first.
     pub(crate) first: u32,
     /// How many sites the trace has.

@@ -8,6 +8,7 @@ ghost use Rattle.spp_crew.specs.Blocks.{IsBlockAt, IsSummaryOf, IsSummaryOfFirst
 ghost use Rattle.spp_crew.specs.declared.block.Block.{Block as BlockValue};
 
 use crate::block::{Block, BlockRead, SoFar};
+use spp_event::Version;
 use spp_frame::ProfileFault;
 use spp_maxplus::Burdens;
 use spp_summary::Summary;
@@ -33,14 +34,11 @@ fn summary_of(alloc: Global, block: &Block) -> Result<Summary, AllocError>
     ensures { IfOk result (IsSummaryOf block.now) }
 {
     let bytes = &block.bytes[..block.len];
-    Summary::of_records(
-        alloc,
-        bytes,
-        block.sites,
-        block.funcs,
-        block.burdens,
-        block.first,
-    )
+    let (sites, funcs, burdens) = (block.sites, block.funcs, block.burdens);
+    match block.version {
+        Version::One => Summary::of_records(alloc, bytes, sites, funcs, burdens, block.first),
+        Version::Two => Summary::of_items(alloc, bytes, sites, funcs, burdens, block.first),
+    }
 }
 
 /// The summary of the first records of a run, unless one of them is a bad event.

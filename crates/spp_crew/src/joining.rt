@@ -222,7 +222,7 @@ impl<A: SoFar> Joining<A> {
         }
     }
 
-    /// Goes on by the next block of a trace of version 1, and gives room for another one's bytes. By several workers a new
+    /// Goes on by the next block, and gives room for another one's bytes. By several workers a new
     /// thread reads the block, once no more than so many are left with it: this one waits for the first of them, and joins
     /// what it brings. One worker reads the block itself.
     ///

@@ -9,7 +9,7 @@
 //! Where there are three, little is done between them, and that by one thread or two: after the first it finds the frames
 //! that are open where each part begins, and before the last it settles the paths.
 //!
-//! A trace of version 1 can also come block by block, and need not be kept: [`RecordFigures`], [`RecordProfile`]. Each block
+//! A trace of either version can also come block by block, and need not be kept: [`RecordFigures`], [`RecordProfile`]. Each block
 //! is read by a thread of its own, whose handle promises that what it brings is of that block, and the calling thread joins
 //! in order what they bring; there is no desk and no round.
 #![tactic(auto)]

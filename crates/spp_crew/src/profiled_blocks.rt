@@ -1,10 +1,13 @@
 //! The profile of a run so far, onto which blocks are joined.
 
-ghost use Rattle.std.specs.Prelude.{IfOk, IfErr};
+ghost use Rattle.std.specs.Prelude.{◌+◌, ℕ, IfOk, IfErr, OnOk};
+ghost use Rattle.spp_event.specs.Recordings.{Recording};
+ghost use Rattle.spp_frame.specs.Answers.{IsFaultOf};
 ghost use Rattle.spp_part.specs.Parts.{IsSoFar};
-ghost use Rattle.spp_crew.specs.Blocks.{IsPartOf, IsReadable, profiled_by};
+ghost use Rattle.spp_crew.specs.Blocks.{IsBlockAt, IsPartOf, IsReadable, count_of, profiled_by};
 
 use crate::block::{Block, BlockRead, SoFar};
+use spp_event::Version;
 use spp_frame::ProfileFault;
 use spp_maxplus::Burdens;
 use spp_part::{PartProfile, ProfileSoFar};
@@ -26,6 +29,7 @@ fn read(alloc: Global, block: Block) -> BlockRead<PartProfile>
     ensures { IfOk result.part (IsPartOf block) }
 {
     let Block {
+        version,
         bytes,
         len,
         sites,
@@ -33,8 +37,30 @@ fn read(alloc: Global, block: Block) -> BlockRead<PartProfile>
         burdens,
         ..
     } = block;
-    let part = PartProfile::of_records(alloc, &bytes[..len], sites, funcs, burdens);
+    let part = match version {
+        Version::One => PartProfile::of_records(alloc, &bytes[..len], sites, funcs, burdens),
+        Version::Two => PartProfile::of_items(alloc, &bytes[..len], sites, funcs, burdens),
+    };
     BlockRead { part, room: bytes }
+}
+
+/// Goes on by the events of a block.
+///
+/// # Errors
+///
+/// The first bad event of the run, if it is one of these, or `Memory` where an allocation failed.
+fn read_on(so_far: &mut ProfileSoFar, alloc: Global, block: &Block) -> Result<(), ProfileFault>
+    requires readable { IsReadable block.now }
+    requires so_far { (trace : Recording) × (i : ℕ) × IsSoFar trace block.now.burdens i so_far.old × IsBlockAt trace block.now.burdens i block.now }
+    ensures so_far { OnOk result ((trace : Recording) (i : ℕ) → IsSoFar trace block.now.burdens i so_far.old → IsBlockAt trace block.now.burdens i block.now → IsSoFar trace block.now.burdens (i + count_of block.now) so_far.new) }
+    ensures fault { IfErr result (λ f. (trace : Recording) (i : ℕ) → IsSoFar trace block.now.burdens i so_far.old → IsBlockAt trace block.now.burdens i block.now → IsFaultOf trace.records f) }
+{
+    let bytes = &block.bytes[..block.len];
+    let (sites, funcs, burdens) = (block.sites, block.funcs, block.burdens);
+    match block.version {
+        Version::One => so_far.read_records(alloc, bytes, sites, funcs, burdens),
+        Version::Two => so_far.read_items(alloc, bytes, sites, funcs, burdens),
+    }
 }
 
 impl SoFar for ProfileSoFar {
@@ -83,8 +109,7 @@ impl SoFar for ProfileSoFar {
 
     fn read(self, alloc: Global, block: &Block) -> Result<Self, ProfileFault> {
         let mut so_far = self;
-        let bytes = &block.bytes[..block.len];
-        match so_far.read_records(alloc, bytes, block.sites, block.funcs, block.burdens) {
+        match read_on(&mut so_far, alloc, block) {
             Ok(()) => Ok(so_far),
             Err(fault) => Err(fault),
         }

@@ -3,7 +3,7 @@
 ghost use Rattle.std.specs.Prelude.{◌≡◌, ◌+◌, ◌*◌, ◌/◌, ◌≤◌, ◌<◌, ◌^◌, ◌++◌, ℕ, List, [], length, take, Err as AsErr, IfOk, IfErr};
 ghost use Rattle.spp_event.specs.declared.version.Version.TheVariants.{One};
 ghost use Rattle.spp_event.specs.declared.records.EventFault.TheVariants.{Truncated};
-ghost use Rattle.spp_event.specs.Recordings.{Record, Recording, record_at, records_of};
+ghost use Rattle.spp_event.specs.Recordings.{Record, Recording, count_in, record_at, records_of};
 ghost use Rattle.spp_dag.specs.Figures.{AreFigures};
 ghost use Rattle.spp_frame.specs.Answers.{IsFaultOf};
 ghost use Rattle.spp_frame.specs.Nesting.{IsFirstBad, IsWellFormed};
@@ -15,15 +15,15 @@ use crate::record_head::RecordHead;
 use crate::record_profile::are_bytes;
 use crate::shown::Shown;
 use spp_dag::Figures;
-use spp_event::EventFault;
+use spp_event::{EventFault, Version};
 use spp_frame::{Fault, ProfileFault, Why};
 use spp_maxplus::Burdens;
 use spp_summary::Summary;
 use std::alloc::{AllocError, Global};
 use std::thread::Threads;
 
-/// The figures of a run whose records come block by block, in a trace of version 1: what those that have come show. It keeps
-/// none of them.
+/// The figures of a run whose records come block by block, in a trace of either version: what those that have come show. It
+/// keeps none but the blocks that threads still have.
 #[derive(Drop)]
 pub struct RecordFigures {
     /// What the trace's header says. The function of the root doesn't matter.
@@ -97,6 +97,36 @@ impl RecordFigures {
         ensures threads { IfOk result (λ f. threads_of self ≤ workers → threads_of f.0 ≤ workers) }
         ensures seen { IfOk result (λ f. (rs : List Record) → HasSeen self rs → HasSeen f.0 (rs ++ records_of One self.head.sites self.head.funcs (len / 16) (take len bytes.items))) }
     {
+        let count = (len / RECORD) as u32;
+        self.followed_by_events(rt, alloc, Version::One, bytes, len, count, workers)
+    }
+
+    /// The same behind the first `len` of these bytes, which are `count` whole events of that version, as
+    /// [`RecordFigures::followed_by_block`]: where these are items, by `Summary::of_items`.
+    ///
+    /// # Errors
+    ///
+    /// Where an allocation failed; no thread is left then. One that can't be started is no error: this one reads the events.
+    pub fn followed_by_events<R: Threads>(
+        self,
+        rt: &R,
+        alloc: Global,
+        version: Version,
+        bytes: Vec<u8>,
+        len: usize,
+        count: u32,
+        workers: u32,
+    ) -> Result<(Self, Vec<u8>), AllocError>
+        requires within { len ≤ length bytes.items }
+        requires counted { count ≡ count_in version (take len bytes.items) }
+        requires room { seen_by self + count < 2 ^ 32 }
+        requires seen { (rs : List Record) × HasSeen self rs }
+        ensures count { IfOk result (λ f. seen_by f.0 ≡ seen_by self + count) }
+        ensures head { IfOk result (λ f. f.0.head ≡ self.head) }
+        ensures burdens { IfOk result (λ f. f.0.burdens ≡ self.burdens) }
+        ensures threads { IfOk result (λ f. threads_of self ≤ workers → threads_of f.0 ≤ workers) }
+        ensures seen { IfOk result (λ f. (rs : List Record) → HasSeen self rs → HasSeen f.0 (rs ++ records_of version self.head.sites self.head.funcs count (take len bytes.items))) }
+    {
         let RecordFigures {
             head,
             burdens,
@@ -105,8 +135,10 @@ impl RecordFigures {
         } = self;
         are_bytes(bytes.as_slice());
         let block = Block {
+            version,
             bytes,
             len,
+            count,
             first: at,
             sites: head.sites,
             funcs: head.funcs,
@@ -117,7 +149,7 @@ impl RecordFigures {
             head,
             burdens,
             shown,
-            at: at + (len / RECORD) as u32,
+            at: at + count,
         };
         Ok((figures, room))
     }

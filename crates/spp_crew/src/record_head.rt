@@ -1,6 +1,6 @@
-//! What a header of version 1 says.
+//! What a header says.
 
-/// What is needed of a header of version 1 to read the records behind it.
+/// What is needed of a header to read the events behind it.
 #[derive(Clone, Copy)]
 pub struct RecordHead {
     /// The function of the root frame.

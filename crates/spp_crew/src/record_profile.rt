@@ -2,7 +2,7 @@
 
 ghost use Rattle.std.specs.Prelude.{◌≡◌, ◌+◌, ◌*◌, ◌/◌, ◌≤◌, ◌<◌, ◌^◌, ◌++◌, ℕ, List, [], length, take, slice_index, IfOk, IfErr};
 ghost use Rattle.spp_event.specs.declared.version.Version.TheVariants.{One};
-ghost use Rattle.spp_event.specs.Recordings.{Record, Recording, records_of};
+ghost use Rattle.spp_event.specs.Recordings.{Record, Recording, count_in, records_of};
 ghost use Rattle.spp_dag.specs.Figures.{AreFigures};
 ghost use Rattle.spp_frame.specs.Answers.{IsFaultOf};
 ghost use Rattle.spp_site.specs.Profiles.{IsProfileOf};
@@ -12,7 +12,7 @@ use crate::block::{Block, RECORD};
 use crate::joining::Joining;
 use crate::record_head::RecordHead;
 use crate::shown::Shown;
-use spp_event::EventFault;
+use spp_event::{EventFault, Version};
 use spp_frame::ProfileFault;
 use spp_maxplus::Burdens;
 use spp_part::ProfileSoFar;
@@ -21,8 +21,8 @@ use std::alloc::{AllocError, Global};
 use std::sync::Wait;
 use std::thread::Threads;
 
-/// The profile of a run whose records come block by block, in a trace of version 1: what those that have come show. It keeps
-/// none of them.
+/// The profile of a run whose records come block by block, in a trace of either version: what those that have come show. It
+/// keeps none but the blocks that threads still have.
 #[derive(Drop)]
 pub struct RecordProfile {
     /// What the trace's header says.
@@ -121,6 +121,36 @@ impl RecordProfile {
         ensures threads { IfOk result (λ p. threads_of self ≤ workers → threads_of p.0 ≤ workers) }
         ensures seen { IfOk result (λ p. (rs : List Record) → HasSeen self rs → HasSeen p.0 (rs ++ records_of One self.head.sites self.head.funcs (len / 16) (take len bytes.items))) }
     {
+        let count = (len / RECORD) as u32;
+        self.followed_by_events(rt, alloc, Version::One, bytes, len, count, workers)
+    }
+
+    /// The same behind the first `len` of these bytes, which are `count` whole events of that version, as
+    /// [`RecordProfile::followed_by_block`]: where these are items, by `PartProfile::of_items` and `ProfileSoFar::read_items`.
+    ///
+    /// # Errors
+    ///
+    /// Where an allocation failed; no thread is left then. One that can't be started is no error: this one reads the events.
+    pub fn followed_by_events<R: Threads>(
+        self,
+        rt: &R,
+        alloc: Global,
+        version: Version,
+        bytes: Vec<u8>,
+        len: usize,
+        count: u32,
+        workers: u32,
+    ) -> Result<(Self, Vec<u8>), AllocError>
+        requires within { len ≤ length bytes.items }
+        requires counted { count ≡ count_in version (take len bytes.items) }
+        requires room { seen_by self + count < 2 ^ 32 }
+        requires seen { (rs : List Record) × HasSeen self rs }
+        ensures count { IfOk result (λ p. seen_by p.0 ≡ seen_by self + count) }
+        ensures head { IfOk result (λ p. p.0.head ≡ self.head) }
+        ensures burdens { IfOk result (λ p. p.0.burdens ≡ self.burdens) }
+        ensures threads { IfOk result (λ p. threads_of self ≤ workers → threads_of p.0 ≤ workers) }
+        ensures seen { IfOk result (λ p. (rs : List Record) → HasSeen self rs → HasSeen p.0 (rs ++ records_of version self.head.sites self.head.funcs count (take len bytes.items))) }
+    {
         let RecordProfile {
             head,
             burdens,
@@ -129,8 +159,10 @@ impl RecordProfile {
         } = self;
         are_bytes(bytes.as_slice());
         let block = Block {
+            version,
             bytes,
             len,
+            count,
             first: at,
             sites: head.sites,
             funcs: head.funcs,
@@ -141,7 +173,7 @@ impl RecordProfile {
             head,
             burdens,
             shown,
-            at: at + (len / RECORD) as u32,
+            at: at + count,
         };
         Ok((profile, room))
     }

@@ -1,17 +1,17 @@
-//! What the records that have come of a run show.
+//! What the events that have come of a run show.
 
-ghost use Rattle.std.specs.Prelude.{◌≡◌, ◌+◌, ◌*◌, ◌/◌, ◌≤◌, ◌<◌, ◌^◌, ℕ, length, IfOk};
-ghost use Rattle.spp_event.specs.Recordings.{Recording};
-ghost use Rattle.spp_crew.specs.Blocks.{IsBlockAt, count_of};
+ghost use Rattle.std.specs.Prelude.{◌≡◌, ◌+◌, ◌≤◌, ◌<◌, ◌^◌, ℕ, length, IfOk};
+ghost use Rattle.spp_event.specs.Recordings.{Recording, count_in};
+ghost use Rattle.spp_crew.specs.Blocks.{IsBlockAt, bytes_of, count_of};
 ghost use Rattle.spp_crew.specs.declared.shown.Shown.TheVariants.{Good as IsGood};
 
-use crate::block::{Block, RECORD, SoFar};
+use crate::block::{Block, SoFar};
 use crate::joining::Joining;
 use spp_frame::{Fault, ProfileFault};
 use std::alloc::{AllocError, Global};
 use std::thread::Threads;
 
-/// What the records that have come of a run show.
+/// What the events that have come of a run show.
 #[derive(Drop)]
 pub(crate) enum Shown<A: SoFar> {
     /// None of those that were joined is bad.
@@ -41,13 +41,14 @@ impl<A: SoFar> Shown<A> {
         requires sites { block.sites ≤ 65536 }
         requires funcs { block.funcs ≤ 65536 }
         requires within { block.len ≤ length block.bytes.items }
-        requires room { block.first + block.len / 16 < 2 ^ 32 }
+        requires counted { count_of block ≡ count_in block.version (bytes_of block) }
+        requires room { block.first + count_of block < 2 ^ 32 }
         requires few { count ≤ 2 ^ 28 }
-        requires come { (joining : JoiningValue A A.Part A.Thread) → self ≡ IsGood joining → block.first + block.len / 16 ≤ count → (trace : Recording) × HasCome A.block_of A.is_so_far trace block.burdens block.first joining × IsBlockAt trace block.burdens block.first block }
-        ensures shown { IfOk result (λ r. (trace : Recording) → block.first + block.len / 16 ≤ count → IsShown A.block_of A.is_so_far trace block.burdens block.first self → IsBlockAt trace block.burdens block.first block → IsShown A.block_of A.is_so_far trace block.burdens (block.first + count_of block) r.0) }
+        requires come { (joining : JoiningValue A A.Part A.Thread) → self ≡ IsGood joining → block.first + count_of block ≤ count → (trace : Recording) × HasCome A.block_of A.is_so_far trace block.burdens block.first joining × IsBlockAt trace block.burdens block.first block }
+        ensures shown { IfOk result (λ r. (trace : Recording) → block.first + count_of block ≤ count → IsShown A.block_of A.is_so_far trace block.burdens block.first self → IsBlockAt trace block.burdens block.first block → IsShown A.block_of A.is_so_far trace block.burdens (block.first + count_of block) r.0) }
         ensures threads { IfOk result (λ r. threads_in self ≤ workers → threads_in r.0 ≤ workers) }
     {
-        if block.first + (block.len / RECORD) as u32 > count {
+        if block.first + block.count > count {
             return Ok((self, block.bytes));
         }
         match self {

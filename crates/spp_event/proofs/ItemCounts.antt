@@ -66,6 +66,10 @@ parted [] (suc from) (suc to) le = sym (nothing (suc to - suc from))
 parted (b ∷ body) (suc from) zero le = absurd (omega arith)
 parted (b ∷ body) (suc from) (suc to) le = ap (λ (l : List ℕ). b ∷ l) (parted body from to (omega arith) ∙ ap (λ (k : ℕ). take from body ++ take k (drop from body)) (let s : to - from ≡ suc to - suc from = omega arith in s))
 
+-- the bytes from one place up to another are added
+pub leads_between : (body : List ℕ) (from to : ℕ) → from ≤ to → leads (take to body) ≡ leads (take from body) + leads (between body from to)
+leads_between body from to le = ap leads (parted body from to le) ∙ sum_by-append (λ (z : ℕ). cond (nat_le 128 z) 1 0) (take from body) (between body from to)
+
 -- behind other bytes an item begins at each byte of 128 or more
 pub counted_on : (body : List ℕ) (from to : ℕ) → 0 < from → from ≤ to → 0 < length body → length (items (take from body)) + leads (between body from to) ≡ length (items (take to body))
 counted_on [] from to some le h = absurd (omega arith)

@@ -17,10 +17,12 @@ pub mod FaultsAreRefused
 pub mod HeaderLaws
 pub mod RecordHeads
 pub mod JoinedRecords
+pub mod JoinedEvents
 pub mod ItemCounts
 pub mod ItemSamples
 pub mod ItemBodies
 pub mod ItemFronts
+pub mod LastItems
 pub mod MigratedBytes
 pub mod TraceViews
 pub mod GoodRecords

@@ -1,5 +1,5 @@
 -- Where events stand in a body.
-use Rattle.std.specs.Prelude.{◌≡◌, ℕ, ◌*◌, ◌-◌, ◌<◌, ◌≤◌, List, [], ◌∷◌, length, take, drop, slice_get, Some}
+use Rattle.std.specs.Prelude.{◌≡◌, ◌⊎◌, ℕ, ◌*◌, ◌-◌, ◌<◌, ◌≤◌, List, [], ◌∷◌, length, take, drop, slice_get, Some}
 use Rattle.spp_event.specs.declared.version.Version.{Version}
 use Rattle.spp_event.specs.declared.version.Version.TheVariants.{One, Two}
 use Rattle.spp_event.specs.declared.layout.Layout.{Layout}
@@ -10,6 +10,11 @@ use Rattle.spp_event.specs.Items.{items}
 abbrev pub GoesOn : List ℕ → Type 0
 GoesOn [] = Unit {0}
 GoesOn (b ∷ bs) = 128 ≤ b
+
+-- where there are bytes of a body, and those stand behind them, no item is cut between; of records it says nothing
+abbrev pub IsJoint : Version → List ℕ → List ℕ → Type 0
+IsJoint One bytes behind = Unit {0}
+IsJoint Two bytes behind = (length bytes ≡ 0) ⊎ GoesOn behind
 
 -- item i begins at that place; where there is none, it is the end
 pub record IsItemPlace (body : List ℕ) (i place : ℕ) : Type 0 where

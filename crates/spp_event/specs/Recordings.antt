@@ -1,6 +1,6 @@
 -- What contracts see of an opened trace: its names, its root function and its records, and the version and the bytes that
 -- it was read from.
-use Rattle.std.specs.Prelude.{ℕ, ◌*◌, ◌<◌, ◌≤◌, ◌^◌, List, [], length, map, take, drop, slice_index_or, Result, Err, IfOk}
+use Rattle.std.specs.Prelude.{ℕ, ◌*◌, ◌/◌, ◌<◌, ◌≤◌, ◌^◌, List, [], length, map, take, drop, slice_index_or, Result, Err, IfOk}
 use Rattle.std.specs.List.{range_with_len}
 use Rattle.spp_event.specs.declared.records.Event.{Event}
 use Rattle.spp_event.specs.declared.records.EventFault.{EventFault}
@@ -58,6 +58,11 @@ room Two count = count
 abbrev pub filled : Version → List ℕ → ℕ
 filled One body = length body
 filled Two body = length (items body)
+
+-- how many whole events they are
+abbrev pub count_in : Version → List ℕ → ℕ
+count_in One bytes = length bytes / 16
+count_in Two bytes = length (items bytes)
 
 -- the record at a position
 abbrev pub record_at : List (Result Event EventFault) → ℕ → Result Event EventFault

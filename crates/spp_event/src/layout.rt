@@ -26,6 +26,19 @@ pub(crate) fn record_in(body: &[u8], i: u32) -> Option<&[u8; RECORD]>
     record.first_chunk()
 }
 
+/// The bytes of the record at a position, where it is there.
+#[inline(always)]
+pub(crate) fn record_there(bytes: &[u8], i: u32) -> &[u8; RECORD]
+    requires { i * 16 + 16 ≤ length bytes.now }
+    ensures { result.now ≡ place bytes.now i }
+{
+    let first = i as usize * RECORD;
+    match bytes[first..first + RECORD].first_chunk() {
+        Some(record) => record,
+        None => unreachable!(),
+    }
+}
+
 /// The event of the item that begins at a place, or what is wrong with it first, and the place behind it.
 #[inline(always)]
 pub(crate) fn read_item_at(

@@ -1,11 +1,27 @@
 //! The readers of the two versions.
 
+ghost use Rattle.std.specs.Prelude.{◌≡◌, IfOk};
 ghost use Rattle.spp_event.specs.Readers.{Stands};
+ghost use Rattle.spp_event.specs.Records.{IsEventOf, read_record};
+ghost use Rattle.spp_event.specs.Recordings.{place};
 
-use crate::layout::{Layout, known_item_at, read_item_at, record_in};
+use crate::bytes_reader::BytesReader;
+use crate::layout::{Layout, known_item_at, read_item_at, record_in, record_there};
 use crate::reader::Reader;
 use crate::records::{Event, EventFault, event_of, event_said};
 use crate::traces::Trace;
+
+/// The event of the record at a position, or what is wrong with its bytes first.
+#[inline(always)]
+fn record_event_in(body: &[u8], i: u32, sites: u32, funcs: u32) -> Result<Event, EventFault>
+    ensures said { result ≡ read_record sites funcs (place body.now i) }
+    ensures within { IfOk result (λ e. IsEventOf sites funcs e) }
+{
+    match record_in(body, i) {
+        Some(record) => event_of(record, sites, funcs),
+        None => Err(EventFault::Truncated),
+    }
+}
 
 /// Reads the records of a trace of version 1, each of which is found by its position.
 #[derive(Drop)]
@@ -15,6 +31,18 @@ pub struct RecordReader;
 #[derive(Drop)]
 pub struct ItemReader {
     place: usize,
+}
+
+impl ItemReader {
+    ghost use Rattle.std.specs.Prelude.{ℕ, List};
+    ghost use Rattle.spp_event.specs.Places.{IsItemPlace};
+
+    /// What reads the items of bytes from the first on.
+    pub fn at_front() -> ItemReader
+        ensures { (bytes : List ℕ) → IsItemPlace bytes 0 result.place }
+    {
+        ItemReader { place: 0 }
+    }
 }
 
 /// Reads the events of a trace of either version. A loop over many events is best made generic over a [`Reader`], and
@@ -51,10 +79,7 @@ impl Reader for RecordReader {
     fn read(&mut self, trace: &Trace<'_>, i: u32) -> Result<Event, EventFault> {
         let sites = trace.sites.len() as u32;
         let funcs = trace.funcs.len() as u32;
-        match record_in(trace.body, i) {
-            Some(record) => event_of(record, sites, funcs),
-            None => Err(EventFault::Truncated),
-        }
+        record_event_in(trace.body, i, sites, funcs)
     }
 
     #[inline(always)]
@@ -87,6 +112,47 @@ impl Reader for ItemReader {
     fn read_known(&mut self, trace: &Trace<'_>, i: u32) -> Event {
         trace.keeps_limits();
         let (event, place) = known_item_at(trace.body, self.place);
+        self.place = place;
+        event
+    }
+}
+
+impl BytesReader for RecordReader {
+    ghost use Rattle.spp_event.specs.declared.version.Version.TheVariants.{One};
+
+    ghost version = { One };
+
+    ghost stands = { λ r bytes i. Unit {0} };
+
+    #[inline(always)]
+    fn read_in(
+        &mut self,
+        bytes: &[u8],
+        i: u32,
+        sites: u32,
+        funcs: u32,
+    ) -> Result<Event, EventFault> {
+        event_of(record_there(bytes, i), sites, funcs)
+    }
+}
+
+impl BytesReader for ItemReader {
+    ghost use Rattle.spp_event.specs.declared.version.Version.TheVariants.{Two};
+    ghost use Rattle.spp_event.specs.Places.{IsItemPlace};
+
+    ghost version = { Two };
+
+    ghost stands = { λ r bytes i. IsItemPlace bytes i r.place };
+
+    #[inline(always)]
+    fn read_in(
+        &mut self,
+        bytes: &[u8],
+        _i: u32,
+        sites: u32,
+        funcs: u32,
+    ) -> Result<Event, EventFault> {
+        let (event, place) = read_item_at(bytes, self.place, sites, funcs);
         self.place = place;
         event
     }

@@ -1,6 +1,6 @@
 -- What is known of a run that is profiled as its records come, and what is told of one.
 use Rattle.std.specs.Prelude.{◌≡◌, ℕ, ◌<◌, ◌^◌, List, [], length}
-use Rattle.spp_event.specs.declared.version.Version.TheVariants.{One}
+use Rattle.spp_event.specs.declared.version.Version.{Version}
 use Rattle.spp_event.specs.Recordings.{Recording, records_of}
 use Rattle.spp_event.specs.Header.{IsTraceOf}
 use Rattle.spp_frame.specs.Nesting.{IsWellFormed}
@@ -15,11 +15,11 @@ use Rattle.spp_shell.specs.declared.profiled_records.ProfiledRecords.{ProfiledRe
 abbrev pub profiled_by : ProfiledRecords → ℕ
 profiled_by r = seen_by r.profile
 
--- these bytes of whole records have been profiled, in a trace with the header and under the burdens of the first
-pub record IsProfiled (first now : ProfiledRecords) (bytes : List ℕ) : Type 0 where
+-- these bytes of whole events of that version have been profiled, in a trace with the header and under the burdens of the first
+pub record IsProfiled (version : Version) (first now : ProfiledRecords) (bytes : List ℕ) : Type 0 where
   pub head : now.profile.head ≡ first.profile.head
   pub burdens : now.profile.burdens ≡ first.profile.burdens
-  pub seen : HasSeen now.profile (records_of One now.profile.head.sites now.profile.head.funcs (profiled_by now) bytes)
+  pub seen : HasSeen now.profile (records_of version now.profile.head.sites now.profile.head.funcs (profiled_by now) bytes)
 
 -- the header of the trace says these numbers
 abbrev pub IsRunOf : Recording → RecordHead → Type 0

@@ -1,6 +1,7 @@
 //! The task `check`: the work of a trace, or its first fault.
 ghost use Rattle.std.specs.Prelude.{◌≡◌, ◌≤◌, ◌<◌, ◌^◌, ℕ, List, [], ◌∷◌, length, take, IfOk, IfErr};
-ghost use Rattle.spp_event.specs.Heads.{IsRecordHead};
+ghost use Rattle.spp_event.specs.Heads.{IsHeadOf};
+ghost use Rattle.spp_event.specs.Recordings.{count_in};
 ghost use Rattle.spp_shell.specs.Devices.{giving_of};
 ghost use Rattle.spp_shell.specs.Inputs.{IsInputRefused};
 ghost use Rattle.spp_shell.specs.Checked.{IsChecked, checked_by};
@@ -48,13 +49,14 @@ fn answer_check(alloc: Global, bytes: &[u8]) -> Result<Vec<u8>, Refusal>
     }
 }
 
-/// The same of a trace of version 1 whose records were checked as they came.
+/// The same of a trace whose records were checked as they came.
 fn answer_stream(alloc: Global, stream: RecordStream<CheckedRecords>) -> Result<Vec<u8>, Refusal>
-    requires { stream.filled < 16 }
-    ensures text { (first : CheckedRecordsValue) (header bytes : List ℕ) → first.sites ≡ stream.head.sites → first.funcs ≡ stream.head.funcs → HasStreamed checked_by IsChecked first stream.records stream.head header (take stream.filled stream.bytes.items) bytes → IfOk result (λ text. IsCheckText (bytes ∷ []) text.items) }
-    ensures line { (first : CheckedRecordsValue) (header bytes : List ℕ) → first.sites ≡ stream.head.sites → first.funcs ≡ stream.head.funcs → HasStreamed checked_by IsChecked first stream.records stream.head header (take stream.filled stream.bytes.items) bytes → IfErr result (λ refusal. IfLine refusal (IsCheckLine (bytes ∷ []))) }
+    requires cut { count_in stream.head.version (take stream.filled stream.bytes.items) ≡ 0 }
+    requires some { (first : CheckedRecordsValue) × (header xs : List ℕ) × (first.sites ≡ stream.head.sites) × (first.funcs ≡ stream.head.funcs) × HasStreamed checked_by IsChecked first stream.records stream.head stream.events stream.before header (take stream.filled stream.bytes.items) xs }
+    ensures text { (first : CheckedRecordsValue) (header bytes : List ℕ) → first.sites ≡ stream.head.sites → first.funcs ≡ stream.head.funcs → HasStreamed checked_by IsChecked first stream.records stream.head stream.events stream.before header (take stream.filled stream.bytes.items) bytes → IfOk result (λ text. IsCheckText (bytes ∷ []) text.items) }
+    ensures line { (first : CheckedRecordsValue) (header bytes : List ℕ) → first.sites ≡ stream.head.sites → first.funcs ≡ stream.head.funcs → HasStreamed checked_by IsChecked first stream.records stream.head stream.events stream.before header (take stream.filled stream.bytes.items) bytes → IfErr result (λ refusal. IfLine refusal (IsCheckLine (bytes ∷ []))) }
 {
-    if 16 * u64::from(stream.head.count) < stream.body_len() {
+    if stream.trails() {
         return Err(refusal_of_header(alloc, HeaderFault::Trailing));
     }
     match stream.records.check.end(stream.head.count) {
@@ -63,7 +65,7 @@ fn answer_stream(alloc: Global, stream: RecordStream<CheckedRecords>) -> Result<
     }
 }
 
-/// The same of an input that begins with the header of a trace of version 1, and of which that came.
+/// The same of an input that begins with that header, and of which that came.
 fn check_records<R: Threads + Wait + Sync, S: Source>(
     rt: &R,
     alloc: Global,
@@ -71,7 +73,7 @@ fn check_records<R: Threads + Wait + Sync, S: Source>(
     head: Head,
     came: Came,
 ) -> Result<Vec<u8>, Refusal>
-    requires head { IsRecordHead (take head.len (take came.filled came.bytes.items)) head.sites head.funcs head.count }
+    requires head { IsHeadOf head.version (take head.len (take came.filled came.bytes.items)) head.sites head.funcs head.count }
     requires within { head.len ≤ came.filled }
     ensures text { (s : S) → HasRead S.answered S.failed S.failures came.reads s (take came.filled came.bytes.items) source.old → IfOk result (λ text. (bytes : List ℕ) × (giving_of S.answered S.failed S.failures s source.new).Gave bytes × IsCheckText (bytes ∷ []) text.items) }
     ensures refused { (s : S) → HasRead S.answered S.failed S.failures came.reads s (take came.filled came.bytes.items) source.old → IfErr result (IsInputRefused (giving_of S.answered S.failed S.failures s source.new) Only IsOneCheckLine) }
@@ -82,8 +84,9 @@ fn check_records<R: Threads + Wait + Sync, S: Source>(
         sites: head.sites,
         funcs: head.funcs,
     };
-    match RecordStream::start(head, came, records).read_rest(rt, source, reads, PIECE) {
-        Ok(stream) => answer_stream(alloc, stream.end(rt)?),
+    let stream = RecordStream::start(head, came, records);
+    match stream.read_rest(rt, alloc, source, reads, PIECE) {
+        Ok(stream) => answer_stream(alloc, stream.end(rt, alloc)?),
         Err(fault) => Err(refusal_of_read(fault, Place::Only)),
     }
 }
@@ -104,10 +107,10 @@ fn check_whole<S: Source>(
 
 /// The work of the trace that an input is, as a text, or why there is none.
 ///
-/// The records of a trace of version 1 are checked as they come: the memory is that of its header, with room up to a
-/// quarter more but within the source's hint, that of 65,536 bytes, and, until the header is opened, that for its names,
-/// linear in their number. Any other input is read whole, and so is one for whose names memory is refused; where no trace
-/// begins as it does, it is refused without reading on where [`Head::of`] shows that.
+/// The events of a trace are checked as they come: the memory is that of its header, with room up to a quarter more but within
+/// the source's hint, that of 65,536 bytes, or a few times the longest item, and, until the header is opened, that for its
+/// names, linear in their number. An input of which [`Head::of`] finds no header is read whole; where no trace begins as it
+/// does, it is refused without reading on where [`Head::of`] shows that.
 pub(crate) fn check_input<R: Threads + Wait + Sync, S: Source>(
     rt: &R,
     alloc: Global,

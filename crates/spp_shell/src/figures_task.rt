@@ -1,7 +1,8 @@
 //! The task `figures`: the work, the span and the burdened span of a run, by workers that share its blocks or the parts of its
 //! trace, or its first fault.
 ghost use Rattle.std.specs.Prelude.{◌≡◌, ◌<◌, ◌≤◌, ◌^◌, ℕ, List, [], ◌∷◌, length, take, IfOk, IfErr};
-ghost use Rattle.spp_event.specs.Heads.{IsRecordHead};
+ghost use Rattle.spp_event.specs.Heads.{IsHeadOf};
+ghost use Rattle.spp_event.specs.Recordings.{count_in};
 ghost use Rattle.spp_shell.specs.Check.{IsCheckLine, IsOneCheckLine};
 ghost use Rattle.spp_shell.specs.Devices.{giving_of};
 ghost use Rattle.spp_shell.specs.Figured.{AreBehind, IsFigured, figured_by};
@@ -20,7 +21,7 @@ use crate::input::{read_front, read_rest_or_refuse, refusal_of_read};
 use crate::opening::{open_or_refuse, refusal_of_event, refusal_of_header};
 use crate::place::Place;
 use crate::reading_on::Front;
-use crate::record_stream::{BLOCK, Head, RecordStream};
+use crate::record_stream::{Head, RecordStream};
 use crate::records::Records;
 use crate::refusal::Refusal;
 use crate::source::Source;
@@ -55,20 +56,20 @@ fn answer_figures<R: Threads + Wait + Sync>(
     }
 }
 
-/// The same of a trace of version 1 whose records came as a stream.
+/// The same of a trace whose records came as a stream.
 fn answer_stream<R: Threads + Wait + Sync>(
     rt: &R,
     alloc: Global,
     stream: RecordStream<FiguredRecords>,
 ) -> Result<Vec<u8>, Refusal>
-    requires cut { stream.filled < 16 }
-    requires some { (first : FiguredRecordsValue) × (header xs : List ℕ) × AreBehind stream.head first × HasStreamed figured_by IsFigured first stream.records stream.head header (take stream.filled stream.bytes.items) xs }
-    ensures text { (first : FiguredRecordsValue) (header bytes : List ℕ) → AreBehind stream.head first → HasStreamed figured_by IsFigured first stream.records stream.head header (take stream.filled stream.bytes.items) bytes
+    requires cut { count_in stream.head.version (take stream.filled stream.bytes.items) ≡ 0 }
+    requires some { (first : FiguredRecordsValue) × (header xs : List ℕ) × AreBehind stream.head first × HasStreamed figured_by IsFigured first stream.records stream.head stream.events stream.before header (take stream.filled stream.bytes.items) xs }
+    ensures text { (first : FiguredRecordsValue) (header bytes : List ℕ) → AreBehind stream.head first → HasStreamed figured_by IsFigured first stream.records stream.head stream.events stream.before header (take stream.filled stream.bytes.items) bytes
         → IfOk result (λ text. IsFiguresText first.figures.burdens (bytes ∷ []) text.items) }
-    ensures line { (first : FiguredRecordsValue) (header bytes : List ℕ) → AreBehind stream.head first → HasStreamed figured_by IsFigured first stream.records stream.head header (take stream.filled stream.bytes.items) bytes
+    ensures line { (first : FiguredRecordsValue) (header bytes : List ℕ) → AreBehind stream.head first → HasStreamed figured_by IsFigured first stream.records stream.head stream.events stream.before header (take stream.filled stream.bytes.items) bytes
         → IfErr result (λ refusal. IfLine refusal (IsCheckLine (bytes ∷ []))) }
 {
-    if 16 * u64::from(stream.head.count) < stream.body_len() {
+    if stream.trails() {
         stream.records.let_go(rt);
         return Err(refusal_of_header(alloc, HeaderFault::Trailing));
     }
@@ -89,10 +90,10 @@ fn records_behind(
     request: &Request,
     head: Head,
 ) -> Result<FiguredRecords, AllocError>
-    requires { (header : List ℕ) × IsRecordHead header head.sites head.funcs head.count }
+    requires { (header : List ℕ) × IsHeadOf head.version header head.sites head.funcs head.count }
     ensures behind { IfOk result (AreBehind head) }
     ensures burdens { IfOk result (λ records. records.figures.burdens ≡ request.now.burdens) }
-    ensures seen { IfOk result (λ records. (figured_by records ≡ 0) × IsFigured records records []) }
+    ensures seen { IfOk result (λ records. (figured_by records ≡ 0) × IsFigured head.version records records []) }
     ensures asked { IfOk result (λ records. records.workers ≡ request.now.workers) }
 {
     // The function of the root doesn't matter to the figures.
@@ -109,7 +110,7 @@ fn records_behind(
     })
 }
 
-/// The figures of the run whose trace an input gives, which begins with that header of version 1, and of which that came.
+/// The figures of the run whose trace an input gives, which begins with that header, and of which that came.
 fn figure_records<R: Threads + Wait + Sync, S: Source>(
     rt: &R,
     alloc: Global,
@@ -119,15 +120,16 @@ fn figure_records<R: Threads + Wait + Sync, S: Source>(
     records: FiguredRecords,
     came: Came,
 ) -> Result<Vec<u8>, Refusal>
-    requires records { AreBehind head records × (records.figures.burdens ≡ burdens) × (figured_by records ≡ 0) × IsFigured records records [] }
-    requires head { IsRecordHead (take head.len (take came.filled came.bytes.items)) head.sites head.funcs head.count }
+    requires records { AreBehind head records × (records.figures.burdens ≡ burdens) × (figured_by records ≡ 0) × IsFigured head.version records records [] }
+    requires head { IsHeadOf head.version (take head.len (take came.filled came.bytes.items)) head.sites head.funcs head.count }
     requires within { head.len ≤ came.filled }
     ensures text { (s : S) → HasRead S.answered S.failed S.failures came.reads s (take came.filled came.bytes.items) source.old → IfOk result (λ text. (bytes : List ℕ) × (giving_of S.answered S.failed S.failures s source.new).Gave bytes × IsFiguresText burdens (bytes ∷ []) text.items) }
     ensures refused { (s : S) → HasRead S.answered S.failed S.failures came.reads s (take came.filled came.bytes.items) source.old → IfErr result (IsInputRefused (giving_of S.answered S.failed S.failures s source.new) Only IsOneCheckLine) }
 {
     let reads = came.reads;
-    match RecordStream::start(head, came, records).read_rest(rt, source, reads, BLOCK) {
-        Ok(stream) => answer_stream(rt, alloc, stream.end(rt)?),
+    let stream = RecordStream::start(head, came, records);
+    match stream.read_rest(rt, alloc, source, reads, head.block_len()) {
+        Ok(stream) => answer_stream(rt, alloc, stream.end(rt, alloc)?),
         Err(fault) => Err(refusal_of_read(fault, Place::Only)),
     }
 }
@@ -151,9 +153,9 @@ fn figure_whole<R: Threads + Wait + Sync, S: Source>(
 
 /// The figures of the run whose trace an input gives, as a text, or why there is none.
 ///
-/// The records of a trace of version 1 are read in blocks of 65,536 as they come, and let go; by two workers or more each block
-/// is read by a thread of its own, while the next ones come. Any other input is read whole first, and cut into parts, and so is
-/// one where memory is refused for its header; where no trace begins as it does, it is refused without reading on where [`Head::of`] shows that.
+/// The events of a trace are read in blocks as they come, and let go; by two workers or more each block is read by a thread of
+/// its own, while the next ones come. An input of which [`Head::of`] finds no header is read whole, and cut into parts; where no
+/// trace begins as it does, it is refused without reading on where [`Head::of`] shows that.
 pub(crate) fn figures_input<R: Threads + Wait + Sync, S: Source>(
     rt: &R,
     alloc: Global,

@@ -1,5 +1,7 @@
 //! Where the header of a trace ends, before it is opened.
 
+ghost use Rattle.std.specs.Prelude.{◌≤◌, length};
+
 use spp_event::is_name;
 
 /// The bytes before the names.
@@ -67,6 +69,27 @@ fn names_behind(bytes: &[u8]) -> Option<u64> {
     }
 }
 
+/// How many bytes of these are worth opening for their header: in version 2, where it names few, those of the header alone, since
+/// the items behind it would be gone over; else all. It is advice, as [`HeaderEnd`] is.
+pub(crate) fn header_len(bytes: &[u8]) -> usize
+    ensures { result ≤ length bytes.now }
+{
+    let Some(names) = names_behind(bytes) else {
+        return bytes.len();
+    };
+    if bytes.first_chunk() != Some(b"SPTRACE2") || names > FEW_NAMES {
+        return bytes.len();
+    }
+    let mut at = NUMBERS;
+    for _ in 0..names {
+        match next_in(bytes, at) {
+            Next::Name(end) => at = end,
+            _ => return bytes.len(),
+        }
+    }
+    at.min(bytes.len())
+}
+
 /// Whether a front is worth opening for its faults alone: it names few functions and sites, or no trace begins with its
 /// numbers.
 pub(crate) fn is_opened_early(bytes: &[u8]) -> bool {
@@ -117,20 +140,18 @@ impl HeaderEnd {
     }
 
     /// Where the next name begins; none where the numbers before the names aren't there. Where no trace begins with these,
-    /// no name is left. Of version 2, which is read whole, few names are looked at.
+    /// no name is left.
     fn begun(&mut self, bytes: &[u8]) -> Option<usize> {
         if self.at.is_none() {
-            let is_compact = bytes.first_chunk() == Some(b"SPTRACE2");
-            let most = if is_compact { FEW_NAMES } else { self.most };
-            self.names = names_behind(bytes)?.min(most);
+            self.names = names_behind(bytes)?.min(self.most);
             self.at = Some(NUMBERS);
         }
         self.at
     }
 
     /// Whether the header ends within these bytes, or begins with 24 bytes or names that are bad; they are those of the calls
-    /// before and more. Where it ends, two sites may still have one name, and late names be bad. All calls together take a time linear in the bytes of the
-    /// header, and in the number of calls.
+    /// before and more. Where it ends, two sites may still have one name, and late names be bad. All calls together take a time
+    /// linear in the bytes of the header, and in the number of calls.
     pub(crate) fn is_in(&mut self, bytes: &[u8]) -> bool {
         let Some(mut at) = self.begun(bytes) else {
             return false;

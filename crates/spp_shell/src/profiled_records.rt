@@ -3,6 +3,7 @@ ghost use Rattle.spp_shell.specs.Profiled.{IsProfiled, profiled_by};
 
 use crate::records::Records;
 use spp_crew::RecordProfile;
+use spp_event::Version;
 use std::alloc::{AllocError, Global};
 use std::sync::Wait;
 use std::thread::Threads;
@@ -24,15 +25,19 @@ impl Records for ProfiledRecords {
     fn followed_by<R: Threads + Wait + Sync>(
         self,
         rt: &R,
+        version: Version,
         bytes: Vec<u8>,
         len: usize,
+        count: u32,
     ) -> Result<(Self, Vec<u8>), AllocError> {
         let ProfiledRecords {
             profile,
             alloc,
             workers,
         } = self;
-        let (profile, room) = profile.followed_by_block(rt, alloc, bytes, len, workers)?;
+        let (profile, room) = profile.followed_by_events(
+            rt, alloc, version, bytes, len, count, workers,
+        )?;
         let records = ProfiledRecords {
             profile,
             alloc,

@@ -1,8 +1,8 @@
 //! The profile of the run whose trace an input gives.
 ghost use Rattle.std.specs.Prelude.{◌≡◌, ◌<◌, ◌≤◌, ◌^◌, ◌++◌, ℕ, List, length, take, IfOk, IfSome, IfErr};
-ghost use Rattle.spp_event.specs.Heads.{IsRecordHead};
+ghost use Rattle.spp_event.specs.Heads.{IsHeadOf};
 ghost use Rattle.spp_event.specs.Header.{IsTraceOf};
-ghost use Rattle.spp_event.specs.Recordings.{Recording};
+ghost use Rattle.spp_event.specs.Recordings.{Recording, count_in};
 ghost use Rattle.spp_shell.specs.Check.{IsOneCheckLine, TellsHeader};
 ghost use Rattle.spp_shell.specs.Devices.{giving_of};
 ghost use Rattle.spp_shell.specs.Inputs.{IsInputRefused};
@@ -20,7 +20,7 @@ use crate::place::Place;
 use crate::profile_task::profile_or_refuse;
 use crate::profiled_records::ProfiledRecords;
 use crate::reading_on::Front;
-use crate::record_stream::{BLOCK, Head, RecordStream};
+use crate::record_stream::{Head, RecordStream};
 use crate::records::Records;
 use crate::refusal::Refusal;
 use crate::source::Source;
@@ -79,15 +79,15 @@ fn profile_of_stream<R: Threads + Wait + Sync>(
     alloc: Global,
     stream: RecordStream<ProfiledRecords>,
 ) -> Result<Profile, Refusal>
-    requires cut { stream.filled < 16 }
-    requires some { (first : ProfiledRecordsValue) × (trace : Recording) × (header xs : List ℕ) × IsRunOf trace first.profile.head × IsTraceOf header trace × HasStreamed profiled_by IsProfiled first stream.records stream.head header (take stream.filled stream.bytes.items) xs }
+    requires cut { count_in stream.head.version (take stream.filled stream.bytes.items) ≡ 0 }
+    requires some { (first : ProfiledRecordsValue) × (trace : Recording) × (header xs : List ℕ) × IsRunOf trace first.profile.head × IsTraceOf header trace × HasStreamed profiled_by IsProfiled first stream.records stream.head stream.events stream.before header (take stream.filled stream.bytes.items) xs }
     ensures small { IfOk result (λ p. p.figures.work < 2 ^ 92) }
-    ensures profile { (first : ProfiledRecordsValue) (trace : Recording) (header bytes : List ℕ) → IsRunOf trace first.profile.head → IsTraceOf header trace → HasStreamed profiled_by IsProfiled first stream.records stream.head header (take stream.filled stream.bytes.items) bytes
+    ensures profile { (first : ProfiledRecordsValue) (trace : Recording) (header bytes : List ℕ) → IsRunOf trace first.profile.head → IsTraceOf header trace → HasStreamed profiled_by IsProfiled first stream.records stream.head stream.events stream.before header (take stream.filled stream.bytes.items) bytes
         → IfOk result (λ p. IsProfiledBy first.profile.burdens bytes trace p) }
-    ensures line { (first : ProfiledRecordsValue) (trace : Recording) (header bytes : List ℕ) → IsRunOf trace first.profile.head → IsTraceOf header trace → HasStreamed profiled_by IsProfiled first stream.records stream.head header (take stream.filled stream.bytes.items) bytes
+    ensures line { (first : ProfiledRecordsValue) (trace : Recording) (header bytes : List ℕ) → IsRunOf trace first.profile.head → IsTraceOf header trace → HasStreamed profiled_by IsProfiled first stream.records stream.head stream.events stream.before header (take stream.filled stream.bytes.items) bytes
         → IfErr result (λ refusal. IfLine refusal (IsOneCheckLine bytes)) }
 {
-    if 16 * u64::from(stream.head.count) < stream.body_len() {
+    if stream.trails() {
         stream.records.let_go(rt);
         return Err(refusal_of_header(alloc, HeaderFault::Trailing));
     }
@@ -98,7 +98,7 @@ fn profile_of_stream<R: Threads + Wait + Sync>(
     }
 }
 
-/// What is told of an input that begins with the header of this trace of version 1, and of which that came, or why nothing is:
+/// What is told of an input that begins with the header of this trace, and of which that came, or why nothing is:
 /// its records are profiled as they come.
 fn tell_records<R: Threads + Wait + Sync, S: Source, T: Telling>(
     rt: &R,
@@ -113,7 +113,7 @@ fn tell_records<R: Threads + Wait + Sync, S: Source, T: Telling>(
     telling: &T,
 ) -> Result<T::Told, Refusal>
     requires records { IsBeginning trace.now request.now.burdens records }
-    requires head { IsRecordHead (take head.len (take came.filled came.bytes.items)) head.sites head.funcs head.count }
+    requires head { IsHeadOf head.version (take head.len (take came.filled came.bytes.items)) head.sites head.funcs head.count }
     requires trace { IsTraceOf (take head.len (take came.filled came.bytes.items)) trace.now }
     requires within { head.len ≤ came.filled }
     ensures told { (s : S) → HasRead S.answered S.failed S.failures came.reads s (take came.filled came.bytes.items) source.old → IfOk result (λ told. (bytes : List ℕ) × (giving_of S.answered S.failed S.failures s source.new).Gave bytes × IsTold (T.tells telling.now) request.now.burdens bytes told) }
@@ -121,8 +121,8 @@ fn tell_records<R: Threads + Wait + Sync, S: Source, T: Telling>(
 {
     let reads = came.reads;
     let stream = RecordStream::start(head, came, records);
-    let stream = match stream.read_rest(rt, source, reads, BLOCK) {
-        Ok(stream) => stream.end(rt)?,
+    let stream = match stream.read_rest(rt, alloc, source, reads, head.block_len()) {
+        Ok(stream) => stream.end(rt, alloc)?,
         Err(fault) => return Err(refusal_of_read(fault, place)),
     };
     let profile = profile_of_stream(rt, alloc, stream)?;
@@ -160,14 +160,14 @@ fn records_of(
     })
 }
 
-/// The header of a trace of version 1 that these bytes begin with, and its bytes, where it names few call sites; none where
+/// The header of a trace that these bytes begin with, and its bytes, where it names few call sites; none where
 /// they don't, or an allocation failed.
 ///
 /// # Errors
 ///
 /// Where no trace begins with these bytes, but for what [`open_front`](crate::opening::open_front) says.
 fn header_of(alloc: Global, bytes: &[u8]) -> Result<Option<(Head, Vec<u8>)>, Refusal>
-    ensures head { IfOk result (λ o. IfSome o (λ h. IsRecordHead (take h.0.len bytes.now) h.0.sites h.0.funcs h.0.count)) }
+    ensures head { IfOk result (λ o. IfSome o (λ h. IsHeadOf h.0.version (take h.0.len bytes.now) h.0.sites h.0.funcs h.0.count)) }
     ensures within { IfOk result (λ o. IfSome o (λ h. h.0.len ≤ length bytes.now)) }
     ensures bytes { IfOk result (λ o. IfSome o (λ h. h.1.items ≡ take h.0.len bytes.now)) }
     ensures refused { IfErr result (λ refusal. IfLine refusal (λ line. (more : List ℕ) → TellsHeader (bytes.now ++ more) line)) }
@@ -190,10 +190,10 @@ fn header_of(alloc: Global, bytes: &[u8]) -> Result<Option<(Head, Vec<u8>)>, Ref
 
 /// What is told of the run whose trace an input gives, or why nothing is.
 ///
-/// The records of a trace of version 1 that names few call sites are profiled as they come, in blocks of 65,536 records, and let
-/// go; by two workers or more each block is read by a thread of its own, while the next ones come. Any other input is read
-/// whole first, and so is one where memory is refused for its header or for the beginning of its profile; where no trace
-/// begins as it does, it is refused without reading on where [`open_front`](crate::opening::open_front) shows that.
+/// The events of a trace that names few call sites are profiled as they come, in blocks, and let go; by two workers or more each
+/// block is read by a thread of its own, while the next ones come. Any other input is read whole first, and so is one where
+/// memory is refused for its header or for the beginning of its profile; where no trace begins as it does, it is refused without
+/// reading on where [`open_front`](crate::opening::open_front) shows that.
 pub(crate) fn tell_input<R: Threads + Wait + Sync, S: Source, T: Telling>(
     rt: &R,
     alloc: Global,

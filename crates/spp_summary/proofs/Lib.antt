@@ -7,3 +7,4 @@ pub mod Totals
 pub mod Weights
 pub mod Inwards
 pub mod Changes
+pub mod ReadAccounts

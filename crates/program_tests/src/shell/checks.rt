@@ -53,10 +53,10 @@ impl Read for Pieces<'_> {
 }
 
 /// Sizes of pieces that cut records in all ways, for a small trace.
-const SMALL: &[&[usize]] = &[&[1], &[16], &[7, 0, 0, 25], &[100, 3, 15], &[65536]];
+pub(super) const SMALL: &[&[usize]] = &[&[1], &[16], &[7, 0, 0, 25], &[100, 3, 15], &[65536]];
 
 /// Sizes near those that are read at a time, for a large one.
-const LARGE: &[&[usize]] = &[&[4099], &[65535, 0, 2], &[65536], &[1000000]];
+pub(super) const LARGE: &[&[usize]] = &[&[4099], &[65535, 0, 2], &[65536], &[1000000]];
 
 /// What a run ends with: its status, its output and its line of fault.
 #[derive(Drop)]
@@ -75,10 +75,10 @@ impl Ending {
 }
 
 /// What is asked: a command, by so many workers.
-type Asked = (Command, u32);
+pub(super) type Asked = (Command, u32);
 
 /// The same work of all commands that read records as they come, by one worker and by several.
-const ASKED: &[Asked] = &[
+pub(super) const ASKED: &[Asked] = &[
     (Command::Check, 1),
     (Command::Figures, 1),
     (Command::Figures, 4),
@@ -178,7 +178,7 @@ fn got<R: Threads + Wait + Sync + RandomSource + AllocGlobal>(
 }
 
 /// Whether pieces of these sizes end as all the bytes at once, and so do the bytes of a file whose length is known.
-fn ends_alike<R: Threads + Wait + Sync + RandomSource + AllocGlobal>(
+pub(super) fn ends_alike<R: Threads + Wait + Sync + RandomSource + AllocGlobal>(
     rt: &R,
     asked: &[Asked],
     bytes: &[u8],
@@ -210,7 +210,7 @@ fn numbers(alloc: Global, sites: u32, events: u32) -> Result<Vec<u8>, AllocError
 }
 
 /// The header of a trace of so many sites, whose names have six bytes, and of so many events.
-fn header(alloc: Global, sites: u32, events: u32) -> Result<Vec<u8>, AllocError> {
+pub(super) fn header(alloc: Global, sites: u32, events: u32) -> Result<Vec<u8>, AllocError> {
     let mut bytes = numbers(alloc, sites, events)?;
     bytes.extend_from_slice(b"\x00\x04main\x00\x01f")?;
     for site in 0..sites {
@@ -236,7 +236,7 @@ fn event_at(at: u32) -> Event {
 }
 
 /// A trace of so many sites and events.
-fn trace(alloc: Global, sites: u32, events: u32) -> Result<Vec<u8>, AllocError> {
+pub(super) fn trace(alloc: Global, sites: u32, events: u32) -> Result<Vec<u8>, AllocError> {
     let mut bytes = header(alloc, sites, events)?;
     for at in 0..events {
         bytes.extend_from_slice(record_of(event_at(at)).as_slice())?;

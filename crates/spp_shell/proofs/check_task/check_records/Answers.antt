@@ -14,7 +14,7 @@ returns-in_err-end-in-Ok-clause-refused g c = λ s h.
     let came : List ℕ = take c.args.came.filled c.args.came.bytes.items in
     let header : List ℕ = take c.args.head.len came in
     let first : CheckedRecords = record { check = c.new.result; sites = c.args.head.sites; funcs = c.args.head.funcs } in
-    let q = c.in-Ok.ensures.read s first header came h c.start.ensures.streamed in
+    let q = c.in-Ok.ensures.read s first header came h c.start-stream.ensures.streamed in
     err_again _ Memory _ c.from_residual.ensures.1 (inr (q.0, q.1))
 
 pub returns-in_ok-end-in-Ok-clause-text : goal.returns-in_ok-end-in-Ok-clause-text
@@ -23,9 +23,9 @@ returns-in_ok-end-in-Ok-clause-text g c = λ s h.
     let came : List ℕ = take c.args.came.filled c.args.came.bytes.items in
     let header : List ℕ = take c.args.head.len came in
     let first : CheckedRecords = record { check = c.new.result; sites = c.args.head.sites; funcs = c.args.head.funcs } in
-    let q = c.in-Ok.ensures.read s first header came h c.start.ensures.streamed in
+    let q = c.in-Ok.ensures.read s first header came h c.start-stream.ensures.streamed in
     let e = c.in_ok-end-in-Ok.ensures in
-    let same = e.head ∙ c.in-Ok.ensures.head ∙ c.start.ensures.head in
+    let same = e.head ∙ c.in-Ok.ensures.head ∙ c.start-stream.ensures.head in
     check_answered (λ text. text.items) input q.0 q.1 c.answer_stream.result
     (c.answer_stream.ensures.text first header q.0 (sym (ap (λ h. h.sites) same)) (sym (ap (λ h. h.funcs) same)) (e.streamed first header q.0 q.2))
 
@@ -35,9 +35,9 @@ returns-in_ok-end-in-Ok-clause-refused g c = λ s h.
     let came : List ℕ = take c.args.came.filled c.args.came.bytes.items in
     let header : List ℕ = take c.args.head.len came in
     let first : CheckedRecords = record { check = c.new.result; sites = c.args.head.sites; funcs = c.args.head.funcs } in
-    let q = c.in-Ok.ensures.read s first header came h c.start.ensures.streamed in
+    let q = c.in-Ok.ensures.read s first header came h c.start-stream.ensures.streamed in
     let e = c.in_ok-end-in-Ok.ensures in
-    let same = e.head ∙ c.in-Ok.ensures.head ∙ c.start.ensures.head in
+    let same = e.head ∙ c.in-Ok.ensures.head ∙ c.start-stream.ensures.head in
     check_refused (λ text. text.items) input q.0 q.1 c.answer_stream.result (inr (q.0, q.1))
     (c.answer_stream.ensures.line first header q.0 (sym (ap (λ h. h.sites) same)) (sym (ap (λ h. h.funcs) same)) (e.streamed first header q.0 q.2))
 
@@ -47,12 +47,22 @@ returns-in-Err-clause-refused g c = λ s h.
     let came : List ℕ = take c.args.came.filled c.args.came.bytes.items in
     let header : List ℕ = take c.args.head.len came in
     let first : CheckedRecords = record { check = c.new.result; sites = c.args.head.sites; funcs = c.args.head.funcs } in
-    read_refused input Only IsOneCheckLine c.in-Err.fault c.refusal_of_read.result c.refusal_of_read.ensures (c.in-Err.ensures.refused s first header came h c.start.ensures.streamed) (λ r. inl r.0)
+    read_refused input Only IsOneCheckLine c.in-Err.fault c.refusal_of_read.result c.refusal_of_read.ensures (c.in-Err.ensures.refused s first header came h c.start-stream.ensures.streamed) (λ r. inl r.0)
 
 pub end-requires-after_bounds : goal.end-requires-after_bounds
 end-requires-after_bounds g c κs within =
     let came : List ℕ = take c.args.came.filled c.args.came.bytes.items in
     let header : List ℕ = take c.args.head.len came in
     let first : CheckedRecords = record { check = c.new.result; sites = c.args.head.sites; funcs = c.args.head.funcs } in
-    let q = c.in-Ok.ensures.streamed first header came c.start.ensures.streamed in
+    let q = c.in-Ok.ensures.streamed first header came c.start-stream.ensures.streamed in
     (first, header, q.0, q.1)
+
+pub answer_stream-requires-clause-some : goal.answer_stream-requires-clause-some
+answer_stream-requires-clause-some g c =
+    let came : List ℕ = take c.args.came.filled c.args.came.bytes.items in
+    let header : List ℕ = take c.args.head.len came in
+    let first : CheckedRecords = record { check = c.new.result; sites = c.args.head.sites; funcs = c.args.head.funcs } in
+    let q = c.in-Ok.ensures.streamed first header came c.start-stream.ensures.streamed in
+    let e = c.in_ok-end-in-Ok.ensures in
+    let same = e.head ∙ c.in-Ok.ensures.head ∙ c.start-stream.ensures.head in
+    (first, header, q.0, sym (ap (λ h. h.sites) same), sym (ap (λ h. h.funcs) same), e.streamed first header q.0 q.1)

@@ -17,7 +17,7 @@ returns-in_err-end-in-Ok-clause-refused g c = λ s h.
     let input : Giving = giving_of g.S.Source.answered g.S.Source.failed g.S.Source.failures s c.read_rest.new.source in
     let came : List ℕ = take c.args.came.filled c.args.came.bytes.items in
     let header : List ℕ = take c.args.head.len came in
-    let q = c.in-Ok.ensures.read s c.args.records header came h c.start.ensures.streamed in
+    let q = c.in-Ok.ensures.read s c.args.records header came h c.start-stream.ensures.streamed in
     err_again _ Memory _ c.from_residual.ensures.1 (inr (q.0, q.1))
 
 pub returns-in_ok-end-in-Ok-clause-text : goal.returns-in_ok-end-in-Ok-clause-text
@@ -25,9 +25,9 @@ returns-in_ok-end-in-Ok-clause-text g c = λ s h.
     let input : Giving = giving_of g.S.Source.answered g.S.Source.failed g.S.Source.failures s c.read_rest.new.source in
     let came : List ℕ = take c.args.came.filled c.args.came.bytes.items in
     let header : List ℕ = take c.args.head.len came in
-    let q = c.in-Ok.ensures.read s c.args.records header came h c.start.ensures.streamed in
+    let q = c.in-Ok.ensures.read s c.args.records header came h c.start-stream.ensures.streamed in
     let e = c.in_ok-end-in-Ok.ensures in
-    let same = e.head ∙ c.in-Ok.ensures.head ∙ c.start.ensures.head in
+    let same = e.head ∙ c.in-Ok.ensures.head ∙ c.start-stream.ensures.head in
     let behind = subst (λ (x : Head). AreBehind x c.args.records) (sym same) c.requires.records.0 in
     told_of_given input q.0 q.1 (λ bytes text. IsFiguresText c.args.burdens (bytes ∷ []) text.items) c.answer_stream.result
     (subst (λ (b : Burdens). IfOk c.answer_stream.result (λ text. IsFiguresText b (q.0 ∷ []) text.items)) c.requires.records.1 (c.answer_stream.ensures.text c.args.records header q.0 behind (e.streamed c.args.records header q.0 q.2)))
@@ -37,9 +37,9 @@ returns-in_ok-end-in-Ok-clause-refused g c = λ s h.
     let input : Giving = giving_of g.S.Source.answered g.S.Source.failed g.S.Source.failures s c.read_rest.new.source in
     let came : List ℕ = take c.args.came.filled c.args.came.bytes.items in
     let header : List ℕ = take c.args.head.len came in
-    let q = c.in-Ok.ensures.read s c.args.records header came h c.start.ensures.streamed in
+    let q = c.in-Ok.ensures.read s c.args.records header came h c.start-stream.ensures.streamed in
     let e = c.in_ok-end-in-Ok.ensures in
-    let same = e.head ∙ c.in-Ok.ensures.head ∙ c.start.ensures.head in
+    let same = e.head ∙ c.in-Ok.ensures.head ∙ c.start-stream.ensures.head in
     let behind = subst (λ (x : Head). AreBehind x c.args.records) (sym same) c.requires.records.0 in
     check_refused (λ text. text.items) input q.0 q.1 c.answer_stream.result (inr (q.0, q.1))
     (c.answer_stream.ensures.line c.args.records header q.0 behind (e.streamed c.args.records header q.0 q.2))
@@ -49,21 +49,21 @@ returns-in-Err-clause-refused g c = λ s h.
     let input : Giving = giving_of g.S.Source.answered g.S.Source.failed g.S.Source.failures s c.read_rest.new.source in
     let came : List ℕ = take c.args.came.filled c.args.came.bytes.items in
     let header : List ℕ = take c.args.head.len came in
-    read_refused input Only IsOneCheckLine c.in-Err.fault c.refusal_of_read.result c.refusal_of_read.ensures (c.in-Err.ensures.refused s c.args.records header came h c.start.ensures.streamed) (λ r. inl r.0)
+    read_refused input Only IsOneCheckLine c.in-Err.fault c.refusal_of_read.result c.refusal_of_read.ensures (c.in-Err.ensures.refused s c.args.records header came h c.start-stream.ensures.streamed) (λ r. inl r.0)
 
 pub end-requires-after_bounds : goal.end-requires-after_bounds
 end-requires-after_bounds g c κs within =
     let came : List ℕ = take c.args.came.filled c.args.came.bytes.items in
     let header : List ℕ = take c.args.head.len came in
-    let q = c.in-Ok.ensures.streamed c.args.records header came c.start.ensures.streamed in
+    let q = c.in-Ok.ensures.streamed c.args.records header came c.start-stream.ensures.streamed in
     (c.args.records, header, q.0, q.1)
 
 pub answer_stream-requires-clause-some : goal.answer_stream-requires-clause-some
 answer_stream-requires-clause-some g c κs within =
     let came : List ℕ = take c.args.came.filled c.args.came.bytes.items in
     let header : List ℕ = take c.args.head.len came in
-    let q = c.in-Ok.ensures.streamed c.args.records header came c.start.ensures.streamed in
+    let q = c.in-Ok.ensures.streamed c.args.records header came c.start-stream.ensures.streamed in
     let e = c.in_ok-end-in-Ok.ensures in
-    let same = e.head ∙ c.in-Ok.ensures.head ∙ c.start.ensures.head in
+    let same = e.head ∙ c.in-Ok.ensures.head ∙ c.start-stream.ensures.head in
     let behind = subst (λ (x : Head). AreBehind x c.args.records) (sym same) c.requires.records.0 in
     (c.args.records, header, q.0, behind, e.streamed c.args.records header q.0 q.1)
