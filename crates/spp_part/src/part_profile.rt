@@ -123,8 +123,9 @@ impl Reading {
         if self.counting.depth() == 0 && !self.settled {
             return self.end(alloc, at, End::Sync);
         }
-        self.ways.wait(self.counting.takes());
+        let takes = self.counting.takes();
         self.counting.sync();
+        self.ways.wait(takes);
         Ok(())
     }
 
@@ -218,7 +219,7 @@ impl PartProfile {
     /// number of a site and of a function up to the greatest in the part.
     ///
     /// For each of its stretches it takes 128 bytes for each pair of a call site and a function that calls by it, and at worst,
-    /// where nearly each pair is new, for each frame that closes in the part and was opened there; and 96 for each of these
+    /// where nearly each pair is new, for each frame that closes in the part and was opened there; and 112 for each of these
     /// frames that was on a greatest way, on either path, as it returned. A stretch ends at each return of a frame that was open
     /// before, and at the first sync of such a frame: each takes 24 bytes, and some 450 more if it isn't strands alone. Each
     /// frame that the part leaves open takes some 280. All that is up to twice as much with spare room, and more where stretches

@@ -1,14 +1,16 @@
 //! The profile of a run so far.
 
-ghost use Rattle.std.specs.Prelude.{◌≡◌, suc, ◌+◌, ◌≤◌, ◌<◌, ◌^◌, ℕ, Bool, false, length, Err, OnOk, IfOk, IfErr, OnErr};
+ghost use Rattle.std.specs.Prelude.{◌≡◌, suc, ◌+◌, ◌≤◌, ◌<◌, ◌^◌, ℕ, Bool, true, false, length, Err, OnOk, IfOk, IfErr, OnErr};
 ghost use Rattle.spp_event.specs.Recordings.{Recording, InLimits, AreEventsOf, record_at};
 ghost use Rattle.spp_maxplus.specs.declared.state.Burdens.{Burdens as BurdensValue};
 ghost use Rattle.spp_maxplus.specs.State.{unburdened};
 ghost use Rattle.spp_dag.specs.Figures.{AreFigures};
 ghost use Rattle.spp_frame.specs.Answers.{IsFaultOf};
 ghost use Rattle.spp_frame.specs.declared.profile_fault.ProfileFault.TheVariants.{Bad};
+ghost use Rattle.spp_frame.specs.declared.Why.TheVariants.{RootReturn};
 ghost use Rattle.spp_site.specs.Profiles.{IsDagTable, IsPathTable, IsProfileOf};
 ghost use Rattle.spp_event.specs.declared.records.Event.{Event as EventValue};
+ghost use Rattle.spp_event.specs.declared.records.Event.TheVariants.{Ret as RetEvent, Sync as SyncEvent};
 ghost use Rattle.spp_part.specs.Readings.{Opens};
 ghost use Rattle.spp_part.specs.States.{IsEventAt};
 ghost use Rattle.spp_part.specs.Parts.{IsPartProfile, IsSoFar, Stands, GoesOn, stretch_of, stored_of, end_event, settles};
@@ -111,6 +113,44 @@ impl ProfileSoFar {
         Ok(())
     }
 
+    /// The innermost frame waits.
+    #[inline(always)]
+    fn sync(&mut self)
+        requires { (trace : Recording) × (burdens : BurdensValue) × (at : ℕ) × Stands trace burdens at false self.old.counting self.old.ways × IsEventAt trace at SyncEvent × (at < length trace.records) }
+        ensures stands { (trace : Recording) (burdens : BurdensValue) (at : ℕ) → Stands trace burdens at false self.old.counting self.old.ways → IsEventAt trace at SyncEvent → at < length trace.records → Stands trace burdens (suc at) true self.new.counting self.new.ways }
+        ensures events { self.new.events ≡ self.old.events }
+    {
+        let takes = self.counting.takes();
+        self.counting.sync();
+        self.ways.wait(takes);
+    }
+
+    /// The innermost frame returns, if it isn't the root; gives whether it does.
+    ///
+    /// # Errors
+    ///
+    /// Where an allocation failed.
+    #[inline(always)]
+    fn ret(&mut self, alloc: Global, burdens: Burdens) -> Result<bool, AllocError>
+        requires { (trace : Recording) × (at : ℕ) × Stands trace burdens at false self.old.counting self.old.ways × IsEventAt trace at RetEvent × (at < length trace.records) }
+        ensures stands { IfOk result (λ returns. returns ≡ true → (trace : Recording) (at : ℕ) → Stands trace burdens at false self.old.counting self.old.ways → IsEventAt trace at RetEvent → at < length trace.records → Stands trace burdens (suc at) false self.new.counting self.new.ways) }
+        ensures fault { IfOk result (λ returns. returns ≡ false → (trace : Recording) (at : ℕ) → Stands trace burdens at false self.old.counting self.old.ways → IsEventAt trace at RetEvent → at < length trace.records → IsFaultOf trace.records (Bad (record { at = at; why = RootReturn }))) }
+        ensures events { self.new.events ≡ self.old.events }
+    {
+        let Some(closing) = self.counting.ret(burdens)? else {
+            return Ok(false);
+        };
+        self.ways.ret(
+            alloc,
+            closing.kind,
+            closing.takes,
+            closing.wins,
+            closing.site,
+            &closing.closed,
+        )?;
+        Ok(true)
+    }
+
     /// The innermost frame returns, or waits, at `at`.
     ///
     /// # Errors
@@ -129,22 +169,11 @@ impl ProfileSoFar {
         ensures events { self.new.events ≡ self.old.events }
     {
         match end {
-            End::Sync => {
-                self.ways.wait(self.counting.takes());
-                self.counting.sync();
-            }
+            End::Sync => self.sync(),
             End::Return => {
-                let Some(closing) = self.counting.ret(burdens)? else {
+                if !self.ret(alloc, burdens)? {
                     return Err(bad(at, Why::RootReturn));
-                };
-                self.ways.ret(
-                    alloc,
-                    closing.kind,
-                    closing.takes,
-                    closing.wins,
-                    closing.site,
-                    &closing.closed,
-                )?;
+                }
             }
         }
         Ok(())
@@ -173,8 +202,14 @@ impl ProfileSoFar {
             }
             Event::Call { site, func } => self.open(FrameKind::Called, site, func)?,
             Event::Spawn { site, func } => self.open(FrameKind::Spawned, site, func)?,
-            Event::Ret => self.end(alloc, burdens, self.events, End::Return)?,
-            Event::Sync => self.end(alloc, burdens, self.events, End::Sync)?,
+            // Not by `end`: with that in it twice this would grow too large to be inlined.
+            Event::Ret => {
+                let returns = self.ret(alloc, burdens)?;
+                if !returns {
+                    return Err(bad(self.events, Why::RootReturn));
+                }
+            }
+            Event::Sync => self.sync(),
         }
         self.events += 1;
         Ok(())

@@ -153,29 +153,30 @@ impl Calls {
             self.add_at(k, frame);
             return Ok(());
         }
-        self.add_aside(place, site, caller, frame)
+        self.add_aside(place, site, caller, *frame)
     }
 
-    /// The same, where no row is at that place.
+    /// The same, where no row is at that place. It takes the frame by its value, so that the caller has no need to keep one in
+    /// memory.
     #[inline(never)]
     fn add_aside(
         &mut self,
         place: usize,
         site: u32,
         caller: u32,
-        frame: &ClosedFrame,
+        frame: ClosedFrame,
     ) -> Result<(), AllocError>
-        requires { (n : ℕ) × (n < 2 ^ 32) × AreLight n self.old.rows.items × IsLightFrame frame.now }
-        ensures added { OnOk result (AreAdded site caller frame.now self.old.rows.items self.new.rows.items) }
-        ensures light { OnOk result ((n : ℕ) → AreLight n self.old.rows.items → IsLightFrame frame.now → AreLight (n + 1) self.new.rows.items) }
+        requires { (n : ℕ) × (n < 2 ^ 32) × AreLight n self.old.rows.items × IsLightFrame frame }
+        ensures added { OnOk result (AreAdded site caller frame self.old.rows.items self.new.rows.items) }
+        ensures light { OnOk result ((n : ℕ) → AreLight n self.old.rows.items → IsLightFrame frame → AreLight (n + 1) self.new.rows.items) }
     {
         for step in 1..PROBES {
             if let Some(k) = self.at(self.next(place, step), site, caller) {
-                self.add_at(k, frame);
+                self.add_at(k, &frame);
                 return Ok(());
             }
         }
-        self.push(site, caller, frame)
+        self.push(site, caller, &frame)
     }
 
     /// The place so many steps behind.

@@ -204,10 +204,11 @@ impl CountedFrame {
         ensures plain { result.plain ≡ outruns (state_of self.now).child (self.now.plain.spine + child.plain) }
         ensures burdened { result.burdened ≡ outruns (burdened_state_of self.now).child (self.now.burdened.spine + (child.burdened + burdens.join)) }
     {
-        let through = self.burdened.spine + (child.burdened + u128::from(burdens.join));
+        let joined = child.burdened + u128::from(burdens.join);
         OnPaths {
             plain: self.child.is_none() || self.plain.child < self.plain.spine + child.plain,
-            burdened: self.burdened_child.is_none() || self.burdened.child < through,
+            burdened: self.burdened_child.is_none()
+                || self.burdened.child < self.burdened.spine + joined,
         }
     }
 

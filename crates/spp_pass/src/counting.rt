@@ -245,8 +245,8 @@ impl Counting {
         ensures { OnOk result ((n : Notes) → seen_with self.new n ≡ open_seen kind at site func (seen_with self.old n)) }
     {
         let top_caller = self.frames[self.frames.len() - 1].top_func;
-        let top_site = !self.open_sites.has(site);
-        let top_func = !self.open_funcs.has(func);
+        let top_site = self.open_sites.insert(site)?;
+        let top_func = self.open_funcs.insert(func)?;
         self.frames.push(CountedFrame {
             plain: Weights::start(),
             burdened: Weights::start(),
@@ -262,8 +262,6 @@ impl Counting {
             top_caller,
             top_func,
         })?;
-        self.open_sites.add(site)?;
-        self.open_funcs.add(func)?;
         Ok(())
     }
 
@@ -309,12 +307,12 @@ impl Counting {
             return None;
         }
         let child = &self.frames[last];
-        let closed = child.closed(self.work);
-        self.open_sites.remove_if(child.top_site, child.site);
-        self.open_funcs.remove_if(child.top_func, child.func);
         let returned = child.returned();
-        let site = child.site;
         let takes = child.takes();
+        let closed = child.closed(self.work);
+        let site = child.site;
+        self.open_sites.remove_if(child.top_site, site);
+        self.open_funcs.remove_if(child.top_func, child.func);
         self.frames.truncate(last);
         let parent = &mut self.frames[last - 1];
         let wins = parent.wins(returned, burdens);
@@ -349,13 +347,13 @@ impl Counting {
             return Ok(None);
         }
         let child = &self.frames[last];
-        let closed = child.closed(self.work);
-        self.table.close(child.site, &closed)?;
-        self.open_sites.remove_if(child.top_site, child.site);
-        self.open_funcs.remove_if(child.top_func, child.func);
         let returned = child.returned();
-        let site = child.site;
         let takes = child.takes();
+        let closed = child.closed(self.work);
+        let site = child.site;
+        self.table.close(site, &closed)?;
+        self.open_sites.remove_if(child.top_site, site);
+        self.open_funcs.remove_if(child.top_func, child.func);
         self.frames.truncate(last);
         let parent = &mut self.frames[last - 1];
         let wins = parent.wins(returned, burdens);

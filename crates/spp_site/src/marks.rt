@@ -1,6 +1,6 @@
 //! A set of small numbers.
 
-ghost use Rattle.std.specs.Prelude.{◌≡◌, ◌||◌, ℕ, [], true, false, cond, nat_eq, OnOk, OnErr};
+ghost use Rattle.std.specs.Prelude.{◌≡◌, ◌<◌, ◌≤◌, ◌||◌, ℕ, [], length, true, false, not, cond, nat_eq, OnOk, OnErr, IfOk};
 ghost use Rattle.spp_site.specs.Marks.{is_marked, with_mark, without};
 
 use std::alloc::{AllocError, Global};
@@ -44,7 +44,44 @@ impl Marks {
         }
     }
 
-    /// Puts a number in. It takes constant time, amortized, behind a step for each number up to the greatest.
+    /// Makes bits up to that of a number. It is seldom called, and inlined would take registers where it isn't.
+    ///
+    /// # Errors
+    ///
+    /// Where an allocation failed; the set then is as it was.
+    #[cold]
+    #[inline(never)]
+    fn reach(&mut self, x: u32) -> Result<(), AllocError>
+        requires { length self.old ≤ x }
+        ensures room { OnOk result (x < length self.new) }
+        ensures same { OnOk result ((y : ℕ) → is_marked self.new y ≡ is_marked self.old y) }
+        ensures stays { OnErr result (self.new ≡ self.old) }
+    {
+        self.bits.resize(x as usize + 1, false)
+    }
+
+    /// Puts a number in, and tells whether it was missing. It takes constant time, amortized, behind a step for each number
+    /// up to the greatest.
+    ///
+    /// # Errors
+    ///
+    /// Where an allocation failed; the set then is as it was.
+    #[inline(always)]
+    pub fn insert(&mut self, x: u32) -> Result<bool, AllocError>
+        ensures missing { IfOk result (λ missing. missing ≡ not (is_marked self.old x)) }
+        ensures added { OnOk result ((y : ℕ) → is_marked self.new y ≡ with_mark x (is_marked self.old) y) }
+        ensures stays { OnErr result (self.new ≡ self.old) }
+    {
+        let place = x as usize;
+        if self.bits.len() <= place {
+            self.reach(x)?;
+        }
+        let missing = !self.bits[place];
+        self.bits[place] = true;
+        Ok(missing)
+    }
+
+    /// Puts a number in; see [`Marks::insert`].
     ///
     /// # Errors
     ///
@@ -54,11 +91,7 @@ impl Marks {
         ensures added { OnOk result ((y : ℕ) → is_marked self.new y ≡ with_mark x (is_marked self.old) y) }
         ensures stays { OnErr result (self.new ≡ self.old) }
     {
-        let place = x as usize;
-        if self.bits.len() <= place {
-            self.bits.resize(place + 1, false)?;
-        }
-        self.bits[place] = true;
+        self.insert(x)?;
         Ok(())
     }
 
@@ -94,7 +127,7 @@ impl Marks {
         ensures { (y : ℕ) → is_marked self.new y ≡ without out x (is_marked self.old) y }
     {
         if let Some(bit) = self.bits.get_mut(x as usize) {
-            *bit = *bit && !out;
+            *bit &= !out;
         }
     }
 }

@@ -128,7 +128,21 @@ impl Table {
             frame.add_to(&mut self.rows[place].row);
             return Ok(());
         }
-        self.add(site, &frame.row())
+        self.add_first(site, &frame.row())
+    }
+
+    /// The same as [`Table::add`], for a site that has no row: it is seldom called, and inlined would take registers where it
+    /// isn't.
+    #[cold]
+    #[inline(never)]
+    fn add_first(&mut self, site: u32, row: &Row) -> Result<(), AllocError>
+        requires limit { site < 65536 }
+        requires fits { Fits (plus (row_at self.old site) row.now) }
+        ensures added { OnOk result (IsAdded self.old self.new site row.now) }
+        ensures stays { OnErr result (self.new ≡ self.old) }
+        ensures no_zero_row { HasNoZeroRow self.new }
+    {
+        self.add(site, row)
     }
 
     /// No row of a site is zero. Its contract is what it is for.

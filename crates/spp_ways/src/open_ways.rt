@@ -133,6 +133,20 @@ impl LoggedWays {
         if takes { self.through } else { self.along }
     }
 
+    /// The frame waits, and takes the child that waits in it or not: it goes on so, and no child waits any longer. Gives where
+    /// the way on which it goes on ends in the log.
+    #[inline(always)]
+    fn settle(&mut self, takes: bool) -> u32
+        ensures ways { self.new ≡ record { along = chosen takes self.old; through = nothing } }
+        ensures rows { result ≡ (chosen takes self.old).rows }
+    {
+        if takes {
+            self.along = self.through;
+        }
+        self.through = LoggedWay::none();
+        self.along.rows
+    }
+
     /// How many rows of the log are needed for the ways that stay where a frame of that kind returns, which wins against
     /// the child that waits or not.
     #[inline(always)]
@@ -197,10 +211,8 @@ impl LoggedWays {
             FrameKind::Called => self.along.rows = rows,
             FrameKind::Spawned => {
                 if wins {
-                    self.through = LoggedWay {
-                        rows,
-                        own: self.along.own,
-                    };
+                    self.through.rows = rows;
+                    self.through.own = self.along.own;
                 }
             }
         }
@@ -310,6 +322,18 @@ impl FrameWays {
         }
     }
 
+    /// Counts the stored rows of a child that returns, and has its own merged no sooner than the child's. Where nothing is
+    /// stored for the child, its limit is that with which frames are opened.
+    #[inline(always)]
+    fn take_over(&mut self, stored: u32, limit: u32)
+        ensures { (s : ℕ) × (l : ℕ) × (self.new ≡ record self.old { stored = s; limit = l }) }
+    {
+        if stored > 0 {
+            self.stored = self.stored.saturating_add(stored);
+            self.limit = self.limit.max(limit);
+        }
+    }
+
     /// Whether its rows are to be merged, where the log has so many.
     #[inline(always)]
     fn is_full(&self, rows: u32) -> bool
@@ -375,7 +399,7 @@ const MOST_STORED: usize = u32::MAX as usize;
 /// itself, and the greatest way through a child that waits in it, with the closed frames that they enter. Which child a
 /// frame takes, and which of two children is kept, is told by whoever keeps their weights.
 ///
-/// A closed frame that a way enters takes a row of 96 bytes in a log; rows behind the last one that a way ends with are cut
+/// A closed frame that a way enters takes a row of 112 bytes in a log; rows behind the last one that a way ends with are cut
 /// off. Where the rows of an open frame are more than 256, and more than half of the trace's call sites, those of its ways
 /// are merged: what they add to each site is stored, in some 128 bytes a site for each way and path, up to four times
 /// that with spare room. What is stored counts towards the next time, which is not before twice as much. An open frame takes
@@ -463,11 +487,9 @@ impl OpenWays {
     {
         let last = self.frames.len() - 1;
         let frame = &mut self.frames[last];
-        let plain = frame.plain.chosen(takes.plain);
-        let burdened = frame.burdened.chosen(takes.burdened);
-        let needed = frame.start.max(plain.rows).max(burdened.rows);
-        frame.plain = LoggedWays::going_on(plain);
-        frame.burdened = LoggedWays::going_on(burdened);
+        let plain = frame.plain.settle(takes.plain);
+        let burdened = frame.burdened.settle(takes.burdened);
+        let needed = frame.start.max(plain).max(burdened);
         self.log.cut(needed);
     }
 
@@ -555,8 +577,7 @@ impl OpenWays {
         })?;
         parent.plain.come(kind, wins.plain, rows);
         parent.burdened.come(kind, wins.burdened, rows);
-        parent.stored = parent.stored.saturating_add(stored);
-        parent.limit = parent.limit.max(limit);
+        parent.take_over(stored, limit);
         Ok(parent.is_full(rows))
     }
 

@@ -19,5 +19,5 @@ returns c trace burdens first ahead =
       notes = m;
       ended = is.ended;
       going = sync_goes trace burdens is.bounds first is.to c.args.at ahead.within r.settled (seen_with r.counting is.notes) r.calls.rows.items r.ways is.going
-          (seen_with c.sync.new.self m) c.wait.new.self c.args.at c.takes.result c.takes.ensures outer ahead.at (c.sync.ensures c.args.at is.notes) (w.stretch is.going.last.laid) w.rows w.enclosed;
+          (seen_with c.sync.new.self m) c.wait.new.self c.args.at c.takes-takes.result c.takes-takes.ensures outer ahead.at (c.sync.ensures c.args.at is.notes) (w.stretch is.going.last.laid) w.rows w.enclosed;
     }

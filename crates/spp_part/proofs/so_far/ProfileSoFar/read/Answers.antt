@@ -1,4 +1,4 @@
-use Rattle.std.proofs.Common.{suc, ◌≡◌, ◌<◌, true, false, length, refl, sym, subst, ◌∙◌, arith}
+use Rattle.std.proofs.Common.{suc, ◌≡◌, true, false, refl, sym, subst, ◌∙◌, arith}
 use Rattle.spp_event.specs.declared.records.Event.{Event}
 use Rattle.spp_event.specs.declared.records.Event.TheVariants.{Strand, Call, Spawn, Ret, Sync}
 use Rattle.spp_part.specs.declared.so_far.ProfileSoFar.{ProfileSoFar}
@@ -6,7 +6,7 @@ use Rattle.spp_part.specs.States.{IsEventAt}
 use Rattle.spp_part.specs.Parts.{Stands}
 use Rattle.spp_part.proofs.Nexts.{unsettled, can_add, fit_strand, strand_next}
 use Rattle.spp_part.proofs.so_far.ProfileSoFar.read.Goals as goal
-use Rattle.spp_part.proofs.so_far.ProfileSoFar.read.Goals.{in-Strand, in-Call+in_ok-open-in-Call, in-Spawn+in_ok-open-in-Spawn, in-Ret+in_ok-end-in-Ret, in-Sync+in_ok-end-in-Sync}
+use Rattle.spp_part.proofs.so_far.ProfileSoFar.read.Goals.{in-Strand, in-Call+in_ok-open-in-Call, in-Spawn+in_ok-open-in-Spawn, in-Ret+in_ok-returns-in-Ret+else-not-returns, in-Sync}
 
 pub strand-requires : goal.strand-requires
 strand-requires c =
@@ -38,15 +38,13 @@ returns-clause-so_far c trace i so at lt =
           let f = w.in_ok-open-in-Spawn.ensures in
           subst Now (sym w.self-is)
           (f.stands trace b i (Spawn w.in-Spawn.site w.in-Spawn.func) refl so (is (Spawn w.in-Spawn.site w.in-Spawn.func) w.in-Spawn.is) lt, f.events ∙ so.1)
-      | in-Ret+in_ok-end-in-Ret w ↦
-          let f = w.in_ok-end-in-Ret.ensures in
-          let st = f.stands trace (subst (λ k. Stands trace b k false old.counting old.ways) (sym so.1) so.0) (subst (λ k. IsEventAt trace k Ret) (sym so.1) (is Ret w.in-Ret.is)) (subst (λ k. k < length trace.records) (sym so.1) lt) in
-          subst Now (sym w.self-is) (subst (λ k. Stands trace b (suc k) false w.end.new.self.counting w.end.new.self.ways) so.1 st, f.events ∙ so.1)
-      | in-Sync+in_ok-end-in-Sync w ↦
-          let f = w.in_ok-end-in-Sync.ensures in
-          let st = f.stands trace (subst (λ k. Stands trace b k false old.counting old.ways) (sym so.1) so.0) (subst (λ k. IsEventAt trace k Sync) (sym so.1) (is Sync w.in-Sync.is)) (subst (λ k. k < length trace.records) (sym so.1) lt) in
+      | in-Ret+in_ok-returns-in-Ret+else-not-returns w ↦
+          let f = w.in_ok-returns-in-Ret.ensures in
+          subst Now (sym w.self-is) (f.stands w.if-not-returns.false trace i so.0 (is Ret w.in-Ret.is) lt, w.ret.ensures.events ∙ so.1)
+      | in-Sync w ↦
+          let f = w.sync.ensures in
           subst Now (sym w.self-is) (
-            unsettled trace b (suc i) true w.end-in-Sync.new.self.counting w.end-in-Sync.new.self.ways (subst (λ k. Stands trace b (suc k) true w.end-in-Sync.new.self.counting w.end-in-Sync.new.self.ways) so.1 st),
+            unsettled trace b (suc i) true w.sync.new.self.counting w.sync.new.self.ways (f.stands trace b i so.0 (is Sync w.in-Sync.is) lt),
             f.events ∙ so.1,
           )
     ] in

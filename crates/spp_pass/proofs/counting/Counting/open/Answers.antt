@@ -20,15 +20,15 @@ returns c n =
     let same : read ≡ t.top = c.index.ensures ∙ ap (λ k. get_or fs k read) at ∙ t.get read in
     let made : Weights → Weights → Bool → Bool → Bool → CountedFrame =
     λ p b x y z. record (opened_frame c.args.kind c.args.at site func s.work x y z) { plain = p; burdened = b } in
-    let new : CountedFrame = made c.start.result c.start-2.result (not c.has-top_site.result) read.top_func (not c.has-top_func.result) in
+    let new : CountedFrame = made c.start.result c.start-2.result c.in_ok-top_site.top_site read.top_func c.in_ok-top_func.top_func in
     let is : new ≡ made start start (not (s.open_sites site)) t.top.top_func (not (s.open_funcs func)) =
-    ap₂ (λ p b. made p b (not c.has-top_site.result) read.top_func (not c.has-top_func.result)) c.start.ensures c.start-2.ensures
-    ∙ ap₂ (λ x z. made start start (not x) read.top_func (not z)) c.has-top_site.ensures c.has-top_func.ensures
+    ap₂ (λ p b. made p b c.in_ok-top_site.top_site read.top_func c.in_ok-top_func.top_func) c.start.ensures c.start-2.ensures
+    ∙ ap₂ (λ x z. made start start x read.top_func z) c.in_ok-top_site.ensures.missing c.in_ok-top_func.ensures.missing
     ∙ ap (λ (f : CountedFrame). made start start (not (s.open_sites site)) f.top_func (not (s.open_funcs func))) same in
     let pushed : c.push.new.self.items ≡ fs ++ new ∷ [] = c.in_ok-push.ensures.items in
     let opens : List CountedFrame → List CountedFrame = λ l. open_frames c.args.kind c.args.at site func s l in
     let frames : reverse c.push.new.self.items ≡ opens (reverse fs) =
     ap reverse pushed ∙ reverse-append fs (new ∷ []) ∙ ap₂ (λ x l. x ∷ l) is t.is ∙ ap opens (sym t.is) in
-    let sites = c.in_ok-add.ensures.added in
-    let funcs = c.in_ok-add-2.ensures.added in
+    let sites = c.in_ok-top_site.ensures.added in
+    let funcs = c.in_ok-top_func.ensures.added in
     λ j. record { frames = frames j; open_sites = λ y. sites y j; open_funcs = λ y. funcs y j; work = s.work; table = s.table; ends = s.ends; joins = s.joins; burdened_joins = s.burdened_joins }

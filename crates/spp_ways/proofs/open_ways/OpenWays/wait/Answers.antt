@@ -2,11 +2,10 @@ use Rattle.std.proofs.Common.{◌≡◌, ℕ, ◌-◌, ◌≤◌, ◌<◌, max, 
 use Rattle.spp_site.proofs.LastFirst.{topped}
 use Rattle.spp_ways.specs.declared.log.LogRow.{LogRow}
 use Rattle.spp_ways.specs.declared.open_ways.OnPaths.{OnPaths}
-use Rattle.spp_ways.specs.declared.open_ways.LoggedWay.{LoggedWay}
 use Rattle.spp_ways.specs.declared.open_ways.LoggedWays.{LoggedWays}
 use Rattle.spp_ways.specs.declared.open_ways.FrameWays.{FrameWays}
 use Rattle.spp_ways.specs.declared.open_ways.OpenWays.{OpenWays}
-use Rattle.spp_ways.specs.OpenWays.{Laid, chosen, nothing}
+use Rattle.spp_ways.specs.OpenWays.{Laid, chosen}
 use Rattle.spp_ways.proofs.Returning.{chosen_in, waited_frame}
 use Rattle.spp_ways.proofs.Enclosed.{Waited, waited_linked, waited_laid, waited_all, waited_stretch, waited_enclosed}
 use Rattle.spp_ways.proofs.open_ways.OpenWays.wait.Goals as goal
@@ -15,7 +14,7 @@ use Rattle.spp_ways.proofs.open_ways.OpenWays.wait.Goals as goal
 abbrev opens : goal.After-cut → List FrameWays
 opens c =
     let old : FrameWays = c.index_mut-frame.result.now in
-    set c.args.self.now.frames.items (c.len-last.result - 1) (record { plain = c.going_on-frame.result; burdened = c.going_on-frame-2.result; start = old.start; stored = old.stored; limit = old.limit })
+    set c.args.self.now.frames.items (c.len-last.result - 1) (record { plain = c.settle-plain.new.self; burdened = c.settle-burdened.new.self; start = old.start; stored = old.stored; limit = old.limit })
 
 waited : (c : goal.After-cut) → Waited c.args.takes c.args.self.now c.cut.new.self.rows.items (opens c)
 waited c =
@@ -29,21 +28,18 @@ waited c =
     let old : FrameWays = c.index_mut-frame.result.now in
     let top : old ≡ t.top = c.index_mut-frame.ensures.value ∙ ap (λ k. get_or fs k old) at ∙ t.get old in
     let frame = λ (a b : LoggedWays). let f : FrameWays = record { plain = a; burdened = b; start = old.start; stored = old.stored; limit = old.limit } in f in
-    let on_along = λ (w : LoggedWay). let v : LoggedWays = record { along = w; through = nothing } in v in
-    let plain : c.chosen-plain.result ≡ chosen takes.plain t.top.plain = c.chosen-plain.ensures ∙ ap (λ (f : FrameWays). chosen takes.plain f.plain) top in
-    let burdened : c.chosen-burdened.result ≡ chosen takes.burdened t.top.burdened = c.chosen-burdened.ensures ∙ ap (λ (f : FrameWays). chosen takes.burdened f.burdened) top in
-    let moved : set fs (c.len-last.result - 1) (frame c.going_on-frame.result c.going_on-frame-2.result) ≡ set fs (length fs - 1) (waited_frame takes t.top) =
+    let moved : set fs (c.len-last.result - 1) (frame c.settle-plain.new.self c.settle-burdened.new.self) ≡ set fs (length fs - 1) (waited_frame takes t.top) =
     ap₂ (λ (k : ℕ) (f : FrameWays). set fs k f) at
-    (ap₂ frame (c.going_on-frame.ensures ∙ ap on_along c.chosen-plain.ensures) (c.going_on-frame-2.ensures ∙ ap on_along c.chosen-burdened.ensures) ∙ ap (waited_frame takes) top) in
+    (ap₂ frame c.settle-plain.ensures.ways c.settle-burdened.ensures.ways ∙ ap (waited_frame takes) top) in
     let laid : Laid (length items) (t.top ∷ t.below) = subst (Laid (length items)) t.is c.requires.laid.frames in
     let cut : c.cut.new.self.rows.items ≡ take c.max-needed.result items = c.cut.ensures in
     let begin : old.start ≡ t.top.start = ap (λ (f : FrameWays). f.start) top in
-    let p : c.chosen-plain.result.rows ≡ (chosen takes.plain t.top.plain).rows = ap (λ (w : LoggedWay). w.rows) plain in
-    let b : c.chosen-burdened.result.rows ≡ (chosen takes.burdened t.top.burdened).rows = ap (λ (w : LoggedWay). w.rows) burdened in
+    let p : c.settle-plain.result ≡ (chosen takes.plain t.top.plain).rows = c.settle-plain.ensures.rows ∙ ap (λ (f : FrameWays). (chosen takes.plain f.plain).rows) top in
+    let b : c.settle-burdened.result ≡ (chosen takes.burdened t.top.burdened).rows = c.settle-burdened.ensures.rows ∙ ap (λ (f : FrameWays). (chosen takes.burdened f.burdened).rows) top in
     let in_plain = chosen_in (length items) takes.plain t.top.plain laid.1 in
     let in_burdened = chosen_in (length items) takes.burdened t.top.burdened laid.2 in
     let in_start : t.top.start ≤ length items = laid.0 in
-    let needed : c.max-needed.result ≡ max (max old.start c.chosen-plain.result.rows) c.chosen-burdened.result.rows = c.max-needed.ensures ∙ ap (λ k. max k c.chosen-burdened.result.rows) c.max.ensures in
+    let needed : c.max-needed.result ≡ max (max old.start c.settle-plain.result) c.settle-burdened.result = c.max-needed.ensures ∙ ap (λ k. max k c.settle-burdened.result) c.max.ensures in
     let n1 : t.top.start ≤ c.max-needed.result = omega arith in
     let n2 : (chosen takes.plain t.top.plain).rows ≤ c.max-needed.result = omega arith in
     let n3 : (chosen takes.burdened t.top.burdened).rows ≤ c.max-needed.result = omega arith in
