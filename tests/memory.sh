@@ -97,9 +97,9 @@ each_refused() { # NAME STATUS STARTS OUT ERR INPUT PROGRAM WORDS..: what the pr
 # Each call twice: of the crew figures, profile, the same in three rounds, and marks by two workers, with 1, 1, 4 and 3 threads.
 each_refused 'the calls' 0 18 "$(cat "$tests/../crates/memory_probe/stdout")" '' /dev/null "$probe"
 
-# A round has a thread for each worker but one. `profile` of a trace of many call sites, which is read whole, has three rounds,
-# and settles its paths on two threads; of any other, which comes in blocks, it has a thread for each block. With one worker it
-# has none.
+# A round has a thread for each worker but one. `profile` by several workers of a trace of many call sites, which is read whole,
+# has three rounds, and settles its paths on two threads; of any other, which comes in blocks, it has a thread for each block.
+# With one worker it has none.
 examples=$tests/../examples
 head -c 23 "$examples/small.sptrace" > "$folder/short"
 { head -c 100 "$examples/small.sptrace"; head -c 16 /dev/zero | tr '\0' '\5'; } > "$folder/tag"
@@ -174,7 +174,7 @@ each_refused 'advise, many call sites' 0 8 'work 10*' '' "$folder/many" "$spprof
 each_refused 'advise, a bad event' 1 3 '' 'bad event 4: tag' "$folder/tag" "$spprof" advise
 each_refused 'advise as a table, one call site' 0 0 'name,*' '' "$examples/small.compact" "$spprof" advise --csv --site A --workers 1
 each_refused 'advise, no such call site' 1 0 '' 'no such call site' "$examples/small.sptrace" "$spprof" advise --site B
-# An input of 69 MB, for the peaks below, with more call sites than a profile by blocks takes.
+# An input of 69 MB, for the peaks below, with more call sites than several workers profile by blocks.
 awk 'BEGIN { print "func f"; for (n = 0; n < 1025; n++) print "site s" n
     for (n = 0; n < 4300000; n++) print "strand", n % 7 }' | "$spprof" encode > "$folder/long"
 peak_of() { # STATUS WORDS..: the peak memory in KiB of the program, which reads standard input and ends with that status
@@ -199,10 +199,13 @@ peaks_within() { # BOUND STATUS INPUT WORDS..: so many KiB are used at most, and
 }
 # Where all of an input is read, that takes at most 1.3 times its size from a pipe, and 1.1 times by name, where its length
 # is known. The size is a little more than 2^26 bytes: room that doubles would be nearly twice that, and room that isn't made
-# once passes 1.1. `profile` reads all where there are many call sites.
+# once passes 1.1. `profile` reads all where there are many call sites and several workers.
 size=$(($(stat -c %s "$folder/long") / 1024))
-peaks_within $((size * 13 / 10)) 0 "$folder/long" profile --workers 1
-peaks_within $((size * 11 / 10)) 0 "$folder/long" profile --workers 1 "$folder/long"
+peaks_within $((size * 13 / 10)) 0 "$folder/long" profile --workers 2
+peaks_within $((size * 11 / 10)) 0 "$folder/long" profile --workers 2 "$folder/long"
+# By one worker it goes by blocks.
+peaks_within 32000 0 "$folder/long" profile --workers 1
+peaks_within 32000 0 "$folder/long" profile --workers 1 "$folder/long"
 # `advise` reads every trace whole, and has a byte for each event, a sixteenth of the size, besides.
 peaks_within $((size * 13 / 10)) 0 "$folder/long" advise --workers 1
 peaks_within $((size * 12 / 10)) 0 "$folder/long" advise --workers 1 "$folder/long"
@@ -249,6 +252,11 @@ peaks_within 24000 0 "$folder/headed" check "$folder/headed"
 size=$(($(stat -c %s "$folder/compact") / 1024))
 peaks_within 20000 0 "$folder/compact" check
 peaks_within 20000 0 "$folder/compact" figures --workers 1 "$folder/compact"
+# More than 2^25 events of a trace of many call sites aren't kept by several workers either.
+{ awk 'BEGIN { print "func f"; for (n = 0; n < 1025; n++) print "site s" n }' && yes 'strand 5' | head -n 33554433; } |
+    "$spprof" encode | "$spprof" migrate > "$folder/compact"
+size=$(($(stat -c %s "$folder/compact") / 1024))
+peaks_within 32000 0 "$folder/compact" profile --workers 2 "$folder/compact"
 # The first run's bytes are let go before the second is read: the peak is that of the larger run, and not of both.
 one=$(peak_of 0 profile "$folder/long")
 both=$(peak_of 0 compare "$folder/long" "$folder/long")

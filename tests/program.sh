@@ -409,6 +409,15 @@ judge 'tables of a million nested calls in blocks' 0 "name,*${lf}(root),1,0,1,5,
 (ulimit -v 1200000 && timeout 60 "$spprof" profile --csv --workers 3 "$folder/nested.compact" > "$folder/out" 2> "$folder/err")
 status=$?
 judge 'tables of a million nested calls in blocks of version 2' 0 "name,*${lf}(root),1,0,1,5,5,1,5,5,1,0,1,5,5,1,5,5,1,0,1,5,5,1,5,5${lf}A,1000000,5,1,5,5,1,5,5,1000000,5,1,5,5,1,5,5,1000000,5,1,5,5,1,5,5$lf" ''
+# Of many call sites one worker goes over three blocks, and several read the trace whole: both tell the same, in either version.
+awk 'BEGIN { print "func f\nfunc g"; for (n = 0; n < 1030; n++) print "site s" n
+    for (n = 0; n < 50000; n++) print (n % 3 ? "call" : "spawn"), n * 7 % 1030, n % 2 "\nstrand", n % 11 "\nreturn" (n % 5 ? "" : "\nsync") }' |
+    "$spprof" encode > "$folder/many"
+"$spprof" migrate < "$folder/many" > "$folder/many.compact"
+wanted=$("$spprof" profile --csv --workers 4 "$folder/many")
+for many in many many.compact; do
+    expect "tables of many call sites in blocks, $many" 0 "$wanted$lf" '' /dev/null profile --csv --workers 1 "$folder/$many"
+done
 # The marks of the path by way of 65,536 parts, without a list of all open frames for each.
 (ulimit -v 700000 && timeout 60 "$printer" marks 65536 3 < "$folder/nested" > "$folder/out" 2> "$folder/err")
 status=$?

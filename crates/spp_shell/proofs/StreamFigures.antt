@@ -1,5 +1,5 @@
 -- The figures of a run whose records came as a stream.
-use Rattle.std.proofs.Common.{◌≡◌, ◌⊎◌, ℕ, ◌+◌, ◌-◌, ◌≤◌, ◌<◌, List, ◌++◌, length, refl, sym, ap, subst, ◌∙◌, append_assoc, length-append, arith}
+use Rattle.std.proofs.Common.{◌≡◌, ℕ, ◌-◌, ◌≤◌, List, ◌++◌, length, refl, sym, ap, subst, ◌∙◌, append_assoc, arith}
 use Rattle.spp_event.specs.Recordings.{Record, Recording, AreEventsOf, records_of, count_in, filled, room}
 use Rattle.spp_event.specs.Header.{IsTraceOf}
 use Rattle.spp_event.proofs.JoinedEvents.{events_cut}

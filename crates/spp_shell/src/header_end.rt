@@ -2,6 +2,7 @@
 
 ghost use Rattle.std.specs.Prelude.{◌≤◌, length};
 
+use spp_crew::FEW_SITES;
 use spp_event::is_name;
 
 /// The bytes before the names.
@@ -16,6 +17,10 @@ const MOST_EVENTS: u32 = 1 << 28;
 /// A header that names at most so many functions and sites is opened twice where its trace is read whole: once for its
 /// faults, before more is read, and then with the trace. For so few names that takes no time that counts.
 const FEW_NAMES: u64 = 1 << 11;
+
+/// The most events of a trace of more call sites than [`FEW_SITES`] that is kept for its profile where several workers share it, which
+/// is faster than one alone: 537 MB of version 1.
+const MOST_KEPT: u32 = 1 << 25;
 
 /// A name that begins within so many bytes is judged when it is there, a later one when the header ends.
 const JUDGED: usize = 1 << 16;
@@ -69,17 +74,14 @@ fn names_behind(bytes: &[u8]) -> Option<u64> {
     }
 }
 
-/// How many bytes of these are worth opening for their header: in version 2, where it names few, those of the header alone, since
-/// the items behind it would be gone over; else all. It is advice, as [`HeaderEnd`] is.
+/// How many of these bytes are the header that they begin with: 24, where no trace begins with its numbers, and all, where a name
+/// isn't whole or is bad. It is advice, as [`HeaderEnd`] is.
 pub(crate) fn header_len(bytes: &[u8]) -> usize
     ensures { result ≤ length bytes.now }
 {
     let Some(names) = names_behind(bytes) else {
         return bytes.len();
     };
-    if bytes.first_chunk() != Some(b"SPTRACE2") || names > FEW_NAMES {
-        return bytes.len();
-    }
     let mut at = NUMBERS;
     for _ in 0..names {
         match next_in(bytes, at) {
@@ -90,15 +92,31 @@ pub(crate) fn header_len(bytes: &[u8]) -> usize
     at.min(bytes.len())
 }
 
+/// How many of these bytes are worth opening for their header: where it names few, as many as [`header_len`] says; else all, since
+/// to find where many names end takes longer than to go over the events that came.
+pub(crate) fn front_len(bytes: &[u8]) -> usize
+    ensures { result ≤ length bytes.now }
+{
+    if is_opened_early(bytes) {
+        header_len(bytes)
+    } else {
+        bytes.len()
+    }
+}
+
 /// Whether a front is worth opening for its faults alone: it names few functions and sites, or no trace begins with its
 /// numbers.
 pub(crate) fn is_opened_early(bytes: &[u8]) -> bool {
     names_behind(bytes).is_some_and(|names| names <= FEW_NAMES)
 }
 
-/// How many sites a header names; none where that isn't there.
-pub(crate) fn sites_named(bytes: &[u8]) -> Option<u32> {
-    word(bytes, 12)
+/// Whether a trace with that header is kept for its profile by so many workers; one whose numbers aren't there is. It is advice, as
+/// [`HeaderEnd`] is.
+pub(crate) fn is_kept(bytes: &[u8], workers: u32) -> bool {
+    let (Some(sites), Some(events)) = (word(bytes, 12), word(bytes, 20)) else {
+        return true;
+    };
+    workers > 1 && sites > FEW_SITES && events <= MOST_KEPT
 }
 
 /// What stands at a place.

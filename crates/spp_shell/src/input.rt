@@ -1,5 +1,6 @@
 //! Reading an input whole, or its front.
-ghost use Rattle.std.specs.Prelude.{◌≡◌, take, IfOk, IfErr};
+ghost use Rattle.std.specs.Prelude.{◌≡◌, ◌++◌, List, ℕ, take, IfOk, IfErr};
+ghost use Rattle.spp_shell.specs.Tasks.{IfLine};
 ghost use Rattle.spp_shell.specs.Check.{TellsHeader};
 ghost use Rattle.spp_shell.specs.Devices.{giving_of};
 ghost use Rattle.spp_shell.specs.Inputs.{IsInputRefused, NoLine, TellsRead};
@@ -88,8 +89,19 @@ pub(crate) fn read_rest_or_refuse<S: Source>(
     }
 }
 
+/// Refuses bytes that no trace begins with, where their front is worth opening for its faults alone and [`open_front`] shows
+/// them.
+pub(crate) fn refuse_early(alloc: Global, bytes: &[u8]) -> Result<(), Refusal>
+    ensures { IfErr result (λ refusal. IfLine refusal (λ line. (more : List ℕ) → TellsHeader (bytes.now ++ more) line)) }
+{
+    if is_opened_early(bytes) {
+        open_front(alloc, bytes)?;
+    }
+    Ok(())
+}
+
 /// All bytes of an input, or why it could not be read whole; where no trace begins as it does, it is refused without reading
-/// on where [`open_front`] shows that.
+/// on where [`refuse_early`] shows that.
 pub(crate) fn read_trace_or_refuse<S: Source>(
     alloc: Global,
     input: &mut S,
@@ -104,9 +116,6 @@ pub(crate) fn read_trace_or_refuse<S: Source>(
         Front::Whole(bytes) => return Ok(bytes),
         Front::Part(came) => came,
     };
-    let bytes = came.as_slice();
-    if is_opened_early(bytes) {
-        open_front(alloc, bytes)?;
-    }
+    refuse_early(alloc, came.as_slice())?;
     read_rest_or_refuse(input, came, hint, place)
 }

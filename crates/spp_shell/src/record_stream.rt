@@ -1,5 +1,6 @@
 //! A trace whose records are gone over as they come.
 ghost use Rattle.std.specs.Prelude.{◌≡◌, ◌+◌, ◌-◌, ◌*◌, ◌^◌, ◌<◌, ◌≤◌, ◌++◌, ℕ, List, Bool, true, false, [], length, take, drop, slice_range, IfOk, OnOk, IfSome, IfErr};
+ghost use Rattle.spp_event.specs.Header.{IsTraceOf};
 ghost use Rattle.spp_event.specs.Heads.{IsHeadOf};
 ghost use Rattle.spp_event.specs.Places.{IsJoint};
 ghost use Rattle.spp_event.specs.Recordings.{count_in};
@@ -9,7 +10,7 @@ ghost use Rattle.spp_shell.specs.RecordStreams.{AreWhole, HasGoneOver};
 ghost use Rattle.spp_shell.specs.Tasks.{IfLine};
 
 use crate::came::Came;
-use crate::header_end::header_len;
+use crate::header_end::front_len;
 use crate::opening::open_front;
 use crate::reading::{INPUT_LIMIT, PIECE, ReadFault, make_room};
 use crate::reading_on::read_more;
@@ -50,8 +51,23 @@ fn version_of(trace: &Trace<'_>) -> Version
 }
 
 impl Head {
-    /// The header that these bytes begin with; none where they end before it does, where more came behind it than its events have
-    /// room for, or an allocation failed. The time and the memory are those of [`open_trace`](spp_event::open_trace).
+    /// The header of the trace that these bytes are.
+    pub(crate) fn of_trace(trace: &Trace<'_>, bytes: &[u8]) -> Head
+        requires { IsTraceOf bytes.now trace.now }
+        ensures head { IsHeadOf result.version (take result.len bytes.now) result.sites result.funcs result.count }
+        ensures within { result.len ≤ length bytes.now }
+    {
+        Head {
+            version: version_of(trace),
+            sites: trace.sites(),
+            funcs: trace.funcs(),
+            count: trace.count(),
+            len: bytes.len() - trace.body_len() as usize,
+        }
+    }
+
+    /// The header that these bytes begin with; none where they end before it does, where it has many names and more came behind it than
+    /// its events have room for, or an allocation failed. The time and the memory are those of [`open_trace`](spp_event::open_trace).
     ///
     /// # Errors
     ///
@@ -61,17 +77,11 @@ impl Head {
         ensures within { IfOk result (λ o. IfSome o (λ h. h.len ≤ length bytes.now)) }
         ensures refused { IfErr result (λ refusal. IfLine refusal (λ line. (more : List ℕ) → TellsHeader (bytes.now ++ more) line)) }
     {
-        let front = &bytes[..header_len(bytes)];
+        let front = &bytes[..front_len(bytes)];
         let Some(trace) = open_front(alloc, front)? else {
             return Ok(None);
         };
-        Ok(Some(Head {
-            version: version_of(&trace),
-            sites: trace.sites(),
-            funcs: trace.funcs(),
-            count: trace.count(),
-            len: front.len() - trace.body_len() as usize,
-        }))
+        Ok(Some(Head::of_trace(&trace, front)))
     }
 
     /// How many bytes a block has, or some more, for figures and a profile: in version 1 those of 65,536 records, in version 2

@@ -13,9 +13,9 @@ ghost use Rattle.spp_shell.specs.Tasks.{IfLine};
 ghost use Rattle.spp_shell.specs.declared.profiled_records.ProfiledRecords.{ProfiledRecords as ProfiledRecordsValue};
 
 use crate::came::Came;
-use crate::header_end::{HeaderEnd, is_opened_early, sites_named};
-use crate::input::{read_front, read_rest_or_refuse, refusal_of_read};
-use crate::opening::{open_or_refuse, refusal_of_event, refusal_of_header};
+use crate::header_end::{HeaderEnd, header_len, is_kept};
+use crate::input::{read_front, read_rest_or_refuse, refusal_of_read, refuse_early};
+use crate::opening::{open_front, open_or_refuse, refusal_of_event, refusal_of_header};
 use crate::place::Place;
 use crate::profile_task::profile_or_refuse;
 use crate::profiled_records::ProfiledRecords;
@@ -26,7 +26,7 @@ use crate::refusal::Refusal;
 use crate::source::Source;
 use crate::telling::Telling;
 use spp_crew::{FEW_SITES, RecordHead, RecordProfile};
-use spp_event::{HeaderFault, Trace, open_trace};
+use spp_event::{HeaderFault, Trace};
 use spp_frame::ProfileFault;
 use spp_report::Named;
 use spp_request::Request;
@@ -133,7 +133,8 @@ fn tell_records<R: Threads + Wait + Sync, S: Source, T: Telling>(
     Ok(telling.tell(alloc, &named)?)
 }
 
-/// What profiles the records of a trace, before the first has come.
+/// What profiles the records of a trace, before the first has come. One worker does where it names many call sites: with more their
+/// joins, made one at a time, would take longer than it alone.
 ///
 /// # Errors
 ///
@@ -144,9 +145,14 @@ fn records_of(
     trace: &Trace<'_>,
 ) -> Result<ProfiledRecords, AllocError>
     ensures beginning { IfOk result (IsBeginning trace.now request.now.burdens) }
-    ensures asked { IfOk result (λ records. records.workers ≡ request.now.workers) }
+    ensures asked { IfOk result (λ records. length trace.now.sites ≤ 1024 → records.workers ≡ request.now.workers) }
 {
     trace.keeps_limits();
+    let workers = if trace.sites() > FEW_SITES {
+        1
+    } else {
+        request.workers.number()
+    };
     let run = RecordHead {
         root: trace.root(),
         sites: trace.sites(),
@@ -156,44 +162,56 @@ fn records_of(
     Ok(ProfiledRecords {
         profile: RecordProfile::new(alloc, run, request.burdens)?,
         alloc,
-        workers: request.workers.number(),
+        workers,
     })
 }
 
-/// The header of a trace that these bytes begin with, and its bytes, where it names few call sites; none where
-/// they don't, or an allocation failed.
+/// A copy of the header that these bytes begin with, as long as [`header_len`] says.
 ///
 /// # Errors
 ///
-/// Where no trace begins with these bytes, but for what [`open_front`](crate::opening::open_front) says.
-fn header_of(alloc: Global, bytes: &[u8]) -> Result<Option<(Head, Vec<u8>)>, Refusal>
+/// Where an allocation failed.
+fn header_of(alloc: Global, bytes: &[u8]) -> Result<Vec<u8>, AllocError>
+    ensures within { IfOk result (λ header. length header.items ≤ length bytes.now) }
+    ensures front { IfOk result (λ header. header.items ≡ take (length header.items) bytes.now) }
+{
+    bytes[..header_len(bytes)].to_vec(alloc)
+}
+
+/// The trace without events that this header is, with which these bytes begin, and what it says; none where `header` isn't just a
+/// header, or an allocation failed.
+///
+/// # Errors
+///
+/// Where no trace begins with these bytes, but for what [`open_front`] says.
+fn open_header<'a>(
+    alloc: Global,
+    header: &'a [u8],
+    bytes: &[u8],
+) -> Result<Option<(Head, Trace<'a>)>, Refusal>
+    requires within { length header.now ≤ length bytes.now }
+    requires front { header.now ≡ take (length header.now) bytes.now }
     ensures head { IfOk result (λ o. IfSome o (λ h. IsHeadOf h.0.version (take h.0.len bytes.now) h.0.sites h.0.funcs h.0.count)) }
     ensures within { IfOk result (λ o. IfSome o (λ h. h.0.len ≤ length bytes.now)) }
-    ensures bytes { IfOk result (λ o. IfSome o (λ h. h.1.items ≡ take h.0.len bytes.now)) }
+    ensures trace { IfOk result (λ o. IfSome o (λ h. IsTraceOf (take h.0.len bytes.now) h.1)) }
     ensures refused { IfErr result (λ refusal. IfLine refusal (λ line. (more : List ℕ) → TellsHeader (bytes.now ++ more) line)) }
 {
-    let are_few = sites_named(bytes).is_some_and(|sites| sites <= FEW_SITES);
-    if !are_few && !is_opened_early(bytes) {
-        return Ok(None);
-    }
-    let Some(head) = Head::of(alloc, bytes)? else {
+    let Some(trace) = open_front(alloc, header)? else {
         return Ok(None);
     };
-    if head.sites > FEW_SITES {
+    let head = Head::of_trace(&trace, header);
+    if head.len < header.len() {
         return Ok(None);
     }
-    match bytes[..head.len].to_vec(alloc) {
-        Ok(header) => Ok(Some((head, header))),
-        Err(_) => Ok(None),
-    }
+    Ok(Some((head, trace)))
 }
 
 /// What is told of the run whose trace an input gives, or why nothing is.
 ///
-/// The events of a trace that names few call sites are profiled as they come, in blocks, and let go; by two workers or more each
-/// block is read by a thread of its own, while the next ones come. Any other input is read whole first, and so is one where
-/// memory is refused for its header or for the beginning of its profile; where no trace begins as it does, it is refused without
-/// reading on where [`open_front`](crate::opening::open_front) shows that.
+/// The events of a trace are profiled as they come, in blocks, and let go; by two workers or more each block of one with few call
+/// sites is read by a thread of its own, while the next ones come. Read whole first are a trace that is kept ([`is_kept`]), an
+/// input that ends within its header, and one where memory is refused for its header or for the beginning of its profile. Where no
+/// trace begins as it does, it is refused without reading on where [`open_front`] shows that, but for a kept one of many names.
 pub(crate) fn tell_input<R: Threads + Wait + Sync, S: Source, T: Telling>(
     rt: &R,
     alloc: Global,
@@ -211,10 +229,15 @@ pub(crate) fn tell_input<R: Threads + Wait + Sync, S: Source, T: Telling>(
         Front::Whole(bytes) => return tell_bytes(rt, alloc, request, bytes.as_slice(), telling),
         Front::Part(came) => came,
     };
-    let Some((head, header)) = header_of(alloc, came.as_slice())? else {
+    let bytes = came.as_slice();
+    if is_kept(bytes, request.workers.number()) {
+        refuse_early(alloc, bytes)?;
+        return tell_whole(rt, alloc, request, source, place, came, hint, telling);
+    }
+    let Ok(header) = header_of(alloc, bytes) else {
         return tell_whole(rt, alloc, request, source, place, came, hint, telling);
     };
-    let Ok(trace) = open_trace(alloc, header.as_slice()) else {
+    let Some((head, trace)) = open_header(alloc, header.as_slice(), bytes)? else {
         return tell_whole(rt, alloc, request, source, place, came, hint, telling);
     };
     let Ok(records) = records_of(alloc, request, &trace) else {

@@ -1,4 +1,4 @@
-use Rattle.std.proofs.Common.{◌≡◌, ◌≤◌, [], ◌∷◌, ◌++◌, List, ℕ, take, inl, inr, refl, sym, ap, subst, ◌∙◌, arith}
+use Rattle.std.proofs.Common.{◌≡◌, [], ◌∷◌, ◌++◌, List, ℕ, take, inl, inr, refl, sym, ap, subst, ◌∙◌, arith}
 use Rattle.spp_event.specs.declared.header.HeaderFault.TheVariants.{Trailing}
 use Rattle.spp_event.specs.Recordings.{Record, records_of}
 use Rattle.spp_event.proofs.RecordPlaces.{length-records_of}

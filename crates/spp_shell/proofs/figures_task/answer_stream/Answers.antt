@@ -1,4 +1,4 @@
-use Rattle.std.proofs.Common.{◌≤◌, [], ◌∷◌, List, ℕ, take, inl, inr, refl, subst, arith}
+use Rattle.std.proofs.Common.{[], ◌∷◌, List, ℕ, take, inl, inr, refl, subst, arith}
 use Rattle.spp_event.specs.declared.header.HeaderFault.TheVariants.{Trailing}
 use Rattle.spp_maxplus.specs.declared.state.Burdens.{Burdens}
 use Rattle.spp_dag.specs.Figures.{AreFigures}

@@ -14,12 +14,12 @@ returns-in_err-front-clause-refused g c =
 pub returns-in-Whole-clause-read : goal.returns-in-Whole-clause-read
 returns-in-Whole-clause-read g c = rw c.in-Whole.is at c.in_ok-front.ensures.read
 
-pub returns-in_err-open_front-clause-refused : goal.returns-in_err-open_front-clause-refused
-returns-in_err-open_front-clause-refused g c =
+pub returns-in_err-refuse_early-clause-refused : goal.returns-in_err-refuse_early-clause-refused
+returns-in_err-refuse_early-clause-refused g c =
     let came = c.in-Part.came in
-    err_again _ c.in_err-open_front.field-0.0 _ c.from_residual-in_err-open_front.ensures.1
+    err_again _ c.in_err-refuse_early.field-0.0 _ c.from_residual-in_err-refuse_early.ensures.1
     (front_refused g.S.Source.answered g.S.Source.failed g.S.Source.failures came.reads c.args.input.now c.read_front.new.input (take came.filled came.bytes.items) (rw c.in-Part.is at c.in_ok-front.ensures.read) came.turns
-    c.args.place c.in_err-open_front.field-0.0 (rw c.as_slice-bytes.ensures at c.in_err-open_front.ensures.refused))
+    c.args.place c.in_err-refuse_early.field-0.0 (rw c.as_slice.ensures at c.in_err-refuse_early.ensures))
 
 pub returns-clause-read : goal.returns-clause-read
 returns-clause-read g c = c.read_rest_or_refuse.ensures.read c.args.input.now (rw c.in-Part.is at c.in_ok-front.ensures.read)

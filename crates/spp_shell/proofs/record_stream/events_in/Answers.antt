@@ -1,4 +1,4 @@
-use Rattle.std.proofs.Common.{◌≤◌, length, arith}
+use Rattle.std.proofs.Common.{arith}
 use Rattle.spp_event.specs.declared.version.Version.TheVariants.{Two}
 use Rattle.spp_shell.proofs.RecordStreams.{count_few}
 use Rattle.spp_shell.proofs.record_stream.events_in.Goals as goal

@@ -1,4 +1,4 @@
-use Rattle.std.proofs.Common.{◌≤◌, List, ℕ, take, inl, inr, refl, subst, arith}
+use Rattle.std.proofs.Common.{List, ℕ, take, inl, inr, refl, subst, arith}
 use Rattle.spp_event.specs.declared.header.HeaderFault.TheVariants.{Trailing}
 use Rattle.spp_frame.specs.Answers.{IsFaultOf}
 use Rattle.spp_frame.specs.declared.profile_fault.ProfileFault.{ProfileFault}

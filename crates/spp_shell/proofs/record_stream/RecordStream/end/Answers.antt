@@ -1,4 +1,4 @@
-use Rattle.std.proofs.Common.{◌≡◌, ◌≤◌, ◌-◌, ◌+◌, List, ℕ, length, take, arith}
+use Rattle.std.proofs.Common.{◌≡◌, ◌-◌, ◌+◌, List, ℕ, length, take, arith}
 use Rattle.std.proofs.lemmas.List.{length-take-le}
 use Rattle.spp_shell.proofs.RecordStreams.{gone_over}
 use Rattle.spp_shell.proofs.record_stream.RecordStream.end.Goals as goal
