@@ -24,6 +24,7 @@ pub mod ItemBodies
 pub mod ItemFronts
 pub mod LastItems
 pub mod MigratedBytes
+pub mod WrittenEvents
 pub mod TraceViews
 pub mod GoodRecords
 pub mod KnownRecords

@@ -8,6 +8,8 @@ pub mod Heads
 pub mod Checks
 pub mod NameSets
 pub mod Migrating
+pub mod Written
+pub mod RecordMigrations
 pub mod Texts
 pub mod Contents
 pub mod Samples

@@ -192,41 +192,43 @@ pub(crate) fn spelled(item: &[u8]) -> Option<Event>
     }
 }
 
-/// The event whose item stands in front, and the bytes behind it; none where that item is bad, or goes on behind what
-/// would be the item of an event. The caller then looks at the whole item.
+/// The event, and the bytes behind its item, which are these; none where it goes on in them.
 #[inline(always)]
-pub(crate) fn front(bytes: &[u8]) -> Option<(Event, &[u8])>
-    ensures is { IfSome result (λ x. (bytes.now ≡ item_of x.0 ++ x.1.now) × IsEvent x.0) }
+fn unless_it_goes_on(event: Event, rest: &[u8]) -> Option<(Event, &[u8])>
+    ensures is { IfSome result (λ x. (x.0 ≡ event) × (x.1.now ≡ rest.now)) }
     ensures on { IfSome result (λ x. GoesOn x.1.now) }
 {
-    let (event, rest) = front_event(bytes)?;
     match rest.first() {
         Some(next) if *next < 0x80 => None,
         _ => Some((event, rest)),
     }
 }
 
-/// The event whose item the bytes begin with, whatever stands behind it.
+/// The event whose item stands in front, and the bytes behind it; none where that item is bad, or goes on behind what
+/// would be the item of an event. The caller then looks at the whole item.
+///
+/// What follows the item is looked at once for each kind of event, so that what a caller does by kinds needs no second jump.
 #[inline(always)]
-fn front_event(bytes: &[u8]) -> Option<(Event, &[u8])>
-    ensures { IfSome result (λ x. (bytes.now ≡ item_of x.0 ++ x.1.now) × IsEvent x.0) }
+pub(crate) fn front(bytes: &[u8]) -> Option<(Event, &[u8])>
+    ensures is { IfSome result (λ x. (bytes.now ≡ item_of x.0 ++ x.1.now) × IsEvent x.0) }
+    ensures on { IfSome result (λ x. GoesOn x.1.now) }
 {
     let (lead, rest) = bytes.split_first()?;
     match *lead {
         0x80 => {
             let (count, rest) = operand_in_front(rest)?;
-            Some((Event::Strand { count }, rest))
+            unless_it_goes_on(Event::Strand { count }, rest)
         }
         0x81 => {
             let (site, func, rest) = two_in_front(rest)?;
-            Some((Event::Call { site, func }, rest))
+            unless_it_goes_on(Event::Call { site, func }, rest)
         }
         0x82 => {
             let (site, func, rest) = two_in_front(rest)?;
-            Some((Event::Spawn { site, func }, rest))
+            unless_it_goes_on(Event::Spawn { site, func }, rest)
         }
-        0x83 => Some((Event::Ret, rest)),
-        0x84 => Some((Event::Sync, rest)),
+        0x83 => unless_it_goes_on(Event::Ret, rest),
+        0x84 => unless_it_goes_on(Event::Sync, rest),
         _ => None,
     }
 }

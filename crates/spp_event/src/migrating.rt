@@ -62,7 +62,7 @@ fn push_names(bytes: &mut Vec<u8>, names: &[&str]) -> Result<(), AllocError>
 }
 
 /// The header of a trace in version 2.
-fn header_of(alloc: Global, trace: &Trace<'_>) -> Result<Vec<u8>, AllocError>
+pub(crate) fn header_of(alloc: Global, trace: &Trace<'_>) -> Result<Vec<u8>, AllocError>
     ensures { IfOk result (λ bytes. bytes.items ≡ header_spelling (compact trace.now)) }
 {
     trace.keeps_limits();

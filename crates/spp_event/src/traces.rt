@@ -54,7 +54,7 @@ impl<'a> Model for Trace<'a> {
 }
 
 /// Bytes are numbers of 8 bits. Its contract is what it is for.
-fn are_bytes(bytes: &[u8])
+pub(crate) fn are_bytes(bytes: &[u8])
     ensures { (i : ℕ) → slice_index bytes.now i < 256 }
 {}
 

@@ -25,7 +25,7 @@ use Rattle.spp_shell.specs.declared.record_stream.Head.{Head}
 use Rattle.spp_shell.proofs.Checks.{stream_split, stream_fits, events_few}
 
 -- no bytes have room
-no_room : (v : Version) (n : ℕ) → filled v [] ≤ room v n
+pub no_room : (v : Version) (n : ℕ) → filled v [] ≤ room v n
 no_room One n = omega arith
 no_room Two n = omega arith
 

@@ -9,6 +9,7 @@ pub mod RecordStreams
 pub mod Checked
 pub mod Encode
 pub mod Migrate
+pub mod Migrated
 pub mod Figured
 pub mod Figures
 pub mod Profiles

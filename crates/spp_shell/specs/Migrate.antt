@@ -28,3 +28,7 @@ IsMigrateText inputs text = (bytes : List ℕ) × (inputs ≡ bytes ∷ []) × I
 -- the line for one input that is refused
 abbrev pub IsMigrateLine : List (List ℕ) → List ℕ → Type 0
 IsMigrateLine inputs told = (bytes : List ℕ) × (inputs ≡ bytes ∷ []) × (TellsHeader bytes told ⊎ TellsRecord bytes told)
+
+-- the line for these bytes alone
+abbrev pub IsOneMigrateLine : List ℕ → List ℕ → Type 0
+IsOneMigrateLine bytes told = IsMigrateLine (bytes ∷ []) told

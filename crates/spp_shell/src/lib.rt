@@ -16,6 +16,7 @@ mod in_source;
 mod input;
 mod laws;
 mod migrate_task;
+mod migrated_records;
 mod opening;
 mod place;
 mod profile_task;

@@ -1,6 +1,6 @@
 //! A trace whose records are gone over as they come.
 ghost use Rattle.std.specs.Prelude.{◌≡◌, ◌+◌, ◌-◌, ◌*◌, ◌^◌, ◌<◌, ◌≤◌, ◌++◌, ℕ, List, Bool, true, false, [], length, take, drop, slice_range, IfOk, OnOk, IfSome, IfErr};
-ghost use Rattle.spp_event.specs.Header.{IsTraceOf};
+ghost use Rattle.spp_event.specs.Header.{IsTraceOf, header_spelling};
 ghost use Rattle.spp_event.specs.Heads.{IsHeadOf};
 ghost use Rattle.spp_event.specs.Places.{IsJoint};
 ghost use Rattle.spp_event.specs.Recordings.{count_in};
@@ -54,6 +54,7 @@ impl Head {
     /// The header of the trace that these bytes are.
     pub(crate) fn of_trace(trace: &Trace<'_>, bytes: &[u8]) -> Head
         requires { IsTraceOf bytes.now trace.now }
+        ensures spelled { take result.len bytes.now ≡ header_spelling trace.now }
         ensures head { IsHeadOf result.version (take result.len bytes.now) result.sites result.funcs result.count }
         ensures within { result.len ≤ length bytes.now }
     {

@@ -11,8 +11,8 @@ use crate::check_task::check_input;
 use crate::compare_task::answer_compare;
 use crate::encode_task::answer_encode;
 use crate::figures_task::figures_input;
-use crate::input::{read_or_refuse, read_trace_or_refuse};
-use crate::migrate_task::answer_migrate;
+use crate::input::read_or_refuse;
+use crate::migrate_task::migrate_input;
 use crate::place::Place;
 use crate::profile_task::answer_profile;
 use crate::refusal::Refusal;
@@ -47,10 +47,7 @@ fn answer<R: Threads + Wait + Sync + RandomSource, S: Source, T: Source>(
             let bytes = read_or_refuse(alloc, first, Place::Only)?;
             answer_encode(alloc, bytes.as_slice())
         }
-        Command::Migrate => {
-            let bytes = read_trace_or_refuse(alloc, first, Place::Only)?;
-            answer_migrate(alloc, bytes.as_slice())
-        }
+        Command::Migrate => migrate_input(rt, alloc, first),
     }
 }
 

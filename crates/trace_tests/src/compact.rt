@@ -1,7 +1,8 @@
 use crate::event::{EVENTS, SMALL as FIRST_VERSION, header_fault, known, record};
 use spp_cut::{CutFault, cut_bytes};
 use spp_event::{
-    Event, EventFault, HeaderFault, MigrateFault, Reader, Trace, compact_of, migrate, open_trace,
+    BadEvent, Event, EventFault, HeaderFault, MigrateFault, Reader, RecordMigration, Trace,
+    compact_of, items_in, migrate, open_trace,
 };
 use std::alloc::{AllocError, Global};
 use std::test::Fail;
@@ -111,6 +112,109 @@ fn a_trace_is_written_in_version_2(rt: HostRuntime) -> Result<(), Fail> {
         why: EventFault::Site,
     };
     assert!(rt; fault == first);
+    Ok(())
+}
+
+/// What is written of the trace with the header of `SMALL` whose records come in these two pieces; none where they are more than it
+/// claims.
+fn records_migrated(
+    alloc: Global,
+    first: &[u8],
+    second: &[u8],
+) -> Option<Result<Vec<u8>, BadEvent>> {
+    let trace = open_trace(alloc, SMALL).ok()?;
+    if first.len() / 16 + second.len() / 16 > trace.count() as usize {
+        return None;
+    }
+    let Ok(begun) = RecordMigration::new(alloc, &trace) else {
+        return None;
+    };
+    let Ok(some) = begun.followed_by(first) else {
+        return None;
+    };
+    let Ok(all) = some.followed_by(second) else {
+        return None;
+    };
+    Some(all.end())
+}
+
+/// The same of items.
+fn items_migrated(alloc: Global, first: &[u8], second: &[u8]) -> Option<Result<Vec<u8>, BadEvent>> {
+    let trace = open_trace(alloc, SMALL).ok()?;
+    let (before, behind) = (items_in(first), items_in(second));
+    let count = trace.count() as usize;
+    if before > count || behind > count - before {
+        return None;
+    }
+    let Ok(begun) = RecordMigration::new(alloc, &trace) else {
+        return None;
+    };
+    let Ok(some) = begun.followed_by_items(first) else {
+        return None;
+    };
+    let Ok(all) = some.followed_by_items(second) else {
+        return None;
+    };
+    Some(all.end())
+}
+
+/// Whether what was migrated has that first bad event.
+fn is_bad(ended: Option<Result<Vec<u8>, BadEvent>>, at: u32, why: EventFault) -> bool {
+    match ended {
+        Some(Err(bad)) => bad == BadEvent { at, why },
+        _ => false,
+    }
+}
+
+/// Whether it is `SMALL`.
+fn is_small(ended: Option<Result<Vec<u8>, BadEvent>>) -> bool {
+    match ended {
+        Some(Ok(bytes)) => bytes.as_slice() == SMALL,
+        _ => false,
+    }
+}
+
+#[test]
+fn records_are_written_piece_by_piece(rt: HostRuntime) -> Result<(), Fail> {
+    let alloc = rt.alloc();
+    let mut body = FIRST_VERSION[BODY..].to_vec(alloc)?;
+    assert_eq!(rt; body.len(), 112);
+    for len in [0, 16, 48, 112] {
+        let body = body.as_slice();
+        assert!(rt;
+            is_small(records_migrated(alloc, &body[..len], &body[len..])),
+            "{len}"
+        );
+    }
+    let short = records_migrated(alloc, &body[..16], &body[16..80]);
+    assert!(rt; is_bad(short, 5, EventFault::Truncated));
+    // the first of two bad ones is the last of the first piece, or in the second
+    body.as_mut_slice()[32] = 9;
+    body.as_mut_slice()[64] = 9;
+    for len in [32, 48, 64, 80] {
+        let body = body.as_slice();
+        let ended = records_migrated(alloc, &body[..len], &body[len..]);
+        assert!(rt; is_bad(ended, 2, EventFault::Tag), "{len}");
+    }
+    Ok(())
+}
+
+#[test]
+fn items_are_written_piece_by_piece(rt: HostRuntime) -> Result<(), Fail> {
+    let alloc = rt.alloc();
+    let body = &SMALL[BODY..];
+    assert_eq!(rt; body.len(), 13);
+    for len in [0, 2, 5, 13] {
+        assert!(rt;
+            is_small(items_migrated(alloc, &body[..len], &body[len..])),
+            "{len}"
+        );
+    }
+    // an item is cut
+    let ended = items_migrated(alloc, &body[..4], &body[5..]);
+    assert!(rt; is_bad(ended, 1, EventFault::Operand));
+    let ended = items_migrated(alloc, &body[..5], &body[10..]);
+    assert!(rt; is_bad(ended, 4, EventFault::Truncated));
     Ok(())
 }
 

@@ -1,9 +1,9 @@
-//! Runs of `check`, `figures` and `profile` over inputs that come in pieces of all sizes, beside what is said of all their bytes
-//! at once.
+//! Runs of `check`, `figures`, `profile` and `migrate` over inputs that come in pieces of all sizes, beside what is said of all
+//! their bytes at once.
 
 use super::commands::request_for;
 use super::fakes::{empty_cup, unread};
-use spp_event::{Event, Trace, open_trace, record_of};
+use spp_event::{Event, MigrateFault, Trace, migrate, open_trace, record_of};
 use spp_frame::{ProfileFault, check};
 use spp_report::{Named, figures_text, plain_text};
 use spp_request::{Command, Request, Workers};
@@ -53,7 +53,14 @@ impl Read for Pieces<'_> {
 }
 
 /// Sizes of pieces that cut records in all ways, for a small trace.
-pub(super) const SMALL: &[&[usize]] = &[&[1], &[16], &[7, 0, 0, 25], &[100, 3, 15], &[65536]];
+pub(super) const SMALL: &[&[usize]] = &[
+    &[1],
+    &[16],
+    &[15, 17],
+    &[7, 0, 0, 25],
+    &[100, 3, 15],
+    &[65536],
+];
 
 /// Sizes near those that are read at a time, for a large one.
 pub(super) const LARGE: &[&[usize]] = &[&[4099], &[65535, 0, 2], &[65536], &[1000000]];
@@ -84,6 +91,7 @@ pub(super) const ASKED: &[Asked] = &[
     (Command::Figures, 4),
     (Command::Profile, 1),
     (Command::Profile, 4),
+    (Command::Migrate, 1),
 ];
 
 /// What is asked, with burdens of 3.
@@ -94,7 +102,7 @@ fn request_of(alloc: Global, (command, workers): Asked) -> Request {
     }
 }
 
-/// What the request says of a trace as text, or the line of its first bad event.
+/// What the request says of a trace as text, or in bytes, or the line of its first bad event.
 fn told(
     alloc: Global,
     request: &Request,
@@ -114,6 +122,13 @@ fn told(
             }
             Err(ProfileFault::Bad(fault)) => fault,
             Err(ProfileFault::Memory) => return Err(AllocError),
+        },
+        Command::Migrate => match migrate(alloc, trace) {
+            Ok(bytes) => return Ok(Ok(bytes)),
+            Err(MigrateFault::Bad { at, why }) => {
+                return Ok(Err(format!(in alloc; "bad event {at}: {why}\n")?));
+            }
+            Err(MigrateFault::Memory) => return Err(AllocError),
         },
         _ => match check(trace) {
             Ok(work) => return Ok(Ok(format!(in alloc; "work {work}\n")?.into_bytes())),
@@ -153,7 +168,7 @@ fn got<R: Threads + Wait + Sync + RandomSource + AllocGlobal>(
     hint: Option<u64>,
 ) -> Ending {
     let alloc = rt.alloc();
-    let (mut out, mut err) = (empty_cup(alloc, 2000), empty_cup(alloc, 100));
+    let (mut out, mut err) = (empty_cup(alloc, 1 << 20), empty_cup(alloc, 100));
     let reader = Pieces {
         bytes,
         sizes,

@@ -1,12 +1,12 @@
-use Rattle.std.proofs.Common.{[], ◌∷◌, refl, inl, inr}
-use Rattle.spp_shell.specs.Check.{IsCheckText, IsCheckLine, TellsHeader}
+use Rattle.std.proofs.Common.{[], ◌∷◌, refl, inr}
+use Rattle.spp_shell.specs.Check.{IsCheckText, IsCheckLine}
 use Rattle.spp_shell.specs.Devices.{Giving, giving_of}
 use Rattle.spp_shell.specs.Encode.{IsEncodeText, IsEncodeLine}
 use Rattle.spp_shell.specs.Migrate.{IsMigrateText, IsMigrateLine}
 use Rattle.spp_shell.specs.Figures.{IsFiguresText}
 use Rattle.spp_shell.specs.Profiles.{IsProfileText}
 use Rattle.spp_shell.specs.declared.place.Place.TheVariants.{Only}
-use Rattle.spp_shell.proofs.Inputs.{answered_by, answered_first, err_again, refused_as, refused_unread, told_by, told_first, told_so}
+use Rattle.spp_shell.proofs.Inputs.{answered_by, answered_first, err_again, refused_unread, told_by, told_first, told_so}
 use Rattle.spp_shell.proofs.running.answer.Goals as goal
 
 pub returns-in-Check-clause-text : goal.returns-in-Check-clause-text
@@ -69,29 +69,17 @@ returns-in_ok-bytes-in-Encode-clause-refused g c =
     let gave = c.in_ok-bytes-in-Encode.ensures.read in
     rw c.in-Encode.is (told_first (λ text. text.items) first second bytes gave refl Only IsEncodeLine c.answer_encode.result (inr (bytes, gave)) (rw c.as_slice.ensures.value at c.answer_encode.ensures.line))
 
-pub returns-in_err-bytes-in-Migrate-clause-refused : goal.returns-in_err-bytes-in-Migrate-clause-refused
-returns-in_err-bytes-in-Migrate-clause-refused g c =
-    let first : Giving = giving_of g.S.Source.answered g.S.Source.failed g.S.Source.failures c.args.first.now c.read_trace_or_refuse.new.input in
+pub returns-in-Migrate-clause-text : goal.returns-in-Migrate-clause-text
+returns-in-Migrate-clause-text g c =
+    let first : Giving = giving_of g.S.Source.answered g.S.Source.failed g.S.Source.failures c.args.first.now c.migrate_input.new.source in
     let second : Giving = giving_of g.T.Source.answered g.T.Source.failed g.T.Source.failures c.args.second.now c.args.second.now in
-    let told = c.in_err-bytes-in-Migrate.field-0.0 in
-    let refused = refused_as first Only TellsHeader (λ bytes line. IsMigrateLine (bytes ∷ []) line) (λ bytes line tells. (bytes, refl, inl tells)) told c.in_err-bytes-in-Migrate.ensures.refused in
-    rw c.in-Migrate.is (err_again _ told _ c.from_residual-in_err-bytes-in-Migrate.ensures.1 (told_so first second refl Only IsMigrateLine told refused))
+    rw c.in-Migrate.is (answered_by (λ text. text.items) first second refl IsMigrateText c.migrate_input.result c.migrate_input.ensures.text)
 
-pub returns-in_ok-bytes-in-Migrate-clause-text : goal.returns-in_ok-bytes-in-Migrate-clause-text
-returns-in_ok-bytes-in-Migrate-clause-text g c =
-    let first : Giving = giving_of g.S.Source.answered g.S.Source.failed g.S.Source.failures c.args.first.now c.read_trace_or_refuse.new.input in
+pub returns-in-Migrate-clause-refused : goal.returns-in-Migrate-clause-refused
+returns-in-Migrate-clause-refused g c =
+    let first : Giving = giving_of g.S.Source.answered g.S.Source.failed g.S.Source.failures c.args.first.now c.migrate_input.new.source in
     let second : Giving = giving_of g.T.Source.answered g.T.Source.failed g.T.Source.failures c.args.second.now c.args.second.now in
-    let bytes = c.in_ok-bytes-in-Migrate.bytes.items in
-    let gave = c.in_ok-bytes-in-Migrate.ensures.read in
-    rw c.in-Migrate.is (answered_first (λ text. text.items) first second bytes gave refl IsMigrateText c.answer_migrate.result (rw c.as_slice-in-Migrate.ensures.value at c.answer_migrate.ensures.text))
-
-pub returns-in_ok-bytes-in-Migrate-clause-refused : goal.returns-in_ok-bytes-in-Migrate-clause-refused
-returns-in_ok-bytes-in-Migrate-clause-refused g c =
-    let first : Giving = giving_of g.S.Source.answered g.S.Source.failed g.S.Source.failures c.args.first.now c.read_trace_or_refuse.new.input in
-    let second : Giving = giving_of g.T.Source.answered g.T.Source.failed g.T.Source.failures c.args.second.now c.args.second.now in
-    let bytes = c.in_ok-bytes-in-Migrate.bytes.items in
-    let gave = c.in_ok-bytes-in-Migrate.ensures.read in
-    rw c.in-Migrate.is (told_first (λ text. text.items) first second bytes gave refl Only IsMigrateLine c.answer_migrate.result (inr (bytes, gave)) (rw c.as_slice-in-Migrate.ensures.value at c.answer_migrate.ensures.line))
+    rw c.in-Migrate.is (told_by (λ text. text.items) first second refl Only IsMigrateLine c.migrate_input.result c.migrate_input.ensures.refused)
 
 pub returns-in-Compare-clause-text : goal.returns-in-Compare-clause-text
 returns-in-Compare-clause-text g c = rw c.in-Compare.is c.answer_compare.ensures.text
