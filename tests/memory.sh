@@ -98,8 +98,8 @@ each_refused() { # NAME STATUS STARTS OUT ERR INPUT PROGRAM WORDS..: what the pr
 each_refused 'the calls' 0 18 "$(cat "$tests/../crates/memory_probe/stdout")" '' /dev/null "$probe"
 
 # A round has a thread for each worker but one. `profile` by several workers of a trace of many call sites, which is read whole,
-# has three rounds, and settles its paths on two threads; of any other, which comes in blocks, it has a thread for each block.
-# With one worker it has none.
+# has three rounds, and settles its paths on two threads; of any other, which comes in blocks, it has a thread for each block,
+# but where a run is deep. With one worker it has none.
 examples=$tests/../examples
 head -c 23 "$examples/small.sptrace" > "$folder/short"
 { head -c 100 "$examples/small.sptrace"; head -c 16 /dev/zero | tr '\0' '\5'; } > "$folder/tag"
@@ -154,6 +154,8 @@ printf 'func f\n\377' > "$folder/bytes"
 each_refused 'encode, bytes that are no text' 1 0 '' 'bad text line 2: word' "$folder/bytes" "$spprof" encode
 each_refused 'migrate, a recorded trace' 0 0 'SPTRACE2*' '' "$examples/nqueens.sptrace" "$spprof" migrate
 each_refused 'migrate, a bad event' 1 0 '' 'bad event 4: tag' "$folder/tag" "$spprof" migrate
+each_refused 'migrate, version 2' 0 0 'SPTRACE2*' '' "$examples/nqueens.compact" "$spprof" migrate
+each_refused 'migrate over blocks' 0 0 'SPTRACE2*' '' "$folder/blocks" "$spprof" migrate
 each_refused 'check, version 2' 0 0 'work 32744' '' "$examples/nqueens.compact" "$spprof" check
 # Headers of more than one piece, which is 65,536 bytes: the names of 400 sites have 200 bytes each.
 sites() { # COUNT: the lines of so many sites, with names of 200 bytes
@@ -162,6 +164,7 @@ sites() { # COUNT: the lines of so many sites, with names of 200 bytes
 { echo 'func f' && sites 400 && echo 'strand 5'; } | "$spprof" encode > "$folder/names"
 "$spprof" migrate < "$folder/names" > "$folder/names.compact"
 each_refused 'check, a long header' 0 0 'work 5' '' "$folder/names" "$spprof" check
+each_refused 'migrate, a long header' 0 0 'SPTRACE2*' '' "$folder/names" "$spprof" migrate
 each_refused 'check, a long header by name' 0 0 'work 5' '' /dev/null "$spprof" check "$folder/names"
 each_refused 'check, a long header of version 2' 0 0 'work 5' '' "$folder/names.compact" "$spprof" check
 each_refused 'check, one of version 2 by name' 0 0 'work 5' '' /dev/null "$spprof" check "$folder/names.compact"
@@ -257,6 +260,30 @@ peaks_within 20000 0 "$folder/compact" figures --workers 1 "$folder/compact"
     "$spprof" encode | "$spprof" migrate > "$folder/compact"
 size=$(($(stat -c %s "$folder/compact") / 1024))
 peaks_within 32000 0 "$folder/compact" profile --workers 2 "$folder/compact"
+# `migrate` keeps what it writes: two bytes for each of these events.
+size=$(($(stat -c %s "$folder/long") / 1024))
+peaks_within 32000 0 "$folder/long" migrate
+peaks_within 32000 0 "$folder/long" migrate "$folder/long"
+# Six towers of half a million nested frames, each of which takes 272 bytes, once for all workers: where a run is deep one
+# thread reads most blocks, and parts take nearly as much again where several do.
+{ yes 'call 0 0' | head -n 500000 && yes return | head -n 500000; } > "$folder/tower"
+{ printf 'func f\nsite A\n' && for tower in 1 2 3 4 5 6; do cat "$folder/tower"; done; } | "$spprof" encode > "$folder/deep"
+peak_within 240000 "$folder/deep" profile --workers 4
+# So it starts few threads for its 92 blocks; leaves behind a tower have one for each of 69 again.
+starts_within() { # LEAST MOST NAME INPUT WORDS..: so many threads are started
+    local least=$1 most=$2 name=$3 input=$4 status requests starts
+    shift 4
+    run 0 0 "$input" "$spprof" "$@"
+    if [ $status -eq 0 ] && [ "$starts" -ge "$least" ] && [ "$starts" -le "$most" ]; then
+        echo "memory: $name: $starts threads"
+        passed=$((passed + 1))
+    else
+        fails "$name: $starts threads, and not $least to $most, status $status"
+    fi
+}
+starts_within 4 24 'a deep run' "$folder/deep" profile --workers 4
+{ printf 'func f\nsite A\n' && cat "$folder/tower" && yes $'spawn 0 0\nstrand 3\nreturn' | head -n 4500000; } | "$spprof" encode > "$folder/leaves"
+starts_within 60 84 'leaves behind a deep run' "$folder/leaves" profile --workers 4
 # The first run's bytes are let go before the second is read: the peak is that of the larger run, and not of both.
 one=$(peak_of 0 profile "$folder/long")
 both=$(peak_of 0 compare "$folder/long" "$folder/long")

@@ -322,6 +322,9 @@ for command in check figures profile advise migrate; do
     in_little 1 "$command of zeros without an end" 1 '' "bad header: magic$lf" /dev/null $command /dev/zero
     in_little 1 "$command of an input that stays open" 1 '' "bad header: limits$lf" <(printf 'SPTRACE1%016d' 0 | tr 0 '\0'; sleep 5) $command
 done
+# Among these is one of so many sites that several workers keep the trace, the last two of which have one name.
+{ printf 'SPTRACE1\0\0\0\1\0\0\4\6\0\0\0\0\0\0\0\1\0\1f' && printf '\0\4%s' {1000..2028} 2028; } > "$folder/alike"
+in_little 1 'profile of many sites, two of one name' 1 '' "bad header: same name 1030$lf" <(cat "$folder/alike" /dev/zero) profile --workers 4
 in_little 1 'encode of zeros in a file' 1 '' "bad text line 1: word$lf" <(head -c 100 /dev/zero) encode
 in_little 1 'compare: zeros without an end' 1 '' "after: bad header: magic$lf" /dev/null compare "$small" /dev/zero
 in_little 9 'an input from a file that is too long' 4 '' "out of memory$lf" "$folder/long" check
@@ -418,6 +421,16 @@ wanted=$("$spprof" profile --csv --workers 4 "$folder/many")
 for many in many many.compact; do
     expect "tables of many call sites in blocks, $many" 0 "$wanted$lf" '' /dev/null profile --csv --workers 1 "$folder/$many"
 done
+# Two towers, each deeper than many blocks, and leaves behind each: where a run is deep one thread reads most of the blocks,
+# and behind it several do.
+{ printf 'func f\nsite A\n' && for tower in 1 2; do
+    yes 'call 0 0' | head -n 1500000 && yes return | head -n 1500000 && yes $'spawn 0 0\nstrand 3\nreturn' | head -n 1500000
+done; } | "$spprof" encode | "$spprof" migrate > "$folder/towers"
+wanted=$("$spprof" profile --csv --workers 1 "$folder/towers")
+for workers in 2 4 64; do
+    expect "tables of towers and leaves, by $workers workers" 0 "$wanted$lf" '' /dev/null profile --csv --workers $workers "$folder/towers"
+done
+expect 'figures of towers and leaves' 0 "work 3000000${lf}span 3$lf*" '' "$folder/towers" figures --burden 0
 # The marks of the path by way of 65,536 parts, without a list of all open frames for each.
 (ulimit -v 700000 && timeout 60 "$printer" marks 65536 3 < "$folder/nested" > "$folder/out" 2> "$folder/err")
 status=$?

@@ -45,7 +45,7 @@ pub(crate) struct BlockRead<P> {
     pub(crate) room: Vec<u8>,
 }
 
-/// What the first records of a run come to, onto which blocks are joined.
+/// What the first events of a run come to, onto which blocks are joined.
 ///
 /// A type says by its [`SoFar::start`] how a thread is started, since what goes to a thread must be known to the borrow checker.
 pub(crate) trait SoFar: Drop {
@@ -60,7 +60,7 @@ pub(crate) trait SoFar: Drop {
     // that is what the block comes to, in whichever trace it stands
     ghost is_part: { Block → Self.Part → Type 0 };
 
-    // that is what so many records come to, which are the first of a trace, under these burdens
+    // that is what so many events come to, which are the first of a trace, under these burdens
     ghost is_so_far: { Recording → BurdensValue → ℕ → Self → Type 0 };
 
     // the block that a thread reads
@@ -79,6 +79,10 @@ pub(crate) trait SoFar: Drop {
     /// What a thread brings, for which this one waits.
     fn wait<R: Threads>(rt: &R, thread: Self::Thread) -> BlockRead<Self::Part>
         ensures { IfOk result.part (is_part (block_of thread)) };
+
+    /// Whether to join what a block comes to takes about as long as to read the block. No clause says when: answers don't depend
+    /// on it.
+    fn is_deep(part: &Self::Part) -> bool;
 
     /// Goes on by what the next block comes to.
     ///

@@ -41,11 +41,11 @@ fn summary_of(alloc: Global, block: &Block) -> Result<Summary, AllocError>
     }
 }
 
-/// The summary of the first records of a run, unless one of them is a bad event.
+/// The summary of the first events of a run, unless one of them is a bad event.
 ///
 /// # Errors
 ///
-/// The first bad event, where it is one of these records.
+/// The first bad event, where it is one of these.
 fn unless_bad(summary: Summary) -> Result<Summary, ProfileFault>
     requires { summary.first ≡ 0 }
     ensures same { IfOk result (λ s. s ≡ summary) }
@@ -60,7 +60,7 @@ fn unless_bad(summary: Summary) -> Result<Summary, ProfileFault>
     }
 }
 
-/// The summary of the first records of a run, and that of the block behind them, together.
+/// The summary of the first events of a run, and that of the block behind them, together.
 ///
 /// # Errors
 ///
@@ -111,6 +111,11 @@ impl SoFar for Summary {
 
     fn wait<R: Threads>(rt: &R, thread: Self::Thread) -> BlockRead<Summary> {
         thread.join(rt)
+    }
+
+    /// Never: to join a summary takes less than to read its block.
+    fn is_deep(_part: &Summary) -> bool {
+        false
     }
 
     fn join(self, _alloc: Global, part: Summary, _burdens: Burdens) -> Result<Self, ProfileFault> {

@@ -1,4 +1,4 @@
-//! Joining what blocks of records come to, of which each is read by a thread of its own.
+//! Joining what blocks of events come to, of which each is read by a thread of its own.
 
 ghost use Rattle.std.specs.Prelude.{◌≡◌, ◌+◌, ◌-◌, ◌≤◌, ◌<◌, ℕ, length, IfOk, IfErr};
 ghost use Rattle.spp_event.specs.Recordings.{Recording};
@@ -13,6 +13,59 @@ use std::alloc::{AllocError, Global};
 use std::collections::VecDeque;
 use std::thread::Threads;
 
+/// The most blocks that one thread reads behind a deep one before another thread reads one again.
+const MOST_BLOCKS_ALONE: u32 = 32;
+
+/// Who reads the next blocks, where there are several workers. To join deep blocks takes as long as to read them, so one thread
+/// reads where a run is deep. No clause says when: the answers don't depend on it.
+#[derive(Clone, Copy)]
+enum Readers {
+    /// As many threads as there are workers.
+    All,
+    /// This thread.
+    Here {
+        /// So many blocks. Then another thread reads one, which shows whether the run is still deep.
+        left: u32,
+        /// How many they were at first.
+        all: u32,
+    },
+}
+
+impl Readers {
+    /// Those behind a block that was joined, and is deep or isn't: behind the first deep one this thread reads two, and twice as
+    /// many whenever the next that another thread has read is deep, too.
+    fn behind_joined(self, is_deep: bool) -> Readers {
+        let all = match self {
+            _ if !is_deep => return Readers::All,
+            Readers::All => 2,
+            Readers::Here { all, .. } => all.saturating_mul(2).min(MOST_BLOCKS_ALONE),
+        };
+        Readers::Here { left: all, all }
+    }
+
+    /// Those behind a block that this thread has read.
+    fn behind_one_here(self) -> Readers {
+        match self {
+            Readers::All => Readers::All,
+            Readers::Here { left, all } => Readers::Here {
+                left: left.saturating_sub(1),
+                all,
+            },
+        }
+    }
+
+    /// How many threads read at a time, by so many workers: none where this one does.
+    fn threads(self, workers: u32) -> u32
+        ensures { result ≤ workers }
+    {
+        match self {
+            Readers::All if workers > 1 => workers,
+            Readers::Here { left: 0, .. } if workers > 1 => 1,
+            _ => 0,
+        }
+    }
+}
+
 /// Waits for these threads, and lets go of what they bring.
 fn let_go<A: SoFar, R: Threads>(rt: &R, waiting: VecDeque<A::Thread>) {
     let mut waiting = waiting;
@@ -21,25 +74,36 @@ fn let_go<A: SoFar, R: Threads>(rt: &R, waiting: VecDeque<A::Thread>) {
     }
 }
 
-/// What the first records of a run come to, and the threads that read the blocks behind them, which are to be joined onto it.
+/// What the first events of a run come to, and the threads that read the blocks behind them, which are to be joined onto it.
 #[derive(Drop)]
 pub(crate) struct Joining<A: SoFar> {
     pub(crate) so_far: A,
     pub(crate) waiting: VecDeque<A::Thread>,
+    /// Who reads the next blocks.
+    readers: Readers,
 }
 
 impl<A: SoFar> Joining<A> {
     ghost use Rattle.spp_crew.specs.Joinings.{HasCome};
 
-    /// Behind some records, with no thread.
-    pub(crate) fn behind(alloc: Global, so_far: A) -> Self
+    /// Behind some events, with no thread; these read the next blocks.
+    fn read_by(alloc: Global, so_far: A, readers: Readers) -> Self
         ensures come { (trace : Recording) (burdens : BurdensValue) (k : ℕ) → A.is_so_far trace burdens k so_far → HasCome A.block_of A.is_so_far trace burdens k result }
         ensures none { length result.waiting.items ≡ 0 }
     {
         Joining {
             so_far,
             waiting: VecDeque::new(alloc),
+            readers,
         }
+    }
+
+    /// Before the first event, or behind some, with no thread.
+    pub(crate) fn behind(alloc: Global, so_far: A) -> Self
+        ensures come { (trace : Recording) (burdens : BurdensValue) (k : ℕ) → A.is_so_far trace burdens k so_far → HasCome A.block_of A.is_so_far trace burdens k result }
+        ensures none { length result.waiting.items ≡ 0 }
+    {
+        Joining::read_by(alloc, so_far, Readers::All)
     }
 
     /// Waits for the threads, and lets go of all.
@@ -66,17 +130,31 @@ impl<A: SoFar> Joining<A> {
         let Joining {
             so_far,
             mut waiting,
+            readers,
         } = self;
         let Some(thread) = waiting.pop_front() else {
-            return Ok((Joining { so_far, waiting }, Vec::new(alloc)));
+            let joining = Joining {
+                so_far,
+                waiting,
+                readers,
+            };
+            return Ok((joining, Vec::new(alloc)));
         };
         let BlockRead { part, room } = A::wait(rt, thread);
         let Ok(part) = part else {
             let_go::<A, R>(rt, waiting);
             return Err(ProfileFault::Memory);
         };
+        let readers = readers.behind_joined(A::is_deep(&part));
         match so_far.join(alloc, part, burdens) {
-            Ok(so_far) => Ok((Joining { so_far, waiting }, room)),
+            Ok(so_far) => Ok((
+                Joining {
+                    so_far,
+                    waiting,
+                    readers,
+                },
+                room,
+            )),
             Err(fault) => {
                 let_go::<A, R>(rt, waiting);
                 Err(fault)
@@ -84,8 +162,8 @@ impl<A: SoFar> Joining<A> {
         }
     }
 
-    /// Makes room for a thread more: where so many are at work it waits for the first of them, and joins what it brings. Gives
-    /// the room of its block too, or none.
+    /// Makes room for a thread more: where so many are at work, or more, it waits for the first of them, and joins what it brings.
+    /// Gives the room of its block too, or none.
     ///
     /// # Errors
     ///
@@ -95,21 +173,21 @@ impl<A: SoFar> Joining<A> {
         rt: &R,
         alloc: Global,
         burdens: Burdens,
-        workers: u32,
+        threads: u32,
     ) -> Result<(Self, Vec<u8>), ProfileFault>
-        requires some { 0 < workers }
+        requires some { 0 < threads }
         requires come { (trace : Recording) × (k : ℕ) × HasCome A.block_of A.is_so_far trace burdens k self }
         ensures come { IfOk result (λ j. (trace : Recording) (k : ℕ) → HasCome A.block_of A.is_so_far trace burdens k self → HasCome A.block_of A.is_so_far trace burdens k j.0) }
         ensures fault { IfErr result (λ f. (trace : Recording) (k : ℕ) → HasCome A.block_of A.is_so_far trace burdens k self → IsFaultOf trace.records f) }
-        ensures room { IfOk result (λ j. length self.waiting.items ≤ workers → length j.0.waiting.items < workers) }
+        ensures room { IfOk result (λ j. (workers : ℕ) → threads ≤ workers → length self.waiting.items ≤ workers → length j.0.waiting.items < workers) }
     {
-        if self.waiting.len() < workers as usize {
+        if self.waiting.len() < threads as usize {
             return Ok((self, Vec::new(alloc)));
         }
         self.join_first(rt, alloc, burdens)
     }
 
-    /// What all records come to, with what all threads bring joined onto it.
+    /// What all events come to, with what all threads bring joined onto it.
     ///
     /// # Errors
     ///
@@ -151,12 +229,13 @@ impl<A: SoFar> Joining<A> {
         ensures fault { IfErr result (λ f. (trace : Recording) (k : ℕ) → HasCome A.block_of A.is_so_far trace block.burdens k self → IsBlockAt trace block.burdens k block → IsFaultOf trace.records f) }
         ensures none { IfOk result (λ j. length j.0.waiting.items ≡ 0) }
     {
+        let readers = self.readers.behind_one_here();
         let so_far = match self.end(rt, alloc, block.burdens) {
             Ok(so_far) => so_far,
             Err(fault) => return Err(fault),
         };
         match so_far.read(alloc, &block) {
-            Ok(so_far) => Ok((Joining::behind(alloc, so_far), block.bytes)),
+            Ok(so_far) => Ok((Joining::read_by(alloc, so_far, readers), block.bytes)),
             Err(fault) => Err(fault),
         }
     }
@@ -178,6 +257,7 @@ impl<A: SoFar> Joining<A> {
         ensures fault { IfErr result (λ f. (trace : Recording) (k : ℕ) (block : Block) → HasCome A.block_of A.is_so_far trace burdens k self → IsBlockAt trace burdens k block → IfOk part (A.is_part block) → IsFaultOf trace.records f) }
         ensures none { IfOk result (λ j. length j.waiting.items ≡ 0) }
     {
+        let readers = self.readers;
         let so_far = match self.end(rt, alloc, burdens) {
             Ok(so_far) => so_far,
             Err(fault) => return Err(fault),
@@ -185,8 +265,9 @@ impl<A: SoFar> Joining<A> {
         let Ok(part) = part else {
             return Err(ProfileFault::Memory);
         };
+        let readers = readers.behind_joined(A::is_deep(&part));
         match so_far.join(alloc, part, burdens) {
-            Ok(so_far) => Ok(Joining::behind(alloc, so_far)),
+            Ok(so_far) => Ok(Joining::read_by(alloc, so_far, readers)),
             Err(fault) => Err(fault),
         }
     }
@@ -211,9 +292,14 @@ impl<A: SoFar> Joining<A> {
         let Joining {
             so_far,
             mut waiting,
+            readers,
         } = self;
         match waiting.push_back(thread) {
-            Ok(()) => Ok(Joining { so_far, waiting }),
+            Ok(()) => Ok(Joining {
+                so_far,
+                waiting,
+                readers,
+            }),
             Err(refused) => {
                 drop(A::wait(rt, refused.value));
                 let_go::<A, R>(rt, waiting);
@@ -222,9 +308,9 @@ impl<A: SoFar> Joining<A> {
         }
     }
 
-    /// Goes on by the next block, and gives room for another one's bytes. By several workers a new
-    /// thread reads the block, once no more than so many are left with it: this one waits for the first of them, and joins
-    /// what it brings. One worker reads the block itself.
+    /// Goes on by the next block, and gives room for another one's bytes. By several workers a new thread reads the block, once
+    /// no more than so many are left with it: this one waits for the first of them, and joins what it brings. This thread reads
+    /// the block itself where there is one worker, and for some blocks behind a deep one.
     ///
     /// # Errors
     ///
@@ -242,13 +328,18 @@ impl<A: SoFar> Joining<A> {
         ensures fault { IfErr result (λ f. (trace : Recording) (k : ℕ) → HasCome A.block_of A.is_so_far trace block.burdens k self → IsBlockAt trace block.burdens k block → IsFaultOf trace.records f) }
         ensures few { IfOk result (λ j. length self.waiting.items ≤ workers → length j.0.waiting.items ≤ workers) }
     {
-        if workers < 2 {
+        let threads = self.readers.threads(workers);
+        if threads == 0 {
             return self.read_here(rt, alloc, block);
         }
-        let (joining, room) = match self.with_room(rt, alloc, block.burdens, workers) {
+        let (joining, room) = match self.with_room(rt, alloc, block.burdens, threads) {
             Ok(joined) => joined,
             Err(fault) => return Err(fault),
         };
+        // What was joined may be deep.
+        if joining.readers.threads(workers) == 0 {
+            return joining.read_here(rt, alloc, block);
+        }
         match joining.start(rt, alloc, block) {
             Ok(joining) => Ok((joining, room)),
             Err(fault) => Err(fault),

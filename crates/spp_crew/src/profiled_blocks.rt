@@ -94,6 +94,10 @@ impl SoFar for ProfileSoFar {
         thread.join(rt)
     }
 
+    fn is_deep(part: &PartProfile) -> bool {
+        part.is_deep()
+    }
+
     fn join(
         self,
         alloc: Global,

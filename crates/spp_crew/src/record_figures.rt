@@ -1,4 +1,4 @@
-//! The figures of a run whose records come block by block.
+//! The figures of a run whose events come block by block.
 
 ghost use Rattle.std.specs.Prelude.{◌≡◌, ◌+◌, ◌*◌, ◌/◌, ◌≤◌, ◌<◌, ◌^◌, ◌++◌, ℕ, List, [], length, take, Err as AsErr, IfOk, IfErr};
 ghost use Rattle.spp_event.specs.declared.version.Version.TheVariants.{One};
@@ -22,7 +22,7 @@ use spp_summary::Summary;
 use std::alloc::{AllocError, Global};
 use std::thread::Threads;
 
-/// The figures of a run whose records come block by block, in a trace of either version: what those that have come show. It
+/// The figures of a run whose events come block by block, in a trace of either version: what those that have come show. It
 /// keeps none but the blocks that threads still have.
 #[derive(Drop)]
 pub struct RecordFigures {
@@ -31,7 +31,7 @@ pub struct RecordFigures {
     burdens: Burdens,
     /// What they show; nothing is meant by it where more have come than the header claims.
     shown: Shown<Summary>,
-    /// How many records have come.
+    /// How many events have come.
     at: u32,
     ghost limits: { IsHead head },
 }
@@ -154,7 +154,7 @@ impl RecordFigures {
         Ok((figures, room))
     }
 
-    /// Waits for the threads that still read records, and lets go of all.
+    /// Waits for the threads that still read events, and lets go of all.
     pub fn let_go<R: Threads>(self, rt: &R) {
         self.shown.let_go(rt);
     }

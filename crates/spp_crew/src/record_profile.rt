@@ -1,4 +1,4 @@
-//! The profile of a run whose records come block by block.
+//! The profile of a run whose events come block by block.
 
 ghost use Rattle.std.specs.Prelude.{◌≡◌, ◌+◌, ◌*◌, ◌/◌, ◌≤◌, ◌<◌, ◌^◌, ◌++◌, ℕ, List, [], length, take, slice_index, IfOk, IfErr};
 ghost use Rattle.spp_event.specs.declared.version.Version.TheVariants.{One};
@@ -21,7 +21,7 @@ use std::alloc::{AllocError, Global};
 use std::sync::Wait;
 use std::thread::Threads;
 
-/// The profile of a run whose records come block by block, in a trace of either version: what those that have come show. It
+/// The profile of a run whose events come block by block, in a trace of either version: what those that have come show. It
 /// keeps none but the blocks that threads still have.
 #[derive(Drop)]
 pub struct RecordProfile {
@@ -30,7 +30,7 @@ pub struct RecordProfile {
     burdens: Burdens,
     /// What they show; nothing is meant by it where more have come than the header claims.
     shown: Shown<ProfileSoFar>,
-    /// How many records have come.
+    /// How many events have come.
     at: u32,
     ghost limits: { IsHead head },
 }
@@ -97,8 +97,9 @@ impl RecordProfile {
     /// of any bytes, mostly of as many. Where so many workers, 1 to 64, are several, a new thread reads the records, by
     /// `PartProfile::of_records`, while this one goes on; what it finds is joined, by `ProfileSoFar::join`, once so many threads
     /// are at work, or at the end. So the time is that of starting a thread, of waiting for an earlier one, and of joining what
-    /// that found. One worker reads them on this thread, by `ProfileSoFar::read_records`. How many there are doesn't show in the
-    /// profile. The time is constant where a bad event was met before, or where more records have come than the header claims.
+    /// that found. This thread reads them itself, by `ProfileSoFar::read_records`, where there is one worker, and for some calls
+    /// behind records that were deep (`PartProfile::is_deep`). How many workers there are doesn't show in the profile. The time is
+    /// constant where a bad event was met before, or where more records have come than the header claims.
     /// The memory, besides that of the profile so far, is for each thread that of the bytes and of what they come to.
     ///
     /// # Errors
@@ -178,7 +179,7 @@ impl RecordProfile {
         Ok((profile, room))
     }
 
-    /// Waits for the threads that still read records, and lets go of all.
+    /// Waits for the threads that still read events, and lets go of all.
     pub fn let_go<R: Threads>(self, rt: &R) {
         self.shown.let_go(rt);
     }

@@ -61,7 +61,7 @@ impl<A: SoFar> Shown<A> {
         }
     }
 
-    /// Waits for the threads that still read records, and lets go of all.
+    /// Waits for the threads that still read events, and lets go of all.
     pub(crate) fn let_go<R: Threads>(self, rt: &R) {
         match self {
             Shown::Good(joining) => joining.let_go(rt),

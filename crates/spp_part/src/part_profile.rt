@@ -180,7 +180,23 @@ impl Reading {
     }
 }
 
+/// In a deep part so many stretches have ended, and frames are left open, together, or more.
+const DEEP_FRAMES: usize = 1024;
+
+/// And they are at least one for so many of its events.
+const EVENTS_OF_A_FRAME: usize = 8;
+
 impl PartProfile {
+    /// Whether so many of its stretches have ended, and so many frames are left open, that to join the part takes about as long as
+    /// to read its events. No clause says when it is so: answers don't depend on it.
+    pub fn is_deep(&self) -> bool {
+        let frames = self
+            .ended
+            .len()
+            .saturating_add(self.last.counted.open_frames());
+        frames >= DEEP_FRAMES && frames >= self.good as usize / EVENTS_OF_A_FRAME
+    }
+
     /// What a part comes to, by a reader that stands at its first event.
     fn of_part_by<R: Reader>(
         alloc: Global,

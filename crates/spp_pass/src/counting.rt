@@ -1,6 +1,6 @@
 //! The open frames of a run with their weights, and the frames that have closed by call site, as its events come.
 
-ghost use Rattle.std.specs.Prelude.{◌≡◌, ◌+◌, ◌<◌, ◌≤◌, ◌^◌, ◌∷◌, ℕ, List, length, None, is_some, IfSome, OnOk, IfOk};
+ghost use Rattle.std.specs.Prelude.{◌≡◌, suc, ◌+◌, ◌<◌, ◌≤◌, ◌^◌, ◌∷◌, ℕ, List, length, None, is_some, IfSome, OnOk, IfOk};
 ghost use Rattle.spp_dag.specs.declared.stack.EntryFrame.{EntryFrame as FrameValue};
 ghost use Rattle.spp_stack.specs.Chain.{HasFrames};
 ghost use Rattle.spp_pass.specs.Passes.{
@@ -110,6 +110,13 @@ pub struct CountedStretch {
 }
 
 impl CountedStretch {
+    /// How many frames it leaves open.
+    pub fn open_frames(&self) -> usize
+        ensures { suc result ≡ length (frames_of self.now) }
+    {
+        self.frames.len().saturating_sub(1)
+    }
+
     /// The instructions of its strands, if it is strands alone and they are fewer than 2^64.
     pub fn strand(&self) -> Option<u64>
         ensures { IfSome result (λ n. IsStrand n self.now) }

@@ -136,7 +136,7 @@ impl LoggedWays {
     /// The frame waits, and takes the child that waits in it or not: it goes on so, and no child waits any longer. Gives where
     /// the way on which it goes on ends in the log.
     #[inline(always)]
-    fn settle(&mut self, takes: bool) -> u32
+    fn wait(&mut self, takes: bool) -> u32
         ensures ways { self.new ≡ record { along = chosen takes self.old; through = nothing } }
         ensures rows { result ≡ (chosen takes self.old).rows }
     {
@@ -325,7 +325,7 @@ impl FrameWays {
     /// Counts the stored rows of a child that returns, and has its own merged no sooner than the child's. Where nothing is
     /// stored for the child, its limit is that with which frames are opened.
     #[inline(always)]
-    fn take_over(&mut self, stored: u32, limit: u32)
+    fn inherit(&mut self, stored: u32, limit: u32)
         ensures { (s : ℕ) × (l : ℕ) × (self.new ≡ record self.old { stored = s; limit = l }) }
     {
         if stored > 0 {
@@ -487,8 +487,8 @@ impl OpenWays {
     {
         let last = self.frames.len() - 1;
         let frame = &mut self.frames[last];
-        let plain = frame.plain.settle(takes.plain);
-        let burdened = frame.burdened.settle(takes.burdened);
+        let plain = frame.plain.wait(takes.plain);
+        let burdened = frame.burdened.wait(takes.burdened);
         let needed = frame.start.max(plain).max(burdened);
         self.log.cut(needed);
     }
@@ -577,7 +577,7 @@ impl OpenWays {
         })?;
         parent.plain.come(kind, wins.plain, rows);
         parent.burdened.come(kind, wins.burdened, rows);
-        parent.take_over(stored, limit);
+        parent.inherit(stored, limit);
         Ok(parent.is_full(rows))
     }
 

@@ -14,7 +14,7 @@ join-requires g c =
 pub returns-in-Ok-join-clause-come : goal.returns-in-Ok-join-clause-come
 returns-in-Ok-join-clause-come g c trace k block come at part =
     let then = c.in-Ok-join.ensures.so_far trace k block (c.in-Ok.ensures.so_far trace k come) at (ok_told _ c.args.part c.in-Ok-part.part c.in-Ok-part.is part) in
-    c.behind.ensures.come trace c.args.burdens (k + count_of block) then
+    c.read_by.ensures.come trace c.args.burdens (k + count_of block) then
 
 pub returns-in-Err-join-clause-fault : goal.returns-in-Err-join-clause-fault
 returns-in-Err-join-clause-fault g c trace k block come at part =

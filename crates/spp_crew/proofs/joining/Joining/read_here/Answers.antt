@@ -13,7 +13,7 @@ read-requires-clause-so_far g c =
 pub returns-in-Ok-read-clause-come : goal.returns-in-Ok-read-clause-come
 returns-in-Ok-read-clause-come g c trace k come at =
     let then = c.in-Ok-read.ensures.so_far trace k (c.in-Ok.ensures.so_far trace k come) at in
-    c.behind.ensures.come trace c.args.block.burdens (k + count_of c.args.block) then
+    c.read_by.ensures.come trace c.args.block.burdens (k + count_of c.args.block) then
 
 pub returns-in-Err-read-clause-fault : goal.returns-in-Err-read-clause-fault
 returns-in-Err-read-clause-fault g c trace k come at = c.in-Err-read.ensures.fault trace k (c.in-Ok.ensures.so_far trace k come) at

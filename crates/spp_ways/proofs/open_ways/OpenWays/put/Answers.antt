@@ -161,12 +161,12 @@ returns-clause-put c =
     c.in_ok-rows.ensures.row ∙ ap₂ (λ (l : List LogRow) (r : LogRow). l ++ (r ∷ [])) cut is_row in
     let count : c.in_ok-rows.rows ≡ suc n =
     (let x = c.in_ok-rows.ensures.count in let y : length c.cut-2.new.self.rows.items ≡ length (take n items) = ap (λ (l : List LogRow). length l) cut in let z : length (take n items) ≡ n = length-take-le n items short in omega arith) in
-    let stored : ℕ = c.take_over.ensures.0 in
-    let limit : ℕ = c.take_over.ensures.1 in
+    let stored : ℕ = c.inherit.ensures.0 in
+    let limit : ℕ = c.inherit.ensures.1 in
     let frame = λ (x y : LoggedWays) (f : FrameWays). let w : FrameWays = record { plain = x; burdened = y; start = f.start; stored = stored; limit = limit } in w in
-    let is_frame : c.take_over.new.self ≡ come_frame kind wins (suc n) stored limit g =
-    c.take_over.ensures.2 ∙ ap₂ (λ (x y : LoggedWays). frame x y old) c.come.ensures c.come-2.ensures ∙ ap₂ (λ (k : ℕ) (f : FrameWays). come_frame kind wins k stored limit f) count parent in
-    let frames : reverse (set rest (c.len-last.result - 1 - 1) c.take_over.new.self) ≡ come_frame kind wins (suc n) stored limit g ∷ u.below =
+    let is_frame : c.inherit.new.self ≡ come_frame kind wins (suc n) stored limit g =
+    c.inherit.ensures.2 ∙ ap₂ (λ (x y : LoggedWays). frame x y old) c.come.ensures c.come-2.ensures ∙ ap₂ (λ (k : ℕ) (f : FrameWays). come_frame kind wins k stored limit f) count parent in
+    let frames : reverse (set rest (c.len-last.result - 1 - 1) c.inherit.new.self) ≡ come_frame kind wins (suc n) stored limit g ∷ u.below =
     ap₂ (λ (k : ℕ) (f : FrameWays). reverse (set rest k f)) next is_frame ∙ u.put (come_frame kind wins (suc n) stored limit g) in
     let on : entered kind wins ≡ true = sym c.is_entered.ensures ∙ c.if-not-is_entered.false in
     record {
@@ -179,7 +179,7 @@ returns-clause-put c =
       plain = sp;
       burdened = sb;
       short = short;
-      left = subst (λ b. IsLeft b kind takes wins site caller closed v g u.below n items c.push.new.self.rows.items (reverse (set rest (c.len-last.result - 1 - 1) c.take_over.new.self))) (sym on) (stored, limit, np, nb, log, frames);
+      left = subst (λ b. IsLeft b kind takes wins site caller closed v g u.below n items c.push.new.self.rows.items (reverse (set rest (c.len-last.result - 1 - 1) c.inherit.new.self))) (sym on) (stored, limit, np, nb, log, frames);
     }
 
 pub returns-clause-many : goal.returns-clause-many
@@ -257,15 +257,15 @@ returns-clause-many c more =
     c.in_ok-rows.ensures.row ∙ ap₂ (λ (l : List LogRow) (r : LogRow). l ++ (r ∷ [])) cut is_row in
     let count : c.in_ok-rows.rows ≡ suc n =
     (let x = c.in_ok-rows.ensures.count in let y : length c.cut-2.new.self.rows.items ≡ length (take n items) = ap (λ (l : List LogRow). length l) cut in let z : length (take n items) ≡ n = length-take-le n items short in omega arith) in
-    let stored : ℕ = c.take_over.ensures.0 in
-    let limit : ℕ = c.take_over.ensures.1 in
+    let stored : ℕ = c.inherit.ensures.0 in
+    let limit : ℕ = c.inherit.ensures.1 in
     let frame = λ (x y : LoggedWays) (f : FrameWays). let w : FrameWays = record { plain = x; burdened = y; start = f.start; stored = stored; limit = limit } in w in
-    let is_frame : c.take_over.new.self ≡ come_frame kind wins (suc n) stored limit g =
-    c.take_over.ensures.2 ∙ ap₂ (λ (x y : LoggedWays). frame x y old) c.come.ensures c.come-2.ensures ∙ ap₂ (λ (k : ℕ) (f : FrameWays). come_frame kind wins k stored limit f) count parent in
-    let frames : reverse (set rest (c.len-last.result - 1 - 1) c.take_over.new.self) ≡ come_frame kind wins (suc n) stored limit g ∷ u.below =
+    let is_frame : c.inherit.new.self ≡ come_frame kind wins (suc n) stored limit g =
+    c.inherit.ensures.2 ∙ ap₂ (λ (x y : LoggedWays). frame x y old) c.come.ensures c.come-2.ensures ∙ ap₂ (λ (k : ℕ) (f : FrameWays). come_frame kind wins k stored limit f) count parent in
+    let frames : reverse (set rest (c.len-last.result - 1 - 1) c.inherit.new.self) ≡ come_frame kind wins (suc n) stored limit g ∷ u.below =
     ap₂ (λ (k : ℕ) (f : FrameWays). reverse (set rest k f)) next is_frame ∙ u.put (come_frame kind wins (suc n) stored limit g) in
     let rows : length c.push.new.self.rows.items ≡ c.in_ok-rows.rows =
     (let x = c.in_ok-rows.ensures.count in let y : length c.push.new.self.rows.items ≡ length (c.cut-2.new.self.rows.items ++ (row c.chosen-plain.result c.chosen-burdened.result old ∷ [])) = ap (λ (l : List LogRow). length l) c.in_ok-rows.ensures.row in
     let z = length-append c.cut-2.new.self.rows.items (row c.chosen-plain.result c.chosen-burdened.result old ∷ []) in omega arith) in
-    let full : old.start + 2 ≤ c.in_ok-rows.rows = subst (λ k. k + 2 ≤ c.in_ok-rows.rows) (ap (λ (f : FrameWays). f.start) c.take_over.ensures.2) (c.is_full.ensures.two more) in
+    let full : old.start + 2 ≤ c.in_ok-rows.rows = subst (λ k. k + 2 ≤ c.in_ok-rows.rows) (ap (λ (f : FrameWays). f.start) c.inherit.ensures.2) (c.is_full.ensures.two more) in
     subst (HasRowsOf (length c.push.new.self.rows.items)) (sym frames) (let z : g.start + 2 ≤ length c.push.new.self.rows.items = omega arith in z)
