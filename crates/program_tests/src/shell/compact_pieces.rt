@@ -82,8 +82,8 @@ fn each_byte_of_a_small_trace_is_another(rt: HostRuntime) -> Result<(), Fail> {
     Ok(())
 }
 
-/// The first block of `check` and `migrate` has 65,536 bytes of the body, that of a profile 131,072, and figures are as these. The items of
-/// five events have 20 bytes or 21 there: behind so many syncs a block ends at each of these.
+/// The first block of `check` and `migrate` has 65,536 bytes of the body, that of a profile 131,072, and figures are as these.
+/// The items of five events have 20 bytes or 21 there: behind so many syncs a block ends at each of these.
 #[test]
 fn a_block_ends_at_each_byte_of_an_item(rt: HostRuntime) -> Result<(), Fail> {
     let events = compact(rt.alloc(), 1, 40000)?;
