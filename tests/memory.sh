@@ -264,11 +264,11 @@ peaks_within 32000 0 "$folder/compact" profile --workers 2 "$folder/compact"
 size=$(($(stat -c %s "$folder/long") / 1024))
 peaks_within 32000 0 "$folder/long" migrate
 peaks_within 32000 0 "$folder/long" migrate "$folder/long"
-# Six towers of half a million nested frames, each of which takes 272 bytes, once for all workers: where a run is deep one
+# Six towers of half a million nested frames, each of which takes 224 bytes, once for all workers: where a run is deep one
 # thread reads most blocks, and parts take nearly as much again where several do.
 { yes 'call 0 0' | head -n 500000 && yes return | head -n 500000; } > "$folder/tower"
 { printf 'func f\nsite A\n' && for tower in 1 2 3 4 5 6; do cat "$folder/tower"; done; } | "$spprof" encode > "$folder/deep"
-peak_within 240000 "$folder/deep" profile --workers 4
+peak_within 180000 "$folder/deep" profile --workers 4
 # So it starts few threads for its 92 blocks; leaves behind a tower have one for each of 69 again.
 starts_within() { # LEAST MOST NAME INPUT WORDS..: so many threads are started
     local least=$1 most=$2 name=$3 input=$4 status requests starts

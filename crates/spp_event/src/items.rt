@@ -1,10 +1,10 @@
 //! Events as version 2 spells them: items of at most thirteen bytes.
 
-ghost use Rattle.std.specs.Prelude.{◌≡◌, ◌++◌, ◌<◌, ◌^◌, ℕ, List, None, IfOk, IfSome, OnOk};
+ghost use Rattle.std.specs.Prelude.{◌≡◌, ◌++◌, ◌<◌, ◌≤◌, ◌-◌, ◌^◌, nat_lt, ℕ, List, None, length, take, drop, IfOk, IfSome, IsTrue, OnOk};
 ghost use Rattle.std.specs.Int.Digits.{digits_of};
 ghost use Rattle.spp_event.specs.Items.{operand, item_of, within_trace, read_item};
-ghost use Rattle.spp_event.specs.Places.{GoesOn};
-ghost use Rattle.spp_event.specs.Records.{IsEvent, IsEventOf};
+ghost use Rattle.spp_event.specs.Places.{GoesOn, IsItemBetween};
+ghost use Rattle.spp_event.specs.Records.{IsEvent, IsEventOf, names_site, names_func};
 ghost use Rattle.spp_event.specs.declared.records.Event.{Event as EventValue};
 
 use crate::records::{Event, EventFault};
@@ -35,6 +35,7 @@ fn push_operand(bytes: &mut Vec<u8>, n: u64) -> Result<(), AllocError>
 }
 
 /// Adds the item of an event.
+#[inline(always)]
 pub(crate) fn push_item(bytes: &mut Vec<u8>, event: Event) -> Result<(), AllocError>
     ensures { OnOk result (bytes.new.items ≡ bytes.old.items ++ item_of event) }
 {
@@ -114,6 +115,15 @@ fn operand_behind(front: u64, bytes: &[u8]) -> Option<(u64, &[u8])>
     None
 }
 
+/// As [`operand_behind`], with a place in memory for the answer that is made ready here, on the way that few numbers take.
+#[inline(always)]
+fn long_operand(front: u64, bytes: &[u8]) -> Option<(u64, &[u8])>
+    requires { 0 < front }
+    ensures { IfSome result (λ x. digits_of 64 front ++ bytes.now ≡ operand x.0 ++ x.1.now) }
+{
+    operand_behind(front, bytes)
+}
+
 /// The number that [`operand_of`] finds, and the bytes behind it; those of one digit to three, which most are, without a
 /// loop.
 #[inline(always)]
@@ -142,7 +152,7 @@ fn operand_in_front(bytes: &[u8]) -> Option<(u64, &[u8])>
     if end >= BASE {
         return Some((front * BASE + (end - BASE), rest));
     }
-    operand_behind(front * BASE + end, rest)
+    long_operand(front * BASE + end, rest)
 }
 
 /// The one number that the bytes are; none where they are no number below 2^64 in its one spelling.
@@ -192,43 +202,61 @@ pub(crate) fn spelled(item: &[u8]) -> Option<Event>
     }
 }
 
-/// The event, and the bytes behind its item, which are these; none where it goes on in them.
+/// Whether the bytes end, or an item begins at the first.
 #[inline(always)]
-fn unless_it_goes_on(event: Event, rest: &[u8]) -> Option<(Event, &[u8])>
-    ensures is { IfSome result (λ x. (x.0 ≡ event) × (x.1.now ≡ rest.now)) }
-    ensures on { IfSome result (λ x. GoesOn x.1.now) }
+fn goes_on(bytes: &[u8]) -> bool
+    ensures { IsTrue result → GoesOn bytes.now }
 {
-    match rest.first() {
-        Some(next) if *next < 0x80 => None,
-        _ => Some((event, rest)),
+    match bytes.first() {
+        Some(next) => *next >= 0x80,
+        None => true,
     }
 }
 
-/// The event whose item stands in front, and the bytes behind it; none where that item is bad, or goes on behind what
-/// would be the item of an event. The caller then looks at the whole item.
-///
-/// What follows the item is looked at once for each kind of event, so that what a caller does by kinds needs no second jump.
+/// The event whose item stands at a place, behind which there are these bytes, and the place of these; none where the item goes on in
+/// them.
 #[inline(always)]
-pub(crate) fn front(bytes: &[u8]) -> Option<(Event, &[u8])>
-    ensures is { IfSome result (λ x. (bytes.now ≡ item_of x.0 ++ x.1.now) × IsEvent x.0) }
-    ensures on { IfSome result (λ x. GoesOn x.1.now) }
+fn if_it_ends(event: Event, body: &[u8], place: usize, rest: &[u8]) -> Option<(Event, usize)>
+    requires within { place ≤ length body.now }
+    requires is { drop place body.now ≡ item_of event ++ rest.now }
+    requires event { IsEvent event }
+    ensures between { IfSome result (λ x. IsItemBetween body.now place x.1) }
+    ensures is { IfSome result (λ x. (take (x.1 - place) (drop place body.now) ≡ item_of x.0) × IsEvent x.0) }
 {
-    let (lead, rest) = bytes.split_first()?;
+    if goes_on(rest) {
+        Some((event, body.len() - rest.len()))
+    } else {
+        None
+    }
+}
+
+/// The event whose item begins at a place, and the place behind it; none where that item is bad, or goes on behind what would be the
+/// item of an event. The caller then looks at the whole item.
+///
+/// What follows the item, and its place, are looked at in the branch of its kind, so that what a caller does by kinds needs no second
+/// jump.
+#[inline(always)]
+pub(crate) fn front(body: &[u8], place: usize) -> Option<(Event, usize)>
+    requires { place ≤ length body.now }
+    ensures between { IfSome result (λ x. IsItemBetween body.now place x.1) }
+    ensures is { IfSome result (λ x. (take (x.1 - place) (drop place body.now) ≡ item_of x.0) × IsEvent x.0) }
+{
+    let (lead, rest) = body[place..].split_first()?;
     match *lead {
         0x80 => {
             let (count, rest) = operand_in_front(rest)?;
-            unless_it_goes_on(Event::Strand { count }, rest)
+            if_it_ends(Event::Strand { count }, body, place, rest)
         }
         0x81 => {
             let (site, func, rest) = two_in_front(rest)?;
-            unless_it_goes_on(Event::Call { site, func }, rest)
+            if_it_ends(Event::Call { site, func }, body, place, rest)
         }
         0x82 => {
             let (site, func, rest) = two_in_front(rest)?;
-            unless_it_goes_on(Event::Spawn { site, func }, rest)
+            if_it_ends(Event::Spawn { site, func }, body, place, rest)
         }
-        0x83 => unless_it_goes_on(Event::Ret, rest),
-        0x84 => unless_it_goes_on(Event::Sync, rest),
+        0x83 => if_it_ends(Event::Ret, body, place, rest),
+        0x84 => if_it_ends(Event::Sync, body, place, rest),
         _ => None,
     }
 }
@@ -246,7 +274,30 @@ fn two_in_front(bytes: &[u8]) -> Option<(u32, u32, &[u8])>
     Some((n as u32, m as u32, rest))
 }
 
-/// The event, where the site and the function that it names, if any, are among so many.
+/// An event that names this site and this function, where they are among so many.
+#[inline(always)]
+fn named_within(
+    event: Event,
+    site: u32,
+    func: u32,
+    sites: u32,
+    funcs: u32,
+) -> Result<Event, EventFault>
+    requires site { names_site sites event ≡ nat_lt site sites }
+    requires func { names_func funcs event ≡ nat_lt func funcs }
+    ensures { result ≡ within_trace sites funcs event }
+{
+    if site >= sites {
+        Err(EventFault::Site)
+    } else if func >= funcs {
+        Err(EventFault::Func)
+    } else {
+        Ok(event)
+    }
+}
+
+/// The event, where the site and the function that it names, if any, are among so many. They are looked at in the branch of its kind, as
+/// in [`front`].
 #[inline(always)]
 pub(crate) fn within(event: Event, sites: u32, funcs: u32) -> Result<Event, EventFault>
     requires { IsEvent event }
@@ -254,13 +305,9 @@ pub(crate) fn within(event: Event, sites: u32, funcs: u32) -> Result<Event, Even
     ensures of_trace { IfOk result (λ e. IsEventOf sites funcs e) }
 {
     match event {
-        Event::Call { site, .. } | Event::Spawn { site, .. } if site >= sites => {
-            Err(EventFault::Site)
-        }
-        Event::Call { func, .. } | Event::Spawn { func, .. } if func >= funcs => {
-            Err(EventFault::Func)
-        }
-        _ => Ok(event),
+        Event::Call { site, func } => named_within(event, site, func, sites, funcs),
+        Event::Spawn { site, func } => named_within(event, site, func, sites, funcs),
+        Event::Strand { .. } | Event::Ret | Event::Sync => Ok(event),
     }
 }
 

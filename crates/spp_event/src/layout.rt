@@ -39,6 +39,24 @@ pub(crate) fn record_there(bytes: &[u8], i: u32) -> &[u8; RECORD]
     }
 }
 
+/// As [`read_item_at`], by the whole item. It is a function, though short: places in memory for what it calls are made ready where it is
+/// called, and not at each event.
+#[inline(always)]
+fn read_whole_item_at(
+    body: &[u8],
+    place: usize,
+    sites: u32,
+    funcs: u32,
+) -> (Result<Event, EventFault>, usize)
+    requires { place < length body.now }
+    ensures said { (i : ℕ) → IsItemPlace body.now i place → result.0 ≡ read_item sites funcs (item body.now i) }
+    ensures behind { (i : ℕ) → IsItemPlace body.now i place → IsItemPlace body.now (i + 1) result.1 }
+    ensures within { IfOk result.0 (λ e. IsEventOf sites funcs e) }
+{
+    let next = behind_item(body, place);
+    (event_of_item(&body[place..next], sites, funcs), next)
+}
+
 /// The event of the item that begins at a place, or what is wrong with it first, and the place behind it.
 #[inline(always)]
 pub(crate) fn read_item_at(
@@ -52,14 +70,27 @@ pub(crate) fn read_item_at(
     ensures behind { (i : ℕ) → IsItemPlace body.now i place → IsItemPlace body.now (i + 1) result.1 }
     ensures within { IfOk result.0 (λ e. IsEventOf sites funcs e) }
 {
-    if let Some((event, rest)) = front(&body[place..]) {
-        return (within(event, sites, funcs), body.len() - rest.len());
+    if let Some((event, next)) = front(body, place) {
+        return (within(event, sites, funcs), next);
     }
     if place == body.len() {
         return (Err(EventFault::Truncated), place);
     }
+    read_whole_item_at(body, place, sites, funcs)
+}
+
+/// As [`known_item_at`], by the whole item.
+#[inline(always)]
+fn known_whole_item_at(body: &[u8], place: usize) -> (Event, usize)
+    requires { (i sites funcs : ℕ) × IsItemPlace body.now i place × IsOk (read_item sites funcs (item body.now i)) }
+    ensures said { (i sites funcs : ℕ) → IsItemPlace body.now i place → IsOk (read_item sites funcs (item body.now i)) → read_item sites funcs (item body.now i) ≡ Ok result.0 }
+    ensures behind { (i : ℕ) → IsItemPlace body.now i place → IsItemPlace body.now (i + 1) result.1 }
+{
     let next = behind_item(body, place);
-    (event_of_item(&body[place..next], sites, funcs), next)
+    let Some(event) = spelled(&body[place..next]) else {
+        unreachable!();
+    };
+    (event, next)
 }
 
 /// The event of the item that begins at a place, where one is known to stand, and the place behind it.
@@ -69,14 +100,10 @@ pub(crate) fn known_item_at(body: &[u8], place: usize) -> (Event, usize)
     ensures said { (i sites funcs : ℕ) → IsItemPlace body.now i place → IsOk (read_item sites funcs (item body.now i)) → read_item sites funcs (item body.now i) ≡ Ok result.0 }
     ensures behind { (i : ℕ) → IsItemPlace body.now i place → IsItemPlace body.now (i + 1) result.1 }
 {
-    if let Some((event, rest)) = front(&body[place..]) {
-        return (event, body.len() - rest.len());
+    if let Some(found) = front(body, place) {
+        return found;
     }
-    let next = behind_item(body, place);
-    let Some(event) = spelled(&body[place..next]) else {
-        unreachable!();
-    };
-    (event, next)
+    known_whole_item_at(body, place)
 }
 
 /// How the events lie in the body of a trace.

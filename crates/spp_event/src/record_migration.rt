@@ -20,7 +20,7 @@ use crate::stretches::items_in;
 use crate::traces::{Trace, are_bytes};
 use std::alloc::{AllocError, Global};
 
-/// An event whose bytes spell none.
+/// A record or item that spells no event of the trace.
 #[derive(Clone, Copy, Debug, PartialEq, Eq)]
 pub struct BadEvent {
     /// Its position, from 0.
@@ -133,7 +133,7 @@ impl RecordMigration {
         })
     }
 
-    /// The same behind the `count` whole events of these bytes as well, by a reader that stands at the first of them.
+    /// This migration, behind the `count` whole events of these bytes as well, by a reader that stands at the first of them.
     #[inline(always)]
     fn followed_by_events<B: BytesReader>(
         self,
@@ -163,8 +163,8 @@ impl RecordMigration {
         })
     }
 
-    /// The same behind the whole records of version 1 of these bytes as well. The time is linear in them, or constant where a bad
-    /// event came before.
+    /// This migration, behind the whole records of version 1 of these bytes as well. The time is linear in them, or constant where a
+    /// bad event came before.
     ///
     /// # Errors
     ///
@@ -179,8 +179,8 @@ impl RecordMigration {
         self.followed_by_events(bytes, count, RecordReader)
     }
 
-    /// The same behind the items of version 2 of these bytes as well, as [`RecordMigration::followed_by`]. The time is linear in these
-    /// bytes.
+    /// This migration, behind the items of version 2 of these bytes as well, as [`RecordMigration::followed_by`]. The time is linear in
+    /// these bytes.
     ///
     /// # Errors
     ///

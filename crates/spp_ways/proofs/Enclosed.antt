@@ -12,11 +12,11 @@ use Rattle.spp_ways.specs.declared.open_ways.FrameWays.{FrameWays}
 use Rattle.spp_ways.specs.declared.open_ways.OpenWays.{OpenWays}
 use Rattle.spp_ways.specs.Ways.{Ways}
 use Rattle.spp_ways.specs.Logs.{IsLinked, AreLinked}
-use Rattle.spp_ways.specs.OpenWays.{AllWays, on_path, Laid, IsLaid, IsLeft, IsPut, StayIn, returned_list, waited_list, returned_row, come_frame, bare_row, chosen, entered}
+use Rattle.spp_ways.specs.OpenWays.{AllWays, on_path, plain_of, burdened_of, Laid, IsLaid, IsLeft, IsPut, StayIn, returned_list, waited_list, returned_row, come_frame, bare_row, chosen, waited_frame, entered}
 use Rattle.spp_ways.specs.Enclosures.{Enclosure, enclosed}
 use Rattle.spp_ways.specs.Stretches.{enclosed_row, outer_way, ArePlain, BeginsPlain, AllStarted, IsStretch}
 use Rattle.spp_ways.proofs.Steps.{StrandDone, strand_frame, opened}
-use Rattle.spp_ways.proofs.Returning.{waited_frame, wait_linked, wait_laid, wait_ways}
+use Rattle.spp_ways.proofs.Returning.{wait_linked, wait_laid, wait_ways}
 use Rattle.spp_ways.proofs.Returns.{return_linked, gone_laid, gone_all, kept_linked, kept_laid, kept_all}
 
 pub reverse-map : {A B : Type 0} (f : A → B) (xs : List A) → reverse (map f xs) ≡ map f (reverse xs)
@@ -44,7 +44,7 @@ laid_enclosed e base items fs h = subst (λ n. Laid n fs) (sym (length-map items
 -- what a return leaves
 module _ (kind : FrameKind) (takes wins : OnPaths) (site caller : ℕ) (closed : ClosedFrame) (v g : FrameWays) (below : List FrameWays) (to : ℕ) where
   left_linked : (b : Bool) (items rows : List LogRow) (frames : List FrameWays) → AreLinked (reverse items) → Laid (length items) (v ∷ g ∷ below) → g.start ≤ to
-      → StayIn to kind wins.plain g.plain → StayIn to kind wins.burdened g.burdened → to ≤ length items → site < 65536
+      → StayIn to kind wins.plain (plain_of g) → StayIn to kind wins.burdened (burdened_of g) → to ≤ length items → site < 65536
       → IsLeft b kind takes wins site caller closed v g below to items rows frames → AreLinked (reverse rows)
   left_linked false items rows frames linked laid start sp sb short few h =
       subst (λ (l : List LogRow). AreLinked (reverse l)) (sym h.0) (return_linked items v g below linked laid kind takes wins site caller closed to start sp sb short)
@@ -56,7 +56,7 @@ module _ (kind : FrameKind) (takes wins : OnPaths) (site caller : ℕ) (closed :
   last_row items short = let a = length-take-le to items short in let b = length-reverse (take to items) in omega arith
 
   left_laid : (b : Bool) (items rows : List LogRow) (frames : List FrameWays) → b ≡ entered kind wins → AreLinked (reverse items) → Laid (length items) (v ∷ g ∷ below) → g.start ≤ to
-      → StayIn to kind wins.plain g.plain → StayIn to kind wins.burdened g.burdened → to ≤ length items → site < 65536
+      → StayIn to kind wins.plain (plain_of g) → StayIn to kind wins.burdened (burdened_of g) → to ≤ length items → site < 65536
       → IsLeft b kind takes wins site caller closed v g below to items rows frames → Laid (length rows) frames
   left_laid false items rows frames e linked laid start sp sb short few h =
       subst (λ (l : List LogRow). Laid (length l) frames) (sym h.0) (subst (Laid (length (take to items))) (sym h.1)
@@ -67,7 +67,7 @@ module _ (kind : FrameKind) (takes wins : OnPaths) (site caller : ℕ) (closed :
       (kept_laid items v g below linked laid kind takes wins site caller closed to start sp sb short h.2 h.3 few h.0 h.1)))
 
   left_ways : (b : Bool) (items rows : List LogRow) (frames : List FrameWays) → b ≡ entered kind wins → AreLinked (reverse items) → Laid (length items) (v ∷ g ∷ below) → g.start ≤ to
-      → StayIn to kind wins.plain g.plain → StayIn to kind wins.burdened g.burdened → to ≤ length items → site < 65536
+      → StayIn to kind wins.plain (plain_of g) → StayIn to kind wins.burdened (burdened_of g) → to ≤ length items → site < 65536
       → IsLeft b kind takes wins site caller closed v g below to items rows frames
       → (on : Bool) (ws : List Ways) → AllWays on (reverse items) (v ∷ g ∷ below) ws → AllWays on (reverse rows) frames (returned_list kind (on_path on takes) (on_path on wins) site (bare_row closed) ws)
   left_ways false items rows frames e linked laid start sp sb short few h on ws all =
@@ -221,8 +221,8 @@ pub record Waited (takes : OnPaths) (o : OpenWays) (rows : List LogRow) (opens :
   pub frames : reverse o.frames.items ≡ top ∷ below
   pub to : ℕ
   pub start : top.start ≤ to
-  pub plain : (chosen takes.plain top.plain).rows ≤ to
-  pub burdened : (chosen takes.burdened top.burdened).rows ≤ to
+  pub plain : (chosen takes.plain (plain_of top)).rows ≤ to
+  pub burdened : (chosen takes.burdened (burdened_of top)).rows ≤ to
   pub short : to ≤ length o.log.rows.items
   pub log : rows ≡ take to o.log.rows.items
   pub then : reverse opens ≡ waited_frame takes top ∷ below

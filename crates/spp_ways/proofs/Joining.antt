@@ -20,7 +20,7 @@ use Rattle.spp_ways.specs.declared.open_ways.LoggedStretch.{LoggedStretch}
 use Rattle.spp_ways.specs.declared.open_ways.OpenWays.{OpenWays}
 use Rattle.spp_ways.specs.Ways.{Ways}
 use Rattle.spp_ways.specs.Logs.{way_row, row_on, merged_row, merged_on, before_on, within_on, IsLinked, AreLinked}
-use Rattle.spp_ways.specs.OpenWays.{IsWay, AreBoth, AllWays, on_path, path_of, AreIn, Laid, AreWays, IsLaid, FitTop}
+use Rattle.spp_ways.specs.OpenWays.{IsWay, AreBoth, AllWays, on_path, plain_of, burdened_of, path_of, AreIn, Laid, AreWays, IsLaid, FitTop}
 use Rattle.spp_ways.specs.Enclosures.{Enclosure}
 use Rattle.spp_ways.specs.Stretches.{
   outer_way,
@@ -278,8 +278,8 @@ module _ (links : Links) (e : Enclosure) (before : List LogRow) (count : links.r
   laid_joined limit wins outer f rest laid [] m s h =
       let d : Laid links.rows (f ∷ rest) = subst (λ k. Laid k (f ∷ rest)) (sym count) laid in (
         (let z = d.0 in omega arith),
-        gone_in links.plain links.rows m wins.plain outer.plain f.plain plain h.1 d.1,
-        gone_in links.burdened links.rows m wins.burdened outer.burdened f.burdened burdened h.2 d.2,
+        gone_in links.plain links.rows m wins.plain (plain_of outer) (plain_of f) plain h.1 d.1,
+        gone_in links.burdened links.rows m wins.burdened (burdened_of outer) (burdened_of f) burdened h.2 d.2,
         d.3,
       )
   laid_joined limit wins outer f rest laid (i ∷ is) m s h =
@@ -288,8 +288,8 @@ module _ (links : Links) (e : Enclosure) (before : List LogRow) (count : links.r
       let x : i.start ≡ suc (i.start - 1) = omega arith in
       let y : links.rows + (i.start - 1) ≡ links.rows + i.start - 1 = omega arith in (
         omega arith,
-        joined_in links.plain links.rows m i.plain plain h.1,
-        joined_in links.burdened links.rows m i.burdened burdened h.2,
+        joined_in links.plain links.rows m (plain_of i) plain h.1,
+        joined_in links.burdened links.rows m (burdened_of i) burdened h.2,
         subst (λ k. Laid k (map (joined_frame links limit) is ++ (gone_on links wins outer f ∷ rest))) y
             (laid_joined limit wins outer f rest laid is (i.start - 1) s.1 (subst (λ k. Laid k (is ++ (outer ∷ []))) x h.3)),
       )
@@ -332,7 +332,7 @@ fit_last on log outer (u ∷ v ∷ us) w ws wins h f = absurd h.1
 -- the stretch s is joined onto the ways o, whose innermost frame is f
 module _ (o : OpenWays) (s : LoggedStretch) (e : Enclosure) (wins : OnPaths) (links : Links) (f : FrameWays) (rest : List FrameWays)
     (open_frames : reverse o.frames.items ≡ f ∷ rest) (laid : IsLaid o) (stretch : IsStretch (stretch_rows s) (stretch_frames s))
-    (plain : links.plain ≡ f.plain.along.rows) (burdened : links.burdened ≡ f.burdened.along.rows) (count : links.rows ≡ length o.log.rows.items) where
+    (plain : links.plain ≡ f.plain_rows) (burdened : links.burdened ≡ f.burdened_rows) (count : links.rows ≡ length o.log.rows.items) where
   abbrev rows : List LogRow
   rows = drop 1 s.log.rows.items
 
@@ -423,12 +423,12 @@ pub record Setup (o : OpenWays) (n : ℕ) (links : Links) : Type 0 where
   pub is : reverse o.frames.items ≡ top ∷ below
   pub get : (d : FrameWays) → get_or o.frames.items (n - 1) d ≡ top
   pub put : (g : FrameWays) → reverse (set o.frames.items (n - 1) g) ≡ g ∷ below
-  pub plain : links.plain ≡ top.plain.along.rows
-  pub burdened : links.burdened ≡ top.burdened.along.rows
+  pub plain : links.plain ≡ top.plain_rows
+  pub burdened : links.burdened ≡ top.burdened_rows
   pub count : links.rows ≡ length o.log.rows.items
 
 pub setup : (o : OpenWays) → 0 < length o.frames.items → (n : ℕ) → n ≡ length o.frames.items → (x y : FrameWays) → x ≡ get_or o.frames.items (n - 1) x → y ≡ get_or o.frames.items (n - 1) y
-    → (k : ℕ) → k ≡ length o.log.rows.items → Setup o n (record { plain = x.plain.along.rows; burdened = y.burdened.along.rows; rows = k })
+    → (k : ℕ) → k ≡ length o.log.rows.items → Setup o n (record { plain = x.plain_rows; burdened = y.burdened_rows; rows = k })
 setup o some n at x y is_x is_y k count =
     let t = topped o.frames.items some in
     let get = λ (d : FrameWays). ap (λ (m : ℕ). get_or o.frames.items (m - 1) d) at ∙ t.get d in
@@ -438,8 +438,8 @@ setup o some n at x y is_x is_y k count =
       is = t.is;
       get = get;
       put = λ g. ap (λ (m : ℕ). reverse (set o.frames.items (m - 1) g)) at ∙ t.put g;
-      plain = ap (λ (f : FrameWays). f.plain.along.rows) (is_x ∙ get x);
-      burdened = ap (λ (f : FrameWays). f.burdened.along.rows) (is_y ∙ get y);
+      plain = ap (λ (f : FrameWays). f.plain_rows) (is_x ∙ get x);
+      burdened = ap (λ (f : FrameWays). f.burdened_rows) (is_y ∙ get y);
       count = count;
     }
 

@@ -12,7 +12,7 @@ use Rattle.spp_ways.specs.declared.open_ways.FrameWays.{FrameWays}
 use Rattle.spp_ways.specs.declared.open_ways.OpenWays.{OpenWays}
 use Rattle.spp_ways.specs.Ways.{Ways}
 use Rattle.spp_ways.specs.Logs.{way_row, row_on, merged_row, merged_on, before_on, within_on, IsMergedRow, IsLinked, AreLinked}
-use Rattle.spp_ways.specs.OpenWays.{AreBoth, AllWays, path_of, AreIn, Laid, HasRows, HasRowsOf, FitTop, merged_ways, AreMerged}
+use Rattle.spp_ways.specs.OpenWays.{AreBoth, AllWays, plain_of, burdened_of, path_of, AreIn, Laid, HasRows, HasRowsOf, FitTop, merged_ways, AreMerged}
 use Rattle.spp_ways.proofs.Staying.{AreAlike, rows_older, rows_last, rows_none, all_move, cut, cut_alike, linked_less}
 
 -- a row for what was merged
@@ -89,8 +89,8 @@ module _ (items : List LogRow) (f : FrameWays) (below : List FrameWays) (linked 
 
   pub merge_laid : (g : FrameWays) → AreMerged along through f g → Laid (length rows) (g ∷ below)
   merge_laid g h =
-      let p : AreIn (f.start + 2) g.plain = subst (AreIn (f.start + 2)) (sym h.plain) (omega arith, omega arith) in
-      let b : AreIn (f.start + 2) g.burdened = subst (AreIn (f.start + 2)) (sym h.burdened) (omega arith, omega arith) in
+      let p : AreIn (f.start + 2) (plain_of g) = subst (AreIn (f.start + 2)) (sym h.plain) (omega arith, omega arith) in
+      let b : AreIn (f.start + 2) (burdened_of g) = subst (AreIn (f.start + 2)) (sym h.burdened) (omega arith, omega arith) in
       let s : g.start ≡ f.start = h.start in
       subst (λ k. Laid k (g ∷ below)) (sym rows_are) (omega arith, p, b, subst (λ k. Laid k below) (sym s) laid.3)
 
@@ -111,8 +111,8 @@ module _ (items : List LogRow) (f : FrameWays) (below : List FrameWays) (linked 
       ((h.0.0, λ key. along_adds on key ∙ x key ∙ h.0.1 key), (h.1.0, λ key. through_adds on key ∙ y key ∙ h.1.1 key))
 
   path_ways : (g : FrameWays) → AreMerged along through f g → (on : Bool) (v : Ways) → AreBoth on (reverse items) (path_of on f) v → AreBoth on (b ∷ a ∷ rest) (path_of on g) v
-  path_ways g k false v h = subst (λ (w : LoggedWays). AreBoth false (b ∷ a ∷ rest) w v) (sym k.plain) (top_ways false f.plain v (are false).0 (are false).1 h)
-  path_ways g k true v h = subst (λ (w : LoggedWays). AreBoth true (b ∷ a ∷ rest) w v) (sym k.burdened) (top_ways true f.burdened v (are true).0 (are true).1 h)
+  path_ways g k false v h = subst (λ (w : LoggedWays). AreBoth false (b ∷ a ∷ rest) w v) (sym k.plain) (top_ways false (plain_of f) v (are false).0 (are false).1 h)
+  path_ways g k true v h = subst (λ (w : LoggedWays). AreBoth true (b ∷ a ∷ rest) w v) (sym k.burdened) (top_ways true (burdened_of f) v (are true).0 (are true).1 h)
 
   pub merge_ways : (g : FrameWays) → AreMerged along through f g → (on : Bool) (ws : List Ways) → AllWays on (reverse items) (f ∷ below) ws → AllWays on (reverse rows) (g ∷ below) ws
   merge_ways g k on [] h = absurd h

@@ -15,7 +15,7 @@ use Rattle.spp_ways.specs.declared.open_ways.FrameWays.{FrameWays}
 use Rattle.spp_site.proofs.Rows.{plus-zero}
 use Rattle.spp_ways.specs.Ways.{Leaf, Way, Ways, rows_at, way_on, way_through, waited_ways, closed_rows, returned_ways}
 use Rattle.spp_ways.specs.Logs.{way_row, row_on, merged_row, before_on, within_on, closed_on, AreLinked}
-use Rattle.spp_ways.specs.OpenWays.{IsWay, AreBoth, AllWays, on_path, path_of, AreIn, Laid, waited_list, bare_row, chosen, nothing, come, StayIn}
+use Rattle.spp_ways.specs.OpenWays.{IsWay, AreBoth, AllWays, on_path, plain_of, burdened_of, path_of, AreIn, Laid, waited_list, bare_row, chosen, nothing, waited_frame, come, StayIn}
 use Rattle.spp_ways.proofs.Parts.{rows_at-append}
 use Rattle.spp_ways.proofs.Staying.{AreAlike, rows_last, rows_older, way_moves, both_move, all_move, in_more, Cut, cut, cut_alike, linked_less}
 use Rattle.spp_ways.proofs.Steps.{no_way_is}
@@ -47,16 +47,6 @@ chosen_in n true w h = h.1
 
 -- ---- a wait
 
--- the frame, after it has waited
-abbrev pub waited_frame : OnPaths → FrameWays → FrameWays
-waited_frame takes f = record {
-  plain = record { along = chosen takes.plain f.plain; through = nothing };
-  burdened = record { along = chosen takes.burdened f.burdened; through = nothing };
-  start = f.start;
-  stored = f.stored;
-  limit = f.limit;
-}
-
 -- on one path, in a log that is as it was up to its way
 waited_on : (on : Bool) (n : ℕ) (log new : List LogRow) → AreAlike on n log new → (takes : Bool) (w : LoggedWays) (v : Ways) → (chosen takes w).rows ≤ n → AreBoth on log w v
     → AreBoth on new (record { along = chosen takes w; through = nothing }) (waited_ways takes v)
@@ -64,14 +54,14 @@ waited_on on n log new same takes w v l h =
     (way_moves on log new (chosen takes w) (way_on takes v) (same (chosen takes w).rows l) (chosen_on on log takes w v h), no_way_is on new)
 
 waited_path : (on : Bool) (n : ℕ) (log new : List LogRow) → AreAlike on n log new → (takes : OnPaths) (f : FrameWays) (v : Ways)
-    → (chosen takes.plain f.plain).rows ≤ n → (chosen takes.burdened f.burdened).rows ≤ n → AreBoth on log (path_of on f) v
+    → (chosen takes.plain (plain_of f)).rows ≤ n → (chosen takes.burdened (burdened_of f)).rows ≤ n → AreBoth on log (path_of on f) v
     → AreBoth on new (path_of on (waited_frame takes f)) (waited_ways (on_path on takes) v)
-waited_path false n log new same takes f v p b h = waited_on false n log new same takes.plain f.plain v p h
-waited_path true n log new same takes f v p b h = waited_on true n log new same takes.burdened f.burdened v b h
+waited_path false n log new same takes f v p b h = waited_on false n log new same takes.plain (plain_of f) v p h
+waited_path true n log new same takes f v p b h = waited_on true n log new same takes.burdened (burdened_of f) v b h
 
 -- the log is cut to t rows
 module _ (items : List LogRow) (takes : OnPaths) (f : FrameWays) (below : List FrameWays) (linked : AreLinked (reverse items)) (laid : Laid (length items) (f ∷ below))
-    (t : ℕ) (start : f.start ≤ t) (plain : (chosen takes.plain f.plain).rows ≤ t) (burdened : (chosen takes.burdened f.burdened).rows ≤ t) (short : t ≤ length items) where
+    (t : ℕ) (start : f.start ≤ t) (plain : (chosen takes.plain (plain_of f)).rows ≤ t) (burdened : (chosen takes.burdened (burdened_of f)).rows ≤ t) (short : t ≤ length items) where
   c : Cut items t
   c = cut items t short
 

@@ -9,7 +9,7 @@ use Rattle.spp_dag.specs.Shares.{plus, zero_row}
 use Rattle.spp_ways.specs.declared.open_ways.LoggedWay.{LoggedWay}
 use Rattle.spp_ways.specs.Ways.{Way, Ways}
 use Rattle.spp_ways.specs.Logs.{way_row, before_on, within_on, row_on, AreLinked}
-use Rattle.spp_ways.specs.OpenWays.{IsWay, AreBoth, AllWays, path_of, AreIn, Laid}
+use Rattle.spp_ways.specs.OpenWays.{IsWay, AreBoth, AllWays, plain_of, burdened_of, path_of, AreIn, Laid}
 
 -- a row behind the last one of a way
 pub rows_older : (on : Bool) (r : LogRow) (rs : List LogRow) (k : ℕ) → k ≤ length rs → (key : Option ℕ) → way_row on (r ∷ rs) k key ≡ way_row on rs k key
@@ -41,7 +41,7 @@ way_moves on log new w v e h = (h.0, λ key. e key ∙ h.1 key)
 pub in_more : (n m : ℕ) → n ≤ m → (w : LoggedWays) → AreIn n w → AreIn m w
 in_more n m l w h = (let a = h.0 in omega arith, let b = h.1 in omega arith)
 
-pub in_path : (on : Bool) (n : ℕ) (f : FrameWays) → AreIn n f.plain → AreIn n f.burdened → AreIn n (path_of on f)
+pub in_path : (on : Bool) (n : ℕ) (f : FrameWays) → AreIn n (plain_of f) → AreIn n (burdened_of f) → AreIn n (path_of on f)
 in_path false n f a b = a
 in_path true n f a b = b
 
@@ -71,7 +71,7 @@ alike_less on xs rs n l = λ k m key. sym (rows_stay on xs rs k (omega arith) ke
 
 pub laid_more : (n m : ℕ) → n ≤ m → (fs : List FrameWays) → Laid n fs → Laid m fs
 laid_more n m l [] h = tt
-laid_more n m l (f ∷ fs) h = ((let a = h.0 in omega arith), in_more n m l f.plain h.1, in_more n m l f.burdened h.2, h.3)
+laid_more n m l (f ∷ fs) h = ((let a = h.0 in omega arith), in_more n m l (plain_of f) h.1, in_more n m l (burdened_of f) h.2, h.3)
 
 -- ---- a log that is cut off
 

@@ -7,7 +7,7 @@ use Rattle.spp_ways.specs.declared.open_ways.LoggedWays.{LoggedWays}
 use Rattle.spp_ways.specs.declared.open_ways.FrameWays.{FrameWays}
 use Rattle.spp_ways.specs.declared.open_ways.OpenWays.{OpenWays}
 use Rattle.spp_ways.specs.Ways.{Ways, no_way, no_ways, strand_ways}
-use Rattle.spp_ways.specs.OpenWays.{IsWay, AreBoth, AllWays, AreWays, path_of, nothing, HasOne, HasTwo, FitStrand, FitTopStrand, strand_list, Laid, IsLaid}
+use Rattle.spp_ways.specs.OpenWays.{IsWay, AreBoth, AllWays, AreWays, plain_of, burdened_of, frame_ways, path_of, nothing, HasOne, HasTwo, FitStrand, FitTopStrand, strand_list, Laid, IsLaid}
 use Rattle.spp_ways.proofs.Staying.{rows_none}
 
 -- as many frames are open as there are ways
@@ -31,7 +31,7 @@ two_frames on o (w ∷ v ∷ ws) h two = let n = as_many on (reverse o.log.rows.
 -- ---- a frame that is opened
 
 abbrev pub opened : ℕ → ℕ → FrameWays
-opened start limit = record { plain = record { along = nothing; through = nothing }; burdened = record { along = nothing; through = nothing }; start = start; stored = 0; limit = limit }
+opened start limit = frame_ways (record { along = nothing; through = nothing }) (record { along = nothing; through = nothing }) start 0 limit
 
 pub no_way_is : (on : Bool) (log : List LogRow) → IsWay on log nothing no_way
 no_way_is on log = (refl, λ key. rows_none on log key)
@@ -46,14 +46,14 @@ abbrev pub strand_on : ℕ → LoggedWays → LoggedWays
 strand_on count w = record { along = record { rows = w.along.rows; own = w.along.own + count }; through = w.through }
 
 abbrev pub strand_frame : ℕ → FrameWays → FrameWays
-strand_frame count f = record { plain = strand_on count f.plain; burdened = strand_on count f.burdened; start = f.start; stored = f.stored; limit = f.limit }
+strand_frame count f = frame_ways (strand_on count (plain_of f)) (strand_on count (burdened_of f)) f.start f.stored f.limit
 
 strand_both : (on : Bool) (log : List LogRow) (count : ℕ) (w : LoggedWays) (v : Ways) → AreBoth on log w v → AreBoth on log (strand_on count w) (strand_ways count v)
 strand_both on log count w v h = ((ap (λ n. n + count) h.0.0, h.0.1), h.1)
 
 strand_is : (on : Bool) (log : List LogRow) (count : ℕ) (f : FrameWays) (v : Ways) → AreBoth on log (path_of on f) v → AreBoth on log (path_of on (strand_frame count f)) (strand_ways count v)
-strand_is false log count f v h = strand_both false log count f.plain v h
-strand_is true log count f v h = strand_both true log count f.burdened v h
+strand_is false log count f v h = strand_both false log count (plain_of f) v h
+strand_is true log count f v h = strand_both true log count (burdened_of f) v h
 
 pub strand_all : (on : Bool) (log : List LogRow) (count : ℕ) (f : FrameWays) (fs : List FrameWays) (ws : List Ways) → AllWays on log (f ∷ fs) ws → AllWays on log (strand_frame count f ∷ fs) (strand_list count ws)
 strand_all on log count f fs [] h = absurd h

@@ -27,8 +27,38 @@ IsWay on log w v = (w.own ≡ v.own) × ((key : Option ℕ) → way_row on log w
 abbrev pub AreBoth : Bool → List LogRow → LoggedWays → Ways → Type 0
 AreBoth on log w v = IsWay on log w.along v.along × IsWay on log w.through v.through
 
+-- the ways of a frame on the path without burdens
+abbrev pub plain_of : FrameWays → LoggedWays
+plain_of f = record {
+  along = record { rows = f.plain_rows; own = f.plain_own };
+  through = record { rows = f.plain_through_rows; own = f.plain_through_own };
+}
+
+-- and on the path under the burdens
+abbrev pub burdened_of : FrameWays → LoggedWays
+burdened_of f = record {
+  along = record { rows = f.burdened_rows; own = f.burdened_own };
+  through = record { rows = f.burdened_through_rows; own = f.burdened_through_own };
+}
+
+-- the frame that has these ways, without burdens and under them
+abbrev pub frame_ways : LoggedWays → LoggedWays → ℕ → ℕ → ℕ → FrameWays
+frame_ways p b start stored limit = record {
+  plain_own = p.along.own;
+  plain_through_own = p.through.own;
+  burdened_own = b.along.own;
+  burdened_through_own = b.through.own;
+  plain_rows = p.along.rows;
+  plain_through_rows = p.through.rows;
+  burdened_rows = b.along.rows;
+  burdened_through_rows = b.through.rows;
+  start = start;
+  stored = stored;
+  limit = limit;
+}
+
 abbrev pub path_of : Bool → FrameWays → LoggedWays
-path_of on f = cond on f.burdened f.plain
+path_of on f = cond on (burdened_of f) (plain_of f)
 
 -- the ways into these frames are these
 abbrev pub AllWays : Bool → List LogRow → List FrameWays → List Ways → Type 0
@@ -49,7 +79,7 @@ AreIn n w = (w.along.rows ≤ n) × (w.through.rows ≤ n)
 -- ended as it was opened.
 abbrev pub Laid : ℕ → List FrameWays → Type 0
 Laid n [] = Unit {0}
-Laid n (f ∷ fs) = (f.start ≤ n) × AreIn n f.plain × AreIn n f.burdened × Laid f.start fs
+Laid n (f ∷ fs) = (f.start ≤ n) × AreIn n (plain_of f) × AreIn n (burdened_of f) × Laid f.start fs
 
 pub record IsLaid (o : OpenWays) : Type 0 where
   pub linked : AreLinked (reverse o.log.rows.items)
@@ -111,13 +141,20 @@ chosen takes w = cond takes w.through w.along
 abbrev pub nothing : LoggedWay
 nothing = record { rows = 0; own = 0 }
 
+-- the frame has waited: it goes on so, and no child waits in it any longer
+abbrev pub waited : Bool → LoggedWays → LoggedWays
+waited takes w = record { along = chosen takes w; through = nothing }
+
+abbrev pub waited_frame : OnPaths → FrameWays → FrameWays
+waited_frame takes f = frame_ways (waited takes.plain (plain_of f)) (waited takes.burdened (burdened_of f)) f.start f.stored f.limit
+
 -- their rows have been merged into these two of the log
 abbrev pub merged_ways : ℕ → ℕ → LoggedWays → LoggedWays
 merged_ways along through w = record { along = record { rows = along; own = w.along.own }; through = record { rows = through; own = w.through.own } }
 
 pub record AreMerged (along through : ℕ) (f g : FrameWays) : Type 0 where
-  pub plain : g.plain ≡ merged_ways along through f.plain
-  pub burdened : g.burdened ≡ merged_ways along through f.burdened
+  pub plain : plain_of g ≡ merged_ways along through (plain_of f)
+  pub burdened : burdened_of g ≡ merged_ways along through (burdened_of f)
   pub start : g.start ≡ f.start
 
 -- the innermost frame has two rows or more
@@ -153,12 +190,12 @@ abbrev pub returned_row : OnPaths → ℕ → ℕ → ClosedFrame → FrameWays 
 returned_row takes site caller closed v g = record {
   work = closed.work;
   span = closed.span;
-  own = (chosen takes.plain v.plain).own;
-  burdened_own = (chosen takes.burdened v.burdened).own;
-  before = g.plain.along.rows;
-  within = (chosen takes.plain v.plain).rows;
-  burdened_before = g.burdened.along.rows;
-  burdened_within = (chosen takes.burdened v.burdened).rows;
+  own = (chosen takes.plain (plain_of v)).own;
+  burdened_own = (chosen takes.burdened (burdened_of v)).own;
+  before = g.plain_rows;
+  within = (chosen takes.plain (plain_of v)).rows;
+  burdened_before = g.burdened_rows;
+  burdened_within = (chosen takes.burdened (burdened_of v)).rows;
   caller = caller;
   site = site;
   top_site = closed.top_site;
@@ -168,14 +205,15 @@ returned_row takes site caller closed v g = record {
 
 -- the parent, where the way through the child ends with the n-th row
 abbrev pub come_frame : FrameKind → OnPaths → ℕ → ℕ → ℕ → FrameWays → FrameWays
-come_frame kind wins n stored limit g = record { plain = come kind wins.plain n g.plain; burdened = come kind wins.burdened n g.burdened; start = g.start; stored = stored; limit = limit }
+come_frame kind wins n stored limit g =
+    frame_ways (come kind wins.plain n (plain_of g)) (come kind wins.burdened n (burdened_of g)) g.start stored limit
 
 -- The innermost frame v has returned to g, and the log is cut to so many rows, but for the frame's own, which is put behind
 -- them if the way through it is kept on either path.
 abbrev pub IsLeft : Bool → FrameKind → OnPaths → OnPaths → ℕ → ℕ → ClosedFrame → FrameWays → FrameWays → List FrameWays → ℕ → List LogRow → List LogRow → List FrameWays → Type 0
 IsLeft false kind takes wins site caller closed v g below to old rows frames = (rows ≡ take to old) × (frames ≡ g ∷ below)
 IsLeft true kind takes wins site caller closed v g below to old rows frames =
-    (stored : ℕ) × (limit : ℕ) × ((chosen takes.plain v.plain).rows ≤ to) × ((chosen takes.burdened v.burdened).rows ≤ to)
+    (stored : ℕ) × (limit : ℕ) × ((chosen takes.plain (plain_of v)).rows ≤ to) × ((chosen takes.burdened (burdened_of v)).rows ≤ to)
     × (rows ≡ take to old ++ (returned_row takes site caller closed v g ∷ []))
     × (frames ≡ come_frame kind wins (suc to) stored limit g ∷ below)
 
@@ -186,7 +224,7 @@ pub record IsPut (kind : FrameKind) (takes wins : OnPaths) (site caller : ℕ) (
   pub frames : reverse old.frames.items ≡ child ∷ parent ∷ below
   pub to : ℕ
   pub start : parent.start ≤ to
-  pub plain : StayIn to kind wins.plain parent.plain
-  pub burdened : StayIn to kind wins.burdened parent.burdened
+  pub plain : StayIn to kind wins.plain (plain_of parent)
+  pub burdened : StayIn to kind wins.burdened (burdened_of parent)
   pub short : to ≤ length old.log.rows.items
   pub left : IsLeft (entered kind wins) kind takes wins site caller closed child parent below to old.log.rows.items new.log.rows.items (reverse new.frames.items)

@@ -13,7 +13,7 @@ use Rattle.spp_ways.specs.declared.open_ways.OpenWays.{OpenWays}
 use Rattle.spp_ways.specs.Ways.{Way, Ways, rows_at}
 use Rattle.spp_site.specs.Profiles.{key_row}
 use Rattle.spp_ways.specs.Logs.{merged_on, AreLinked}
-use Rattle.spp_ways.specs.OpenWays.{AllWays, AreWays, Laid, FitTop, nothing, on_path, path_of}
+use Rattle.spp_ways.specs.OpenWays.{AllWays, AreWays, Laid, FitTop, nothing, on_path, plain_of, burdened_of, frame_ways, path_of}
 use Rattle.spp_ways.specs.Enclosures.{Enclosure, is_top_caller}
 
 -- ---- the log of a stretch
@@ -59,14 +59,14 @@ abbrev pub outer_ways : LoggedWays
 outer_ways = record { along = record { rows = 1; own = 0 }; through = nothing }
 
 abbrev pub outer_frame : FrameWays
-outer_frame = record { plain = outer_ways; burdened = outer_ways; start = 1; stored = 0; limit = 0 }
+outer_frame = frame_ways outer_ways outer_ways 1 0 0
 
 -- and behind strands of so many instructions and nothing else
 abbrev pub strand_outer_ways : ℕ → LoggedWays
 strand_outer_ways n = record { along = record { rows = 1; own = n }; through = nothing }
 
 abbrev pub strand_outer_frame : ℕ → FrameWays
-strand_outer_frame n = record { plain = strand_outer_ways n; burdened = strand_outer_ways n; start = 1; stored = 0; limit = 0 }
+strand_outer_frame n = frame_ways (strand_outer_ways n) (strand_outer_ways n) 1 0 0
 
 -- What the ways of a stretch with these rows and these frames, outermost first, are on one of both paths, the outermost
 -- beginning with those of the way into the outer frame before the stretch, which come to the sums of `base`.
@@ -145,22 +145,19 @@ joined_ways outer rows w = record {
 }
 
 pub record FitFrame (links : Links) (f : FrameWays) : Type 0 where
-  pub along : links.rows + f.plain.along.rows < 2 ^ 32
-  pub through : links.rows + f.plain.through.rows < 2 ^ 32
-  pub burdened_along : links.rows + f.burdened.along.rows < 2 ^ 32
-  pub burdened_through : links.rows + f.burdened.through.rows < 2 ^ 32
+  pub along : links.rows + f.plain_rows < 2 ^ 32
+  pub through : links.rows + f.plain_through_rows < 2 ^ 32
+  pub burdened_along : links.rows + f.burdened_rows < 2 ^ 32
+  pub burdened_through : links.rows + f.burdened_through_rows < 2 ^ 32
   pub start : links.rows + f.start < 2 ^ 32
   pub started : 1 ≤ f.start
 
 -- it was opened behind the first row of the stretch, which isn't put into the log
 abbrev pub joined_frame : Links → ℕ → FrameWays → FrameWays
-joined_frame links limit f = record {
-  plain = joined_ways links.plain links.rows f.plain;
-  burdened = joined_ways links.burdened links.rows f.burdened;
-  start = links.rows + f.start - 1;
-  stored = 0;
-  limit = limit;
-}
+joined_frame links limit f =
+    let plain = joined_ways links.plain links.rows (plain_of f) in
+    let burdened = joined_ways links.burdened links.rows (burdened_of f) in
+    frame_ways plain burdened (links.rows + f.start - 1) 0 limit
 
 -- the own strands of both together fit, on the ways that are kept
 pub record FitOwn (wins : Bool) (stretch w : LoggedWays) : Type 0 where
@@ -175,13 +172,10 @@ gone_on_by s wins w = record {
 }
 
 abbrev pub gone_on : Links → OnPaths → FrameWays → FrameWays → FrameWays
-gone_on links wins outer f = record {
-  plain = gone_on_by (joined_ways links.plain links.rows outer.plain) wins.plain f.plain;
-  burdened = gone_on_by (joined_ways links.burdened links.rows outer.burdened) wins.burdened f.burdened;
-  start = f.start;
-  stored = f.stored;
-  limit = f.limit;
-}
+gone_on links wins outer f =
+    let plain = gone_on_by (joined_ways links.plain links.rows (plain_of outer)) wins.plain (plain_of f) in
+    let burdened = gone_on_by (joined_ways links.burdened links.rows (burdened_of outer)) wins.burdened (burdened_of f) in
+    frame_ways plain burdened f.start f.stored f.limit
 
 -- ---- the ways that this gives
 

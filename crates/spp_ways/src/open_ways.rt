@@ -11,6 +11,9 @@ ghost use Rattle.spp_ways.specs.OpenWays.{
   FitTopStrand,
   AreWays,
   on_path,
+  plain_of,
+  burdened_of,
+  frame_ways,
   path_of,
   bare_row,
   strand_list,
@@ -19,7 +22,8 @@ ghost use Rattle.spp_ways.specs.OpenWays.{
   root_rows,
   chosen,
   nothing,
-  come,
+  waited_frame,
+  come_frame,
   entered,
   merged_ways,
   AreMerged,
@@ -133,20 +137,6 @@ impl LoggedWays {
         if takes { self.through } else { self.along }
     }
 
-    /// The frame waits, and takes the child that waits in it or not: it goes on so, and no child waits any longer. Gives where
-    /// the way on which it goes on ends in the log.
-    #[inline(always)]
-    fn wait(&mut self, takes: bool) -> u32
-        ensures ways { self.new ≡ record { along = chosen takes self.old; through = nothing } }
-        ensures rows { result ≡ (chosen takes self.old).rows }
-    {
-        if takes {
-            self.along = self.through;
-        }
-        self.through = LoggedWay::none();
-        self.along.rows
-    }
-
     /// How many rows of the log are needed for the ways that stay where a frame of that kind returns, which wins against
     /// the child that waits or not.
     #[inline(always)]
@@ -200,32 +190,27 @@ impl LoggedWays {
             own: self.along.own + stretch.along.own,
         };
     }
-
-    /// A frame of that kind returns, the way through which ends with that row.
-    #[inline(always)]
-    fn come(&mut self, kind: FrameKind, wins: bool, rows: u32)
-        ensures { self.new ≡ come kind wins rows self.old }
-    {
-        match kind {
-            FrameKind::Root => {}
-            FrameKind::Called => self.along.rows = rows,
-            FrameKind::Spawned => {
-                if wins {
-                    self.through.rows = rows;
-                    self.through.own = self.along.own;
-                }
-            }
-        }
-    }
 }
 
-/// An open frame as far as its ways go.
+/// An open frame as far as its ways go: two on each path, whose parts stand by size, so that little room is lost.
 #[derive(Clone, Copy, PartialEq, Eq)]
 struct FrameWays {
-    /// On the path without burdens.
-    plain: LoggedWays,
-    /// On the path under the burdens.
-    burdened: LoggedWays,
+    /// On the path without burdens, the counts of the frame's own strands on the way along it.
+    plain_own: u128,
+    /// And on the way through the child that waits in it, if one does.
+    plain_through_own: u128,
+    /// On the path under the burdens, the counts of the frame's own strands on the way along it.
+    burdened_own: u128,
+    /// And on the way through the child that waits in it, if one does.
+    burdened_through_own: u128,
+    /// Where the way along it on the path without burdens ends in the log.
+    plain_rows: u32,
+    /// And the way through the child that waits in it.
+    plain_through_rows: u32,
+    /// Where the way along it on the path under the burdens ends in the log.
+    burdened_rows: u32,
+    /// And the way through the child that waits in it.
+    burdened_through_rows: u32,
     /// How many rows the log had where the frame was opened: the ways into the frames below end there or before.
     start: u32,
     /// How many rows by call site are stored for what was merged behind those, at most.
@@ -234,19 +219,71 @@ struct FrameWays {
     limit: u32,
 }
 
+// A run has one of them for each open frame.
+const _: () = prove!(size_of::<FrameWays>() == 96);
+
 impl FrameWays {
+    /// The frame that has these ways without burdens, and these under them.
+    #[inline(always)]
+    fn of(plain: LoggedWays, burdened: LoggedWays, start: u32, stored: u32, limit: u32) -> Self
+        ensures { result ≡ frame_ways plain burdened start stored limit }
+    {
+        FrameWays {
+            plain_own: plain.along.own,
+            plain_through_own: plain.through.own,
+            burdened_own: burdened.along.own,
+            burdened_through_own: burdened.through.own,
+            plain_rows: plain.along.rows,
+            plain_through_rows: plain.through.rows,
+            burdened_rows: burdened.along.rows,
+            burdened_through_rows: burdened.through.rows,
+            start,
+            stored,
+            limit,
+        }
+    }
+
+    /// Its ways on the path without burdens.
+    #[inline(always)]
+    fn plain(&self) -> LoggedWays
+        ensures { result ≡ plain_of self.now }
+    {
+        LoggedWays {
+            along: LoggedWay {
+                rows: self.plain_rows,
+                own: self.plain_own,
+            },
+            through: LoggedWay {
+                rows: self.plain_through_rows,
+                own: self.plain_through_own,
+            },
+        }
+    }
+
+    /// Its ways on the path under the burdens.
+    #[inline(always)]
+    fn burdened(&self) -> LoggedWays
+        ensures { result ≡ burdened_of self.now }
+    {
+        LoggedWays {
+            along: LoggedWay {
+                rows: self.burdened_rows,
+                own: self.burdened_own,
+            },
+            through: LoggedWay {
+                rows: self.burdened_through_rows,
+                own: self.burdened_through_own,
+            },
+        }
+    }
+
     /// A frame that is opened where the log has so many rows, and of which so many rows are merged.
     #[inline(always)]
     fn opened(start: u32, limit: u32) -> Self
-        ensures { result ≡ record { plain = record { along = nothing; through = nothing }; burdened = record { along = nothing; through = nothing }; start = start; stored = 0; limit = limit } }
+        ensures { result ≡ frame_ways (record { along = nothing; through = nothing }) (record { along = nothing; through = nothing }) start 0 limit }
     {
-        FrameWays {
-            plain: LoggedWays::going_on(LoggedWay::none()),
-            burdened: LoggedWays::going_on(LoggedWay::none()),
-            start,
-            stored: 0,
-            limit,
-        }
+        let ways = LoggedWays::going_on(LoggedWay::none());
+        FrameWays::of(ways, ways, start, 0, limit)
     }
 
     /// The frame in which a stretch begins, by the ways of the stretch: they begin with the row that stands for the way into
@@ -255,14 +292,8 @@ impl FrameWays {
     fn outer() -> Self
         ensures { result ≡ outer_frame }
     {
-        let along = LoggedWay { rows: 1, own: 0 };
-        FrameWays {
-            plain: LoggedWays::going_on(along),
-            burdened: LoggedWays::going_on(along),
-            start: 1,
-            stored: 0,
-            limit: 0,
-        }
+        let ways = LoggedWays::going_on(LoggedWay { rows: 1, own: 0 });
+        FrameWays::of(ways, ways, 1, 0, 0)
     }
 
     /// Whether it is that one behind strands of so many instructions and nothing else.
@@ -270,8 +301,8 @@ impl FrameWays {
         ensures { result ≡ true → self.now ≡ strand_outer_frame count }
     {
         let mut strand = FrameWays::outer();
-        strand.plain.along.own = u128::from(count);
-        strand.burdened.along.own = u128::from(count);
+        strand.plain_own = u128::from(count);
+        strand.burdened_own = u128::from(count);
         *self == strand
     }
 
@@ -281,13 +312,13 @@ impl FrameWays {
         requires few { FitFrame links self.now }
         ensures { result ≡ joined_frame links limit self.now }
     {
-        FrameWays {
-            plain: self.plain.joined(links.plain, links.rows),
-            burdened: self.burdened.joined(links.burdened, links.rows),
-            start: links.rows + self.start - 1,
-            stored: 0,
+        FrameWays::of(
+            self.plain().joined(links.plain, links.rows),
+            self.burdened().joined(links.burdened, links.rows),
+            links.rows + self.start - 1,
+            0,
             limit,
-        }
+        )
     }
 
     /// Goes on by the ways of a stretch that has this outer frame. `wins` tells on which paths the way through the child that
@@ -295,16 +326,18 @@ impl FrameWays {
     #[inline(always)]
     fn join(&mut self, outer: &FrameWays, wins: OnPaths, links: Links)
         requires few { FitFrame links outer.now }
-        requires plain { FitOwn wins.plain outer.now.plain self.old.plain }
-        requires burdened { FitOwn wins.burdened outer.now.burdened self.old.burdened }
+        requires plain { FitOwn wins.plain (plain_of outer.now) (plain_of self.old) }
+        requires burdened { FitOwn wins.burdened (burdened_of outer.now) (burdened_of self.old) }
         ensures { self.new ≡ gone_on links wins outer.now self.old }
     {
-        self.plain
-            .join(&outer.plain.joined(links.plain, links.rows), wins.plain);
-        self.burdened.join(
-            &outer.burdened.joined(links.burdened, links.rows),
+        let mut plain = self.plain();
+        plain.join(&outer.plain().joined(links.plain, links.rows), wins.plain);
+        let mut burdened = self.burdened();
+        burdened.join(
+            &outer.burdened().joined(links.burdened, links.rows),
             wins.burdened,
         );
+        *self = FrameWays::of(plain, burdened, self.start, self.stored, self.limit);
     }
 
     /// The frame, where the rows of its ways have been merged into these two of the log, which store so many rows.
@@ -313,12 +346,56 @@ impl FrameWays {
         ensures stored { result.stored ≡ stored }
         ensures limit { result.limit ≡ max self.limit (min (2 * stored) 4294967295) }
     {
-        FrameWays {
-            plain: self.plain.merged(along, through),
-            burdened: self.burdened.merged(along, through),
-            start: self.start,
+        FrameWays::of(
+            self.plain().merged(along, through),
+            self.burdened().merged(along, through),
+            self.start,
             stored,
-            limit: self.limit.max(stored.saturating_mul(2)),
+            self.limit.max(stored.saturating_mul(2)),
+        )
+    }
+
+    /// The frame waits, and takes the child that waits in it or not, on each path: it goes on so, and no child waits any
+    /// longer.
+    #[inline(always)]
+    fn wait(&mut self, takes: OnPaths)
+        ensures { self.new ≡ waited_frame takes self.old }
+    {
+        if takes.plain {
+            self.plain_rows = self.plain_through_rows;
+            self.plain_own = self.plain_through_own;
+        }
+        if takes.burdened {
+            self.burdened_rows = self.burdened_through_rows;
+            self.burdened_own = self.burdened_through_own;
+        }
+        self.plain_through_rows = 0;
+        self.plain_through_own = 0;
+        self.burdened_through_rows = 0;
+        self.burdened_through_own = 0;
+    }
+
+    /// A frame of that kind returns, the way through which ends with that row.
+    #[inline(always)]
+    fn come(&mut self, kind: FrameKind, wins: OnPaths, rows: u32)
+        ensures { self.new ≡ come_frame kind wins rows self.old.stored self.old.limit self.old }
+    {
+        match kind {
+            FrameKind::Root => {}
+            FrameKind::Called => {
+                self.plain_rows = rows;
+                self.burdened_rows = rows;
+            }
+            FrameKind::Spawned => {
+                if wins.plain {
+                    self.plain_through_rows = rows;
+                    self.plain_through_own = self.plain_own;
+                }
+                if wins.burdened {
+                    self.burdened_through_rows = rows;
+                    self.burdened_through_own = self.burdened_own;
+                }
+            }
         }
     }
 
@@ -349,9 +426,9 @@ impl FrameWays {
         ensures { result ≡ chosen (on_path burdened takes) (path_of burdened self.now) }
     {
         if burdened {
-            self.burdened.chosen(takes.burdened)
+            self.burdened().chosen(takes.burdened)
         } else {
-            self.plain.chosen(takes.plain)
+            self.plain().chosen(takes.plain)
         }
     }
 }
@@ -403,7 +480,7 @@ const MOST_STORED: usize = u32::MAX as usize;
 /// off. Where the rows of an open frame are more than 256, and more than half of the trace's call sites, those of its ways
 /// are merged: what they add to each site is stored, in some 128 bytes a site for each way and path, up to four times
 /// that with spare room. What is stored counts towards the next time, which is not before twice as much. An open frame takes
-/// 144 bytes besides. Each step takes constant time, amortized. After an error the ways are of no use.
+/// 96 bytes besides. Each step takes constant time, amortized. After an error the ways are of no use.
 #[derive(Drop)]
 pub struct OpenWays {
     frames: Vec<FrameWays>,
@@ -469,8 +546,8 @@ impl OpenWays {
     {
         let last = self.frames.len() - 1;
         let frame = &mut self.frames[last];
-        frame.plain.along.own += u128::from(count);
-        frame.burdened.along.own += u128::from(count);
+        frame.plain_own += u128::from(count);
+        frame.burdened_own += u128::from(count);
     }
 
     /// The innermost frame waits for its children; on which paths it takes the child that waits.
@@ -487,9 +564,8 @@ impl OpenWays {
     {
         let last = self.frames.len() - 1;
         let frame = &mut self.frames[last];
-        let plain = frame.plain.wait(takes.plain);
-        let burdened = frame.burdened.wait(takes.burdened);
-        let needed = frame.start.max(plain).max(burdened);
+        frame.wait(takes);
+        let needed = frame.start.max(frame.plain_rows).max(frame.burdened_rows);
         self.log.cut(needed);
     }
 
@@ -515,8 +591,8 @@ impl OpenWays {
         let frame = self.frames[last];
         let along = self
             .log
-            .merge(alloc, frame.plain.along.rows, frame.burdened.along.rows)?;
-        let through = self.log.merge(alloc, frame.plain.through.rows, frame.burdened.through.rows)?;
+            .merge(alloc, frame.plain_rows, frame.burdened_rows)?;
+        let through = self.log.merge(alloc, frame.plain_through_rows, frame.burdened_through_rows)?;
         let stored = along.len().saturating_add(through.len());
         self.log.cut(frame.start);
         let along = self.log.push_merged(alloc, along)?;
@@ -546,14 +622,14 @@ impl OpenWays {
         ensures limit { self.new.limit ≡ self.old.limit }
     {
         let last = self.frames.len() - 1;
-        let plain = self.frames[last].plain.chosen(takes.plain);
-        let burdened = self.frames[last].burdened.chosen(takes.burdened);
+        let plain = self.frames[last].plain().chosen(takes.plain);
+        let burdened = self.frames[last].burdened().chosen(takes.burdened);
         let stored = self.frames[last].stored;
         let limit = self.frames[last].limit;
         self.frames.truncate(last);
         let parent = &mut self.frames[last - 1];
-        let plain_stays = parent.plain.needed(kind, wins.plain);
-        let burdened_stays = parent.burdened.needed(kind, wins.burdened);
+        let plain_stays = parent.plain().needed(kind, wins.plain);
+        let burdened_stays = parent.burdened().needed(kind, wins.burdened);
         let stays = parent.start.max(plain_stays).max(burdened_stays);
         if !is_entered(kind, wins) {
             self.log.cut(stays);
@@ -565,9 +641,9 @@ impl OpenWays {
             span: closed.span,
             own: plain.own,
             burdened_own: burdened.own,
-            before: parent.plain.along.rows,
+            before: parent.plain_rows,
             within: plain.rows,
-            burdened_before: parent.burdened.along.rows,
+            burdened_before: parent.burdened_rows,
             burdened_within: burdened.rows,
             caller,
             site: site as u16,
@@ -575,8 +651,7 @@ impl OpenWays {
             top_caller: closed.top_caller,
             merged: None,
         })?;
-        parent.plain.come(kind, wins.plain, rows);
-        parent.burdened.come(kind, wins.burdened, rows);
+        parent.come(kind, wins, rows);
         parent.inherit(stored, limit);
         Ok(parent.is_full(rows))
     }
@@ -748,8 +823,8 @@ impl OpenWays {
     {
         let last = self.frames.len() - 1;
         let links = Links {
-            plain: self.frames[last].plain.along.rows,
-            burdened: self.frames[last].burdened.along.rows,
+            plain: self.frames[last].plain_rows,
+            burdened: self.frames[last].burdened_rows,
             rows: self.log.len(),
         };
         self.log.join(&stretch.log, links, enclosing)?;

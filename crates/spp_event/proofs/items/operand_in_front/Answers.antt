@@ -26,4 +26,4 @@ returns c =
     let is = ap (λ (l : List ℕ). l ++ rest) digits
     ∙ sym (c.in_ok-first.ensures.cases.0
     ∙ ap (λ (l : List ℕ). c.in_ok-first.first.now ∷ l) (c.in_ok-second.ensures.cases.0 ∙ ap (λ (l : List ℕ). c.in_ok-second.second.now ∷ l) c.in_ok-third.ensures.cases.0)) in
-    subst (λ (l : List ℕ). IfSome c.operand_behind.result (λ x. l ≡ operand x.0 ++ x.1.now)) is c.operand_behind.ensures
+    subst (λ (l : List ℕ). IfSome c.long_operand.result (λ x. l ≡ operand x.0 ++ x.1.now)) is c.long_operand.ensures

@@ -1,23 +1,16 @@
 use Rattle.std.proofs.Common.{◌+◌, ℕ, List, [], refl, sym, ap, ◌∙◌, arith}
-use Rattle.std.proofs.lemmas.List.{take_rest}
 use Rattle.spp_event.specs.Items.{read_item}
 use Rattle.spp_event.specs.Recordings.{item}
-use Rattle.spp_event.proofs.ItemFronts.{in_front_of}
 use Rattle.spp_event.proofs.ItemPlaces.{item_is, item_is_none, no_items, end_place, next_place}
 use Rattle.spp_event.proofs.ItemsRead.{no_item, spelled_item}
 use Rattle.spp_event.proofs.layout.read_item_at.Goals as goal
 
 pub returns-in-Some-clause-said : goal.returns-in-Some-clause-said
 returns-in-Some-clause-said c i q =
-    let body = c.args.body.now in
-    let f = in_front_of body c.args.place c.in-Some.event c.in-Some.rest.now q.within (sym (take_rest body c.args.place) ∙ c.in-Some.ensures.is.0) c.in-Some.ensures.on in
-    c.within.ensures.said ∙ sym (spelled_item c.args.sites c.args.funcs (item body i) c.in-Some.event c.in-Some.ensures.is.1 (item_is body i c.args.place _ q f.between ∙ f.is))
+    c.within.ensures.said ∙ sym (spelled_item c.args.sites c.args.funcs (item c.args.body.now i) c.in-Some.event c.in-Some.ensures.is.1 (item_is c.args.body.now i c.args.place c.in-Some.next q c.in-Some.ensures.between ∙ c.in-Some.ensures.is.0))
 
 pub returns-in-Some-clause-behind : goal.returns-in-Some-clause-behind
-returns-in-Some-clause-behind c i q =
-    let body = c.args.body.now in
-    let f = in_front_of body c.args.place c.in-Some.event c.in-Some.rest.now q.within (sym (take_rest body c.args.place) ∙ c.in-Some.ensures.is.0) c.in-Some.ensures.on in
-    next_place body i c.args.place _ q f.between
+returns-in-Some-clause-behind c i q = next_place c.args.body.now i c.args.place c.in-Some.next q c.in-Some.ensures.between
 
 pub returns-then-place-body-clause-said : goal.returns-then-place-body-clause-said
 returns-then-place-body-clause-said c i q =
@@ -26,6 +19,3 @@ returns-then-place-body-clause-said c i q =
 pub returns-then-place-body-clause-behind : goal.returns-then-place-body-clause-behind
 returns-then-place-body-clause-behind c i q =
     end_place c.args.body.now (i + 1) c.args.place (omega arith) (let n = no_items c.args.body.now i c.args.place q (omega arith) in omega arith)
-
-pub returns-clause-behind : goal.returns-clause-behind
-returns-clause-behind c i q = next_place c.args.body.now i c.args.place c.behind_item-next.result q c.behind_item-next.ensures

@@ -9,7 +9,7 @@ use Rattle.spp_ways.specs.declared.open_ways.OnPaths.{OnPaths}
 use Rattle.spp_ways.specs.declared.open_ways.FrameWays.{FrameWays}
 use Rattle.spp_ways.specs.declared.open_ways.LoggedStretch.{LoggedStretch}
 use Rattle.spp_ways.specs.declared.open_ways.OpenWays.{OpenWays}
-use Rattle.spp_ways.specs.OpenWays.{AllWays, HasRowsOf, on_path}
+use Rattle.spp_ways.specs.OpenWays.{AllWays, HasRowsOf, on_path, plain_of, burdened_of}
 use Rattle.spp_ways.specs.Enclosures.{Enclosure, enclosure_of}
 use Rattle.spp_ways.specs.Stretches.{FitFrame, FitOwn, CanJoin, enclosed_row, joined_row, joined_frame, joined_list, gone_on, stretch_rows}
 use Rattle.spp_ways.proofs.Steps.{some_frame}
@@ -41,7 +41,7 @@ index_mut-requires c =
     omega (arith, c.len-last.ensures, c.args.self.now.frames.ok.0)
 
 -- the innermost frame, and the links that the code makes of it
-begun : (c : After-len) → Setup c.args.self.now c.len-last.result (record { plain = c.index.result.now.plain.along.rows; burdened = c.index-2.result.now.burdened.along.rows; rows = c.len.result })
+begun : (c : After-len) → Setup c.args.self.now c.len-last.result (record { plain = c.index.result.now.plain_rows; burdened = c.index-2.result.now.burdened_rows; rows = c.len.result })
 begun c =
     let o : OpenWays = c.args.self.now in
     let some = open_frame c.args.wins (enclosure_of c.args.enclosing.now) o c.args.stretch.now c.requires.can in
@@ -50,7 +50,7 @@ begun c =
 pub join-requires : goal.join-requires
 join-requires c =
     let b = begun (goal.at.join-requires c).After-len in
-    let links : Links = record { plain = c.index.result.now.plain.along.rows; burdened = c.index-2.result.now.burdened.along.rows; rows = c.len.result } in
+    let links : Links = record { plain = c.index.result.now.plain_rows; burdened = c.index-2.result.now.burdened_rows; rows = c.len.result } in
     record {
       few = rows_fit c.args.self.now c.args.stretch.now (enclosure_of c.args.enclosing.now) c.args.wins links b.top b.below b.is c.requires.laid c.requires.stretch b.plain b.burdened b.count
           (omega (arith, c.requires.few, c.len.ensures));
@@ -60,7 +60,7 @@ pub join-requires-2-clause-few : goal.join-requires-2-clause-few
 join-requires-2-clause-few c =
     let b = begun (goal.at.join-requires-2-clause-few c).After-len in
     let s : LoggedStretch = c.args.stretch.now in
-    let links : Links = record { plain = c.index.result.now.plain.along.rows; burdened = c.index-2.result.now.burdened.along.rows; rows = c.len.result } in
+    let links : Links = record { plain = c.index.result.now.plain_rows; burdened = c.index-2.result.now.burdened_rows; rows = c.len.result } in
     All-head (FitFrame links) s.outer (drop 1 s.frames.items)
     (frames_fit c.args.self.now s (enclosure_of c.args.enclosing.now) c.args.wins links b.top b.below b.is c.requires.laid c.requires.stretch b.plain b.burdened b.count (omega (arith, c.requires.few, c.len.ensures)))
 
@@ -68,7 +68,7 @@ pub open_inner-requires : goal.open_inner-requires
 open_inner-requires c =
     let b = begun (goal.at.open_inner-requires c).After-len in
     let s : LoggedStretch = c.args.stretch.now in
-    let links : Links = record { plain = c.index.result.now.plain.along.rows; burdened = c.index-2.result.now.burdened.along.rows; rows = c.len.result } in
+    let links : Links = record { plain = c.index.result.now.plain_rows; burdened = c.index-2.result.now.burdened_rows; rows = c.len.result } in
     record {
       few = All-tail (FitFrame links) s.outer (drop 1 s.frames.items)
           (frames_fit c.args.self.now s (enclosure_of c.args.enclosing.now) c.args.wins links b.top b.below b.is c.requires.laid c.requires.stretch b.plain b.burdened b.count (omega (arith, c.requires.few, c.len.ensures)));
@@ -77,12 +77,12 @@ open_inner-requires c =
 pub join-requires-2-clause-plain : goal.join-requires-2-clause-plain
 join-requires-2-clause-plain c =
     let b = begun (goal.at.join-requires-2-clause-plain c).After-len in
-    subst (λ (f : FrameWays). FitOwn c.args.wins.plain c.args.stretch.now.outer.plain f.plain) (sym (c.index_mut.ensures.value ∙ b.get c.index_mut.result.now)) ((c.requires.can false).own b.top b.below b.is)
+    subst (λ (f : FrameWays). FitOwn c.args.wins.plain (plain_of c.args.stretch.now.outer) (plain_of f)) (sym (c.index_mut.ensures.value ∙ b.get c.index_mut.result.now)) ((c.requires.can false).own b.top b.below b.is)
 
 pub join-requires-2-clause-burdened : goal.join-requires-2-clause-burdened
 join-requires-2-clause-burdened c =
     let b = begun (goal.at.join-requires-2-clause-burdened c).After-len in
-    subst (λ (f : FrameWays). FitOwn c.args.wins.burdened c.args.stretch.now.outer.burdened f.burdened) (sym (c.index_mut.ensures.value ∙ b.get c.index_mut.result.now)) ((c.requires.can true).own b.top b.below b.is)
+    subst (λ (f : FrameWays). FitOwn c.args.wins.burdened (burdened_of c.args.stretch.now.outer) (burdened_of f)) (sym (c.index_mut.ensures.value ∙ b.get c.index_mut.result.now)) ((c.requires.can true).own b.top b.below b.is)
 
 -- what the join comes to
 done : (c : In_ok-open_inner) → Done c.args.self.now c.open_inner.new.self c.args.stretch.now (enclosure_of c.args.enclosing.now) c.args.wins
@@ -92,7 +92,7 @@ done c =
     let e : Enclosure = enclosure_of c.args.enclosing.now in
     let wins : OnPaths = c.args.wins in
     let n : ℕ = c.len-last.result in
-    let links : Links = record { plain = c.index.result.now.plain.along.rows; burdened = c.index-2.result.now.burdened.along.rows; rows = c.len.result } in
+    let links : Links = record { plain = c.index.result.now.plain_rows; burdened = c.index-2.result.now.burdened_rows; rows = c.len.result } in
     let b : Setup o n links =
     setup o (open_frame wins e o s c.requires.can) n (omega (arith, c.len-last.ensures, o.frames.ok.0)) c.index.result.now c.index-2.result.now c.index.ensures c.index-2.ensures c.len.result c.len.ensures in
     let new : OpenWays = c.open_inner.new.self in
@@ -109,7 +109,7 @@ pub index-requires-then-alone : goal.index-requires-then-alone
 index-requires-then-alone c =
     let some = open_frame c.args.wins (enclosure_of c.args.enclosing.now) c.args.self.now c.args.stretch.now c.requires.can in
     let outer : List FrameWays = set c.args.self.now.frames.items (c.len-last.result - 1) c.join-2.new.self in
-    let links : Links = record { plain = c.index.result.now.plain.along.rows; burdened = c.index-2.result.now.burdened.along.rows; rows = c.len.result } in
+    let links : Links = record { plain = c.index.result.now.plain_rows; burdened = c.index-2.result.now.burdened_rows; rows = c.len.result } in
     let inner : List FrameWays = map (joined_frame links c.args.self.now.limit) (drop 1 c.args.stretch.now.frames.items) in
     let n : length c.open_inner.new.self.frames.items ≡ length (outer ++ inner) = ap (λ (l : List FrameWays). length l) c.in_ok-open_inner.ensures.frames in
     omega (arith, c.len-last.ensures, c.args.self.now.frames.ok.0, c.open_inner.new.self.frames.ok.0, length-append outer inner, length-set c.args.self.now.frames.items (c.len-last.result - 1) c.join-2.new.self)
@@ -137,7 +137,7 @@ merge-requires-clause-many c =
     let s : LoggedStretch = c.args.stretch.now in
     let some = open_frame c.args.wins (enclosure_of c.args.enclosing.now) o s c.requires.can in
     let none : drop 1 s.frames.items ≡ [] = none_behind s.frames.items (omega (arith, c.if-alone.true, c.len-alone.ensures, s.frames.ok.0)) in
-    let links : Links = record { plain = c.index.result.now.plain.along.rows; burdened = c.index-2.result.now.burdened.along.rows; rows = c.len.result } in
+    let links : Links = record { plain = c.index.result.now.plain_rows; burdened = c.index-2.result.now.burdened_rows; rows = c.len.result } in
     let f = λ (g : FrameWays). joined_frame links o.limit g in
     let new : List FrameWays = c.open_inner.new.self.frames.items in
     let outer : List FrameWays = set o.frames.items (c.len-last.result - 1) c.join-2.new.self in

@@ -12,9 +12,9 @@ use Rattle.spp_ways.specs.OpenWays.{AllWays, HasRowsOf, Laid, path_of, AreMerged
 use Rattle.spp_ways.proofs.Merging.{top_fits, has_frame, merge_linked, merge_laid, merge_ways, rows_are}
 use Rattle.spp_ways.proofs.open_ways.OpenWays.merge.Goals as goal
 
-both_are : (log : List LogRow) (f : FrameWays) (m n : Merged) → ((key : Option ℕ) → key_row m.plain key ≡ way_row false log f.plain.along.rows key)
-    → ((key : Option ℕ) → key_row m.burdened key ≡ way_row true log f.burdened.along.rows key) → ((key : Option ℕ) → key_row n.plain key ≡ way_row false log f.plain.through.rows key)
-    → ((key : Option ℕ) → key_row n.burdened key ≡ way_row true log f.burdened.through.rows key) → (on : Bool)
+both_are : (log : List LogRow) (f : FrameWays) (m n : Merged) → ((key : Option ℕ) → key_row m.plain key ≡ way_row false log f.plain_rows key)
+    → ((key : Option ℕ) → key_row m.burdened key ≡ way_row true log f.burdened_rows key) → ((key : Option ℕ) → key_row n.plain key ≡ way_row false log f.plain_through_rows key)
+    → ((key : Option ℕ) → key_row n.burdened key ≡ way_row true log f.burdened_through_rows key) → (on : Bool)
     → ((key : Option ℕ) → key_row (merged_on on m) key ≡ way_row on log (path_of on f).along.rows key) × ((key : Option ℕ) → key_row (merged_on on n) key ≡ way_row on log (path_of on f).through.rows key)
 both_are log f m n a b c d false = (a, c)
 both_are log f m n a b c d true = (b, d)
@@ -31,7 +31,7 @@ merge-requires-clause-plain_fits c key =
     let top : old ≡ t.top = c.index-frame.ensures ∙ ap (λ k. get_or fs k old) at ∙ t.get old in
     let laid : Laid (length items) (t.top ∷ t.below) = subst (Laid (length items)) t.is c.requires.laid.frames in
     let fits = λ (on : Bool). top_fits on (reverse items) t.top t.below (c.requires.fits on).0 (subst (λ (l : List FrameWays). AllWays on (reverse items) l (c.requires.fits on).0) t.is (c.requires.fits on).1) (c.requires.fits on).2 in
-    subst (λ (f : FrameWays). Fits (way_row false (reverse items) f.plain.along.rows key)) (sym top) ((fits false).0 key)
+    subst (λ (f : FrameWays). Fits (way_row false (reverse items) f.plain_rows key)) (sym top) ((fits false).0 key)
 
 pub merge-requires-clause-burdened_fits : goal.merge-requires-clause-burdened_fits
 merge-requires-clause-burdened_fits c key =
@@ -45,7 +45,7 @@ merge-requires-clause-burdened_fits c key =
     let top : old ≡ t.top = c.index-frame.ensures ∙ ap (λ k. get_or fs k old) at ∙ t.get old in
     let laid : Laid (length items) (t.top ∷ t.below) = subst (Laid (length items)) t.is c.requires.laid.frames in
     let fits = λ (on : Bool). top_fits on (reverse items) t.top t.below (c.requires.fits on).0 (subst (λ (l : List FrameWays). AllWays on (reverse items) l (c.requires.fits on).0) t.is (c.requires.fits on).1) (c.requires.fits on).2 in
-    subst (λ (f : FrameWays). Fits (way_row true (reverse items) f.burdened.along.rows key)) (sym top) ((fits true).0 key)
+    subst (λ (f : FrameWays). Fits (way_row true (reverse items) f.burdened_rows key)) (sym top) ((fits true).0 key)
 
 pub merge-requires-2-clause-plain : goal.merge-requires-2-clause-plain
 merge-requires-2-clause-plain c =
@@ -58,7 +58,7 @@ merge-requires-2-clause-plain c =
     let old : FrameWays = c.index-frame.result.now in
     let top : old ≡ t.top = c.index-frame.ensures ∙ ap (λ k. get_or fs k old) at ∙ t.get old in
     let laid : Laid (length items) (t.top ∷ t.below) = subst (Laid (length items)) t.is c.requires.laid.frames in
-    subst (λ (f : FrameWays). f.plain.through.rows ≤ length items) (sym top) laid.1.1
+    subst (λ (f : FrameWays). f.plain_through_rows ≤ length items) (sym top) laid.1.1
 
 pub merge-requires-2-clause-burdened : goal.merge-requires-2-clause-burdened
 merge-requires-2-clause-burdened c =
@@ -71,7 +71,7 @@ merge-requires-2-clause-burdened c =
     let old : FrameWays = c.index-frame.result.now in
     let top : old ≡ t.top = c.index-frame.ensures ∙ ap (λ k. get_or fs k old) at ∙ t.get old in
     let laid : Laid (length items) (t.top ∷ t.below) = subst (Laid (length items)) t.is c.requires.laid.frames in
-    subst (λ (f : FrameWays). f.burdened.through.rows ≤ length items) (sym top) laid.2.1
+    subst (λ (f : FrameWays). f.burdened_through_rows ≤ length items) (sym top) laid.2.1
 
 pub merge-requires-2-clause-plain_fits : goal.merge-requires-2-clause-plain_fits
 merge-requires-2-clause-plain_fits c key =
@@ -85,7 +85,7 @@ merge-requires-2-clause-plain_fits c key =
     let top : old ≡ t.top = c.index-frame.ensures ∙ ap (λ k. get_or fs k old) at ∙ t.get old in
     let laid : Laid (length items) (t.top ∷ t.below) = subst (Laid (length items)) t.is c.requires.laid.frames in
     let fits = λ (on : Bool). top_fits on (reverse items) t.top t.below (c.requires.fits on).0 (subst (λ (l : List FrameWays). AllWays on (reverse items) l (c.requires.fits on).0) t.is (c.requires.fits on).1) (c.requires.fits on).2 in
-    subst (λ (f : FrameWays). Fits (way_row false (reverse items) f.plain.through.rows key)) (sym top) ((fits false).1 key)
+    subst (λ (f : FrameWays). Fits (way_row false (reverse items) f.plain_through_rows key)) (sym top) ((fits false).1 key)
 
 pub merge-requires-2-clause-burdened_fits : goal.merge-requires-2-clause-burdened_fits
 merge-requires-2-clause-burdened_fits c key =
@@ -99,7 +99,7 @@ merge-requires-2-clause-burdened_fits c key =
     let top : old ≡ t.top = c.index-frame.ensures ∙ ap (λ k. get_or fs k old) at ∙ t.get old in
     let laid : Laid (length items) (t.top ∷ t.below) = subst (Laid (length items)) t.is c.requires.laid.frames in
     let fits = λ (on : Bool). top_fits on (reverse items) t.top t.below (c.requires.fits on).0 (subst (λ (l : List FrameWays). AllWays on (reverse items) l (c.requires.fits on).0) t.is (c.requires.fits on).1) (c.requires.fits on).2 in
-    subst (λ (f : FrameWays). Fits (way_row true (reverse items) f.burdened.through.rows key)) (sym top) ((fits true).1 key)
+    subst (λ (f : FrameWays). Fits (way_row true (reverse items) f.burdened_through_rows key)) (sym top) ((fits true).1 key)
 
 pub push_merged-requires : goal.push_merged-requires
 push_merged-requires c =
@@ -167,10 +167,10 @@ returns-clause-laid c =
     (subst (λ (f : FrameWays). AreMerged c.in_ok-along-2.along c.in_ok-through-2.through f c.merged.result) top c.merged.ensures.ways)) in
     let frames : reverse (set fs (c.len-last.result - 1) c.merged.result) ≡ c.merged.result ∷ t.below = ap (λ (k : ℕ). reverse (set fs k c.merged.result)) at ∙ t.put c.merged.result in
     let are = both_are (reverse items) t.top c.in_ok-along.along c.in_ok-through.through
-    (λ key. c.in_ok-along.ensures.plain key ∙ ap (λ (f : FrameWays). way_row false (reverse items) f.plain.along.rows key) top)
-    (λ key. c.in_ok-along.ensures.burdened key ∙ ap (λ (f : FrameWays). way_row true (reverse items) f.burdened.along.rows key) top)
-    (λ key. c.in_ok-through.ensures.plain key ∙ ap (λ (f : FrameWays). way_row false (reverse items) f.plain.through.rows key) top)
-    (λ key. c.in_ok-through.ensures.burdened key ∙ ap (λ (f : FrameWays). way_row true (reverse items) f.burdened.through.rows key) top) in
+    (λ key. c.in_ok-along.ensures.plain key ∙ ap (λ (f : FrameWays). way_row false (reverse items) f.plain_rows key) top)
+    (λ key. c.in_ok-along.ensures.burdened key ∙ ap (λ (f : FrameWays). way_row true (reverse items) f.burdened_rows key) top)
+    (λ key. c.in_ok-through.ensures.plain key ∙ ap (λ (f : FrameWays). way_row false (reverse items) f.plain_through_rows key) top)
+    (λ key. c.in_ok-through.ensures.burdened key ∙ ap (λ (f : FrameWays). way_row true (reverse items) f.burdened_through_rows key) top) in
     record {
       linked = subst (λ (l : List LogRow). AreLinked (reverse l)) (sym log) (merge_linked items t.top t.below c.requires.laid.linked laid c.in_ok-along.along c.in_ok-through.through x.0 y.0 x.1 y.1 are);
       frames = subst (λ (l : List LogRow). Laid (length l) (reverse (set fs (c.len-last.result - 1) c.merged.result))) (sym log)
@@ -205,10 +205,10 @@ returns-clause-ways c on ws h =
     (subst (λ (f : FrameWays). AreMerged c.in_ok-along-2.along c.in_ok-through-2.through f c.merged.result) top c.merged.ensures.ways)) in
     let frames : reverse (set fs (c.len-last.result - 1) c.merged.result) ≡ c.merged.result ∷ t.below = ap (λ (k : ℕ). reverse (set fs k c.merged.result)) at ∙ t.put c.merged.result in
     let are = both_are (reverse items) t.top c.in_ok-along.along c.in_ok-through.through
-    (λ key. c.in_ok-along.ensures.plain key ∙ ap (λ (f : FrameWays). way_row false (reverse items) f.plain.along.rows key) top)
-    (λ key. c.in_ok-along.ensures.burdened key ∙ ap (λ (f : FrameWays). way_row true (reverse items) f.burdened.along.rows key) top)
-    (λ key. c.in_ok-through.ensures.plain key ∙ ap (λ (f : FrameWays). way_row false (reverse items) f.plain.through.rows key) top)
-    (λ key. c.in_ok-through.ensures.burdened key ∙ ap (λ (f : FrameWays). way_row true (reverse items) f.burdened.through.rows key) top) in
+    (λ key. c.in_ok-along.ensures.plain key ∙ ap (λ (f : FrameWays). way_row false (reverse items) f.plain_rows key) top)
+    (λ key. c.in_ok-along.ensures.burdened key ∙ ap (λ (f : FrameWays). way_row true (reverse items) f.burdened_rows key) top)
+    (λ key. c.in_ok-through.ensures.plain key ∙ ap (λ (f : FrameWays). way_row false (reverse items) f.plain_through_rows key) top)
+    (λ key. c.in_ok-through.ensures.burdened key ∙ ap (λ (f : FrameWays). way_row true (reverse items) f.burdened_through_rows key) top) in
     subst (λ (l : List LogRow). AllWays on (reverse l) (reverse (set fs (c.len-last.result - 1) c.merged.result)) ws) (sym log)
     (subst (λ (l : List FrameWays). AllWays on (reverse ((take t.top.start items ++ (x.0 ∷ [])) ++ (y.0 ∷ []))) l ws) (sym frames)
     (merge_ways items t.top t.below c.requires.laid.linked laid c.in_ok-along.along c.in_ok-through.through x.0 y.0 x.1 y.1 are c.merged.result merged on ws (subst (λ (l : List FrameWays). AllWays on (reverse items) l ws) t.is h)))
@@ -241,8 +241,8 @@ returns-clause-rows c =
     (subst (λ (f : FrameWays). AreMerged c.in_ok-along-2.along c.in_ok-through-2.through f c.merged.result) top c.merged.ensures.ways)) in
     let frames : reverse (set fs (c.len-last.result - 1) c.merged.result) ≡ c.merged.result ∷ t.below = ap (λ (k : ℕ). reverse (set fs k c.merged.result)) at ∙ t.put c.merged.result in
     let are = both_are (reverse items) t.top c.in_ok-along.along c.in_ok-through.through
-    (λ key. c.in_ok-along.ensures.plain key ∙ ap (λ (f : FrameWays). way_row false (reverse items) f.plain.along.rows key) top)
-    (λ key. c.in_ok-along.ensures.burdened key ∙ ap (λ (f : FrameWays). way_row true (reverse items) f.burdened.along.rows key) top)
-    (λ key. c.in_ok-through.ensures.plain key ∙ ap (λ (f : FrameWays). way_row false (reverse items) f.plain.through.rows key) top)
-    (λ key. c.in_ok-through.ensures.burdened key ∙ ap (λ (f : FrameWays). way_row true (reverse items) f.burdened.through.rows key) top) in
+    (λ key. c.in_ok-along.ensures.plain key ∙ ap (λ (f : FrameWays). way_row false (reverse items) f.plain_rows key) top)
+    (λ key. c.in_ok-along.ensures.burdened key ∙ ap (λ (f : FrameWays). way_row true (reverse items) f.burdened_rows key) top)
+    (λ key. c.in_ok-through.ensures.plain key ∙ ap (λ (f : FrameWays). way_row false (reverse items) f.plain_through_rows key) top)
+    (λ key. c.in_ok-through.ensures.burdened key ∙ ap (λ (f : FrameWays). way_row true (reverse items) f.burdened_through_rows key) top) in
     (let z : length c.push_merged-2.new.self.rows.items ≡ t.top.start + 2 = ap (λ (l : List LogRow). length l) log ∙ rows_are items t.top t.below c.requires.laid.linked laid c.in_ok-along.along c.in_ok-through.through x.0 y.0 x.1 y.1 are in omega arith)

@@ -2,7 +2,7 @@ use Rattle.std.proofs.Common.{◌≡◌, ℕ, ◌-◌, true, false, List, ◌∷
 use Rattle.spp_site.proofs.LastFirst.{topped}
 use Rattle.spp_ways.specs.declared.open_ways.FrameWays.{FrameWays}
 use Rattle.spp_ways.specs.declared.open_ways.OpenWays.{OpenWays}
-use Rattle.spp_ways.specs.OpenWays.{FitTopStrand}
+use Rattle.spp_ways.specs.OpenWays.{plain_of, burdened_of, frame_ways, FitTopStrand}
 use Rattle.spp_ways.specs.Stretches.{enclosed_row}
 use Rattle.spp_ways.proofs.Steps.{fit_some, strand_on, strand_frame, StrandDone, strand_done}
 use Rattle.spp_ways.proofs.Enclosed.{strand_stretch}
@@ -27,7 +27,7 @@ overflow_add-frame c =
     let old : FrameWays = c.index_mut-frame.result.now in
     let top : old ≡ t.top = c.index_mut-frame.ensures.value ∙ ap (λ k. get_or fs k old) at ∙ t.get old in
     let fits : FitTopStrand false c.args.count (t.top ∷ t.below) = subst (FitTopStrand false c.args.count) t.is (c.requires.fits false) in
-    let own : old.plain.along.own ≡ t.top.plain.along.own = ap (λ (f : FrameWays). f.plain.along.own) top in
+    let own : old.plain_own ≡ t.top.plain_own = ap (λ (f : FrameWays). f.plain_own) top in
     omega (arith, c.from.ensures)
 
 pub overflow_add-frame-2 : goal.overflow_add-frame-2
@@ -39,14 +39,14 @@ overflow_add-frame-2 c =
     let old : FrameWays = c.index_mut-frame.result.now in
     let top : old ≡ t.top = c.index_mut-frame.ensures.value ∙ ap (λ k. get_or fs k old) at ∙ t.get old in
     let fits : FitTopStrand true c.args.count (t.top ∷ t.below) = subst (FitTopStrand true c.args.count) t.is (c.requires.fits true) in
-    let own : old.burdened.along.own ≡ t.top.burdened.along.own = ap (λ (f : FrameWays). f.burdened.along.own) top in
+    let own : old.burdened_own ≡ t.top.burdened_own = ap (λ (f : FrameWays). f.burdened_own) top in
     omega (arith, c.from-2.ensures)
 
 -- the frames then
 abbrev opens : goal.After-self-1 → List FrameWays
 opens c =
     let old : FrameWays = c.index_mut-frame.result.now in
-    set c.args.self.now.frames.items (c.len-last.result - 1) (record { plain = strand_on c.from.result old.plain; burdened = strand_on c.from-2.result old.burdened; start = old.start; stored = old.stored; limit = old.limit })
+    set c.args.self.now.frames.items (c.len-last.result - 1) (frame_ways (strand_on c.from.result (plain_of old)) (strand_on c.from-2.result (burdened_of old)) old.start old.stored old.limit)
 
 moved : (c : goal.After-self-1) → opens c ≡ set c.args.self.now.frames.items (length c.args.self.now.frames.items - 1) (strand_frame c.args.count (topped c.args.self.now.frames.items (fit_some false c.args.count c.args.self.now.frames.items (c.requires.fits false))).top)
 moved c =
@@ -58,7 +58,7 @@ moved c =
     let at : c.len-last.result - 1 ≡ length fs - 1 = omega (arith, c.len-last.ensures, o.frames.ok.0) in
     let old : FrameWays = c.index_mut-frame.result.now in
     let top : old ≡ t.top = c.index_mut-frame.ensures.value ∙ ap (λ k. get_or fs k old) at ∙ t.get old in
-    let frame = λ (m n : ℕ). let f : FrameWays = record { plain = strand_on m old.plain; burdened = strand_on n old.burdened; start = old.start; stored = old.stored; limit = old.limit } in f in
+    let frame = λ (m n : ℕ). let f : FrameWays = frame_ways (strand_on m (plain_of old)) (strand_on n (burdened_of old)) old.start old.stored old.limit in f in
     ap₂ (λ (k : ℕ) (f : FrameWays). set fs k f) at (ap₂ frame c.from.ensures c.from-2.ensures ∙ ap (strand_frame count) top)
 
 done : (c : goal.After-self-1) → StrandDone c.args.count c.args.self.now (opens c)
