@@ -241,6 +241,10 @@ peak_within() { # BOUND INPUT WORDS..: so many KiB are used at most
 awk 'BEGIN { print "func f"; for (n = 0; n < 40; n++) print "site s" n
     for (n = 0; n < 1400000; n++) print "spawn", n % 40, "0\nstrand 5\nreturn" }' | "$spprof" encode > "$folder/row"
 peak_within 24000 "$folder/row" profile --workers 2
+# Nor does a trace of 1,024 call sites, the most that several workers profile by blocks, need room for its 32 MB.
+{ awk 'BEGIN { print "func f"; for (n = 0; n < 1024; n++) print "site s" n }' && yes 'strand 5' | head -n 2000000; } |
+    "$spprof" encode > "$folder/row"
+peak_within 16000 "$folder/row" profile --workers 2
 size=$(($(stat -c %s "$folder/long") / 1024))
 # `check` keeps the header and a piece of a trace: most of what is measured is the process that starts the program.
 peaks_within 20000 0 "$folder/long" check
@@ -268,7 +272,7 @@ peaks_within 32000 0 "$folder/long" migrate "$folder/long"
 # thread reads most blocks, and parts take nearly as much again where several do.
 { yes 'call 0 0' | head -n 500000 && yes return | head -n 500000; } > "$folder/tower"
 { printf 'func f\nsite A\n' && for tower in 1 2 3 4 5 6; do cat "$folder/tower"; done; } | "$spprof" encode > "$folder/deep"
-peak_within 180000 "$folder/deep" profile --workers 4
+peak_within 160000 "$folder/deep" profile --workers 4
 # So it starts few threads for its 92 blocks; leaves behind a tower have one for each of 69 again.
 starts_within() { # LEAST MOST NAME INPUT WORDS..: so many threads are started
     local least=$1 most=$2 name=$3 input=$4 status requests starts

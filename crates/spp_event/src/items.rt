@@ -1,6 +1,6 @@
 //! Events as version 2 spells them: items of at most thirteen bytes.
 
-ghost use Rattle.std.specs.Prelude.{◌≡◌, ◌++◌, ◌<◌, ◌≤◌, ◌-◌, ◌^◌, nat_lt, ℕ, List, None, length, take, drop, IfOk, IfSome, IsTrue, OnOk};
+ghost use Rattle.std.specs.Prelude.{◌≡◌, ◌↔◌, ◌++◌, ◌<◌, ◌≤◌, ◌-◌, ◌^◌, nat_lt, ℕ, List, None, length, take, drop, IfOk, IfSome, IsTrue, OnOk};
 ghost use Rattle.std.specs.Int.Digits.{digits_of};
 ghost use Rattle.spp_event.specs.Items.{operand, item_of, within_trace, read_item};
 ghost use Rattle.spp_event.specs.Places.{GoesOn, IsItemBetween};
@@ -115,7 +115,8 @@ fn operand_behind(front: u64, bytes: &[u8]) -> Option<(u64, &[u8])>
     None
 }
 
-/// As [`operand_behind`], with a place in memory for the answer that is made ready here, on the way that few numbers take.
+/// Calls [`operand_behind`], for numbers of four digits or more. It is a function of its own so that the room for the answer is
+/// cleared for these alone.
 #[inline(always)]
 fn long_operand(front: u64, bytes: &[u8]) -> Option<(u64, &[u8])>
     requires { 0 < front }
@@ -205,7 +206,7 @@ pub(crate) fn spelled(item: &[u8]) -> Option<Event>
 /// Whether the bytes end, or an item begins at the first.
 #[inline(always)]
 fn goes_on(bytes: &[u8]) -> bool
-    ensures { IsTrue result → GoesOn bytes.now }
+    ensures { IsTrue result ↔ GoesOn bytes.now }
 {
     match bytes.first() {
         Some(next) => *next >= 0x80,
@@ -213,7 +214,7 @@ fn goes_on(bytes: &[u8]) -> bool
     }
 }
 
-/// The event whose item stands at a place, behind which there are these bytes, and the place of these; none where the item goes on in
+/// The event whose item stands at a place, and the place of the bytes behind the item, which are `rest`; none where the item goes on in
 /// them.
 #[inline(always)]
 fn if_it_ends(event: Event, body: &[u8], place: usize, rest: &[u8]) -> Option<(Event, usize)>
@@ -230,11 +231,10 @@ fn if_it_ends(event: Event, body: &[u8], place: usize, rest: &[u8]) -> Option<(E
     }
 }
 
-/// The event whose item begins at a place, and the place behind it; none where that item is bad, or goes on behind what would be the
-/// item of an event. The caller then looks at the whole item.
+/// The event whose item begins at a place, and the place behind it; none where no item begins there, or it is that of no event. The
+/// caller then looks at the whole item. Whether the trace has the site and the function isn't looked at.
 ///
-/// What follows the item, and its place, are looked at in the branch of its kind, so that what a caller does by kinds needs no second
-/// jump.
+/// Where the item ends is found out in the branch of its kind, so that what a caller does by kinds needs no second jump.
 #[inline(always)]
 pub(crate) fn front(body: &[u8], place: usize) -> Option<(Event, usize)>
     requires { place ≤ length body.now }
@@ -296,8 +296,7 @@ fn named_within(
     }
 }
 
-/// The event, where the site and the function that it names, if any, are among so many. They are looked at in the branch of its kind, as
-/// in [`front`].
+/// The event, where the site and the function that it names, if any, are among so many. That too is found out in the branch of its kind.
 #[inline(always)]
 pub(crate) fn within(event: Event, sites: u32, funcs: u32) -> Result<Event, EventFault>
     requires { IsEvent event }

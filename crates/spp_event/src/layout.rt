@@ -39,8 +39,8 @@ pub(crate) fn record_there(bytes: &[u8], i: u32) -> &[u8; RECORD]
     }
 }
 
-/// As [`read_item_at`], by the whole item. It is a function, though short: places in memory for what it calls are made ready where it is
-/// called, and not at each event.
+/// The answer of [`read_item_at`] for an item that is there, by all its bytes. It is a function of its own so that the room for the
+/// answers of what it calls is cleared for these items alone.
 #[inline(always)]
 fn read_whole_item_at(
     body: &[u8],
@@ -79,7 +79,7 @@ pub(crate) fn read_item_at(
     read_whole_item_at(body, place, sites, funcs)
 }
 
-/// As [`known_item_at`], by the whole item.
+/// The answer of [`known_item_at`], by all bytes of the item.
 #[inline(always)]
 fn known_whole_item_at(body: &[u8], place: usize) -> (Event, usize)
     requires { (i sites funcs : ℕ) × IsItemPlace body.now i place × IsOk (read_item sites funcs (item body.now i)) }

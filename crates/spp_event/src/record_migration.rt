@@ -20,7 +20,7 @@ use crate::stretches::items_in;
 use crate::traces::{Trace, are_bytes};
 use std::alloc::{AllocError, Global};
 
-/// A record or item that spells no event of the trace.
+/// The first record or item of a trace that spells none of its events, or isn't there.
 #[derive(Clone, Copy, Debug, PartialEq, Eq)]
 pub struct BadEvent {
     /// Its position, from 0.
@@ -179,8 +179,7 @@ impl RecordMigration {
         self.followed_by_events(bytes, count, RecordReader)
     }
 
-    /// This migration, behind the items of version 2 of these bytes as well, as [`RecordMigration::followed_by`]. The time is linear in
-    /// these bytes.
+    /// What [`RecordMigration::followed_by`] gives, for the items of version 2 of these bytes. The time is linear in the bytes.
     ///
     /// # Errors
     ///

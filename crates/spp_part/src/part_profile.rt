@@ -237,8 +237,8 @@ impl PartProfile {
     /// For each of its stretches it takes 128 bytes for each pair of a call site and a function that calls by it, and at worst,
     /// where nearly each pair is new, for each frame that closes in the part and was opened there; and 112 for each of these
     /// frames that was on a greatest way, on either path, as it returned. A stretch ends at each return of a frame that was open
-    /// before, and at the first sync of such a frame: each takes 24 bytes, and some 400 more if it isn't strands alone. Each
-    /// frame that the part leaves open takes some 230. All that is up to twice as much with spare room, and more where stretches
+    /// before, and at the first sync of such a frame: each takes 24 bytes, and 350 to 470 more if it isn't strands alone. Each
+    /// frame that the part leaves open takes 224. All that is up to twice as much with spare room, and more where stretches
     /// have few rows. While the part is read, some 50 bytes more are taken for each pair, and 2 MB at most.
     ///
     /// # Errors

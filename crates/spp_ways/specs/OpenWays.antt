@@ -41,7 +41,7 @@ burdened_of f = record {
   through = record { rows = f.burdened_through_rows; own = f.burdened_through_own };
 }
 
--- the frame that has these ways, without burdens and under them
+-- the frame that has these ways, without burdens and under them, and these numbers of rows: at its start, stored, and its limit
 abbrev pub frame_ways : LoggedWays → LoggedWays → ℕ → ℕ → ℕ → FrameWays
 frame_ways p b start stored limit = record {
   plain_own = p.along.own;
@@ -141,7 +141,7 @@ chosen takes w = cond takes w.through w.along
 abbrev pub nothing : LoggedWay
 nothing = record { rows = 0; own = 0 }
 
--- the frame has waited: it goes on so, and no child waits in it any longer
+-- the ways into a frame that has waited, and has taken the child that waits in it or not: no child waits in it any longer
 abbrev pub waited : Bool → LoggedWays → LoggedWays
 waited takes w = record { along = chosen takes w; through = nothing }
 

@@ -192,24 +192,24 @@ impl LoggedWays {
     }
 }
 
-/// An open frame as far as its ways go: two on each path, whose parts stand by size, so that little room is lost.
+/// An open frame as far as its ways go, two on each path: the numbers of 128 bits come first, so that 4 of its 96 bytes are lost.
 #[derive(Clone, Copy, PartialEq, Eq)]
 struct FrameWays {
-    /// On the path without burdens, the counts of the frame's own strands on the way along it.
+    /// The counts of the frame's own strands on the way along it, on the path without burdens.
     plain_own: u128,
-    /// And on the way through the child that waits in it, if one does.
+    /// And on the way through the child that waits in it, if one does, on that path.
     plain_through_own: u128,
-    /// On the path under the burdens, the counts of the frame's own strands on the way along it.
+    /// The counts of its own strands on the way along it, on the path under the burdens.
     burdened_own: u128,
-    /// And on the way through the child that waits in it, if one does.
+    /// And on the way through the child that waits in it, if one does, on that path.
     burdened_through_own: u128,
-    /// Where the way along it on the path without burdens ends in the log.
+    /// Where the way along it ends in the log, on the path without burdens.
     plain_rows: u32,
-    /// And the way through the child that waits in it.
+    /// And where the way through the child that waits in it ends, on that path.
     plain_through_rows: u32,
-    /// Where the way along it on the path under the burdens ends in the log.
+    /// Where the way along it ends in the log, on the path under the burdens.
     burdened_rows: u32,
-    /// And the way through the child that waits in it.
+    /// And where the way through the child that waits in it ends, on that path.
     burdened_through_rows: u32,
     /// How many rows the log had where the frame was opened: the ways into the frames below end there or before.
     start: u32,
@@ -375,7 +375,7 @@ impl FrameWays {
         self.burdened_through_own = 0;
     }
 
-    /// A frame of that kind returns, the way through which ends with that row.
+    /// A frame of that kind returns to this one; the way through it ends in the log behind so many rows.
     #[inline(always)]
     fn come(&mut self, kind: FrameKind, wins: OnPaths, rows: u32)
         ensures { self.new ≡ come_frame kind wins rows self.old.stored self.old.limit self.old }

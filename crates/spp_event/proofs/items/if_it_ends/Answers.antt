@@ -10,4 +10,4 @@ overflow_sub-result c =
     omega (arith, c.requires.within)
 
 pub returns-then-goes_on-clause-between : goal.returns-then-goes_on-clause-between
-returns-then-goes_on-clause-between c = (in_front_of c.args.body.now c.args.place c.args.event c.args.rest.now c.requires.within c.requires.is (c.if-goes_on.ensures refl)).between
+returns-then-goes_on-clause-between c = (in_front_of c.args.body.now c.args.place c.args.event c.args.rest.now c.requires.within c.requires.is (c.if-goes_on.ensures.0 refl)).between
