@@ -177,7 +177,7 @@ each_refused 'advise, many call sites' 0 8 'work 10*' '' "$folder/many" "$spprof
 each_refused 'advise, a bad event' 1 3 '' 'bad event 4: tag' "$folder/tag" "$spprof" advise
 each_refused 'advise as a table, one call site' 0 0 'name,*' '' "$examples/small.compact" "$spprof" advise --csv --site A --workers 1
 each_refused 'advise, no such call site' 1 0 '' 'no such call site' "$examples/small.sptrace" "$spprof" advise --site B
-# An input of 69 MB, for the peaks below, with more call sites than several workers profile by blocks.
+# An input of 69 MB, for the peaks below, with so many call sites that several workers keep up to 2^22 events: these are more.
 awk 'BEGIN { print "func f"; for (n = 0; n < 1025; n++) print "site s" n
     for (n = 0; n < 4300000; n++) print "strand", n % 7 }' | "$spprof" encode > "$folder/long"
 peak_of() { # STATUS WORDS..: the peak memory in KiB of the program, which reads standard input and ends with that status
@@ -202,11 +202,10 @@ peaks_within() { # BOUND STATUS INPUT WORDS..: so many KiB are used at most, and
 }
 # Where all of an input is read, that takes at most 1.3 times its size from a pipe, and 1.1 times by name, where its length
 # is known. The size is a little more than 2^26 bytes: room that doubles would be nearly twice that, and room that isn't made
-# once passes 1.1. `profile` reads all where there are many call sites and several workers.
+# once passes 1.1. `profile` goes by blocks.
 size=$(($(stat -c %s "$folder/long") / 1024))
-peaks_within $((size * 13 / 10)) 0 "$folder/long" profile --workers 2
-peaks_within $((size * 11 / 10)) 0 "$folder/long" profile --workers 2 "$folder/long"
-# By one worker it goes by blocks.
+peaks_within 32000 0 "$folder/long" profile --workers 2
+peaks_within 32000 0 "$folder/long" profile --workers 2 "$folder/long"
 peaks_within 32000 0 "$folder/long" profile --workers 1
 peaks_within 32000 0 "$folder/long" profile --workers 1 "$folder/long"
 # `advise` reads every trace whole, and has a byte for each event, a sixteenth of the size, besides.
@@ -259,11 +258,11 @@ peaks_within 24000 0 "$folder/headed" check "$folder/headed"
 size=$(($(stat -c %s "$folder/compact") / 1024))
 peaks_within 20000 0 "$folder/compact" check
 peaks_within 20000 0 "$folder/compact" figures --workers 1 "$folder/compact"
-# More than 2^25 events of a trace of many call sites aren't kept by several workers either.
-{ awk 'BEGIN { print "func f"; for (n = 0; n < 1025; n++) print "site s" n }' && yes 'strand 5' | head -n 33554433; } |
-    "$spprof" encode | "$spprof" migrate > "$folder/compact"
-size=$(($(stat -c %s "$folder/compact") / 1024))
-peaks_within 32000 0 "$folder/compact" profile --workers 2 "$folder/compact"
+# Of 30,000 sites, each called in turn, rows are added up in three tables: 67 MB by blocks.
+awk 'BEGIN { print "func f"; for (n = 0; n < 30000; n++) print "site s" n
+    for (n = 0; n < 1400000; n++) print "call", n * 7 % 30000, "0\nstrand 5\nreturn" }' | "$spprof" encode > "$folder/row"
+size=$(($(stat -c %s "$folder/row") / 1024))
+peaks_within 80000 0 "$folder/row" profile --workers 2 "$folder/row"
 # `migrate` keeps what it writes: two bytes for each of these events.
 size=$(($(stat -c %s "$folder/long") / 1024))
 peaks_within 32000 0 "$folder/long" migrate

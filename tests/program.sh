@@ -421,6 +421,16 @@ wanted=$("$spprof" profile --csv --workers 4 "$folder/many")
 for many in many many.compact; do
     expect "tables of many call sites in blocks, $many" 0 "$wanted$lf" '' /dev/null profile --csv --workers 1 "$folder/$many"
 done
+# Of so many events blocks are read by several workers, and other threads add rows up. Frames around the rows, one of which ends
+# half way, decide which are top.
+awk 'BEGIN { print "func f\nfunc g"; for (n = 0; n < 1030; n++) print "site s" n
+    print "call 5 1\ncall 6 0"
+    for (n = 0; n < 1400000; n++) print (n % 3 ? "call" : "spawn"), n * 7 % 1030, n % 2 "\nstrand", n % 11 "\nreturn" (n % 5 ? "" : "\nsync") (n == 700000 ? "\nreturn" : "")
+    print "return" }' | "$spprof" encode > "$folder/many"
+wanted=$("$spprof" profile --csv --workers 1 "$folder/many")
+for workers in 2 4 64; do
+    expect "tables of many call sites by $workers workers" 0 "$wanted$lf" '' /dev/null profile --csv --workers $workers "$folder/many"
+done
 # Two towers, each deeper than many blocks, and leaves behind each: where a run is deep one thread reads most of the blocks,
 # and behind it several do.
 { printf 'func f\nsite A\n' && for tower in 1 2; do

@@ -8,3 +8,4 @@ pub mod BlockParts
 pub mod CutRecords
 pub mod Joinings
 pub mod RecordProfiles
+pub mod Shared

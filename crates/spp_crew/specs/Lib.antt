@@ -6,3 +6,4 @@ pub mod Blocks
 pub mod Joinings
 pub mod RecordProfiles
 pub mod RecordFigures
+pub mod Shared

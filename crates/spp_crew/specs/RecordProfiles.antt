@@ -2,7 +2,7 @@
 use Rattle.std.specs.Prelude.{◌≡◌, ℕ, ◌<◌, List, ◌++◌, length, Err}
 use Rattle.spp_event.specs.declared.records.EventFault.TheVariants.{Truncated}
 use Rattle.spp_event.specs.Recordings.{Record, Recording, InLimits, AreEventsOf, record_at}
-use Rattle.spp_part.specs.Parts.{IsSoFar}
+use Rattle.spp_crew.specs.Shared.{IsShared}
 use Rattle.spp_crew.specs.Blocks.{profiled_by}
 use Rattle.spp_crew.specs.Joinings.{IsShown, threads_in}
 use Rattle.spp_crew.specs.declared.record_head.RecordHead.{RecordHead}
@@ -31,7 +31,7 @@ threads_of p = threads_in p.shown
 pub record HasSeen (p : RecordProfile) (rs : List Record) : Type 0 where
   pub count : p.at ≡ length rs
   pub good : AreEventsOf p.head.sites p.head.funcs rs
-  pub found : (t : Recording) → BeginsWith t p.head rs → IsShown profiled_by IsSoFar t p.burdens (length rs) p.shown
+  pub found : (t : Recording) → BeginsWith t p.head rs → IsShown profiled_by IsShared t p.burdens (length rs) p.shown
 
 -- these have come of the trace, and of the others, if there are any, the first is cut off
 pub record EndsWith (p : RecordProfile) (t : Recording) : Type 0 where

@@ -80,6 +80,9 @@ pub(crate) trait SoFar: Drop {
     fn wait<R: Threads>(rt: &R, thread: Self::Thread) -> BlockRead<Self::Part>
         ensures { IfOk result.part (is_part (block_of thread)) };
 
+    /// Waits for a thread of its own, if it has one, and lets go of all.
+    fn let_go<R: Threads>(self, rt: &R);
+
     /// Whether to join what a block comes to takes about as long as to read the block. No clause says when: answers don't depend
     /// on it.
     fn is_deep(part: &Self::Part) -> bool;
@@ -88,8 +91,14 @@ pub(crate) trait SoFar: Drop {
     ///
     /// # Errors
     ///
-    /// The first bad event, if it was met, or `Memory` where an allocation failed.
-    fn join(self, alloc: Global, part: Self::Part, burdens: Burdens) -> Result<Self, ProfileFault>
+    /// The first bad event, if it was met, or `Memory` where an allocation failed. No thread of its own is left then.
+    fn join<R: Threads>(
+        self,
+        rt: &R,
+        alloc: Global,
+        part: Self::Part,
+        burdens: Burdens,
+    ) -> Result<Self, ProfileFault>
         requires { (trace : Recording) × (i : ℕ) × (block : Block) × is_so_far trace burdens i self × IsBlockAt trace burdens i block × is_part block part }
         ensures so_far { IfOk result (λ s. (trace : Recording) (i : ℕ) (block : Block) → is_so_far trace burdens i self → IsBlockAt trace burdens i block → is_part block part → is_so_far trace burdens (i + count_of block) s) }
         ensures fault { IfErr result (λ f. (trace : Recording) (i : ℕ) (block : Block) → is_so_far trace burdens i self → IsBlockAt trace burdens i block → is_part block part → IsFaultOf trace.records f) };
@@ -98,8 +107,8 @@ pub(crate) trait SoFar: Drop {
     ///
     /// # Errors
     ///
-    /// The first bad event, if it was met, or `Memory` where an allocation failed.
-    fn read(self, alloc: Global, block: &Block) -> Result<Self, ProfileFault>
+    /// The first bad event, if it was met, or `Memory` where an allocation failed. No thread of its own is left then.
+    fn read<R: Threads>(self, rt: &R, alloc: Global, block: &Block) -> Result<Self, ProfileFault>
         requires readable { IsReadable block.now }
         requires so_far { (trace : Recording) × (i : ℕ) × is_so_far trace block.now.burdens i self × IsBlockAt trace block.now.burdens i block.now }
         ensures so_far { IfOk result (λ s. (trace : Recording) (i : ℕ) → is_so_far trace block.now.burdens i self → IsBlockAt trace block.now.burdens i block.now → is_so_far trace block.now.burdens (i + count_of block.now) s) }

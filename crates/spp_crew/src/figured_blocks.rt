@@ -113,16 +113,24 @@ impl SoFar for Summary {
         thread.join(rt)
     }
 
+    fn let_go<R: Threads>(self, _rt: &R) {}
+
     /// Never: to join a summary takes less than to read its block.
     fn is_deep(_part: &Summary) -> bool {
         false
     }
 
-    fn join(self, _alloc: Global, part: Summary, _burdens: Burdens) -> Result<Self, ProfileFault> {
+    fn join<R: Threads>(
+        self,
+        _rt: &R,
+        _alloc: Global,
+        part: Summary,
+        _burdens: Burdens,
+    ) -> Result<Self, ProfileFault> {
         both(self, part)
     }
 
-    fn read(self, alloc: Global, block: &Block) -> Result<Self, ProfileFault> {
+    fn read<R: Threads>(self, _rt: &R, alloc: Global, block: &Block) -> Result<Self, ProfileFault> {
         let Ok(part) = summary_of(alloc, block) else {
             return Err(ProfileFault::Memory);
         };

@@ -109,6 +109,7 @@ impl<A: SoFar> Joining<A> {
     /// Waits for the threads, and lets go of all.
     pub(crate) fn let_go<R: Threads>(self, rt: &R) {
         let_go::<A, R>(rt, self.waiting);
+        self.so_far.let_go(rt);
     }
 
     /// Waits for the first of the threads, if there is one, and joins what it brings; gives the room of its block too, or none.
@@ -143,10 +144,11 @@ impl<A: SoFar> Joining<A> {
         let BlockRead { part, room } = A::wait(rt, thread);
         let Ok(part) = part else {
             let_go::<A, R>(rt, waiting);
+            so_far.let_go(rt);
             return Err(ProfileFault::Memory);
         };
         let readers = readers.behind_joined(A::is_deep(&part));
-        match so_far.join(alloc, part, burdens) {
+        match so_far.join(rt, alloc, part, burdens) {
             Ok(so_far) => Ok((
                 Joining {
                     so_far,
@@ -234,7 +236,7 @@ impl<A: SoFar> Joining<A> {
             Ok(so_far) => so_far,
             Err(fault) => return Err(fault),
         };
-        match so_far.read(alloc, &block) {
+        match so_far.read(rt, alloc, &block) {
             Ok(so_far) => Ok((Joining::read_by(alloc, so_far, readers), block.bytes)),
             Err(fault) => Err(fault),
         }
@@ -263,10 +265,11 @@ impl<A: SoFar> Joining<A> {
             Err(fault) => return Err(fault),
         };
         let Ok(part) = part else {
+            so_far.let_go(rt);
             return Err(ProfileFault::Memory);
         };
         let readers = readers.behind_joined(A::is_deep(&part));
-        match so_far.join(alloc, part, burdens) {
+        match so_far.join(rt, alloc, part, burdens) {
             Ok(so_far) => Ok(Joining::read_by(alloc, so_far, readers)),
             Err(fault) => Err(fault),
         }
@@ -303,6 +306,7 @@ impl<A: SoFar> Joining<A> {
             Err(refused) => {
                 drop(A::wait(rt, refused.value));
                 let_go::<A, R>(rt, waiting);
+                so_far.let_go(rt);
                 Err(ProfileFault::Memory)
             }
         }

@@ -26,6 +26,7 @@ mod record_figures;
 mod record_head;
 mod record_profile;
 mod round;
+mod shared_profile;
 mod shown;
 mod surveying;
 mod whole_profile;

@@ -5,8 +5,10 @@ ghost use Rattle.spp_event.specs.Recordings.{Recording};
 ghost use Rattle.spp_frame.specs.Answers.{IsFaultOf};
 ghost use Rattle.spp_part.specs.Parts.{IsSoFar};
 ghost use Rattle.spp_crew.specs.Blocks.{IsBlockAt, IsPartOf, IsReadable, count_of, profiled_by};
+ghost use Rattle.spp_crew.specs.Shared.{IsShared};
 
 use crate::block::{Block, BlockRead, SoFar};
+use crate::shared_profile::SharedProfile;
 use spp_event::Version;
 use spp_frame::ProfileFault;
 use spp_maxplus::Burdens;
@@ -63,14 +65,14 @@ fn read_on(so_far: &mut ProfileSoFar, alloc: Global, block: &Block) -> Result<()
     }
 }
 
-impl SoFar for ProfileSoFar {
+impl SoFar for SharedProfile {
     type Part = PartProfile;
 
     type Thread = PromisedHandle<BlockRead<PartProfile>, PartOf>;
 
     ghost is_part = { IsPartOf };
 
-    ghost is_so_far = { IsSoFar };
+    ghost is_so_far = { IsShared };
 
     ghost block_of = { profiled_by };
 
@@ -98,24 +100,33 @@ impl SoFar for ProfileSoFar {
         part.is_deep()
     }
 
-    fn join(
+    fn join<R: Threads>(
         self,
+        rt: &R,
         alloc: Global,
         part: PartProfile,
         burdens: Burdens,
     ) -> Result<Self, ProfileFault> {
-        let mut so_far = self;
-        match ProfileSoFar::join(&mut so_far, alloc, &part, burdens) {
-            Ok(()) => Ok(so_far),
+        if self.shares_rows() {
+            return self.join_and_share(rt, alloc, part, burdens);
+        }
+        let mut so_far = self.gathered(rt)?;
+        match so_far.join(alloc, &part, burdens) {
+            Ok(()) => Ok(SharedProfile::alone(so_far, false)),
             Err(fault) => Err(fault),
         }
     }
 
-    fn read(self, alloc: Global, block: &Block) -> Result<Self, ProfileFault> {
-        let mut so_far = self;
+    fn read<R: Threads>(self, rt: &R, alloc: Global, block: &Block) -> Result<Self, ProfileFault> {
+        let shares = self.shares_rows();
+        let mut so_far = self.gathered(rt)?;
         match read_on(&mut so_far, alloc, block) {
-            Ok(()) => Ok(so_far),
+            Ok(()) => Ok(SharedProfile::alone(so_far, shares)),
             Err(fault) => Err(fault),
         }
+    }
+
+    fn let_go<R: Threads>(self, rt: &R) {
+        SharedProfile::let_go(self, rt);
     }
 }

@@ -11,11 +11,11 @@ ghost use Rattle.spp_crew.specs.RecordHeads.{IsHead};
 use crate::block::{Block, RECORD};
 use crate::joining::Joining;
 use crate::record_head::RecordHead;
+use crate::shared_profile::SharedProfile;
 use crate::shown::Shown;
 use spp_event::{EventFault, Version};
 use spp_frame::ProfileFault;
 use spp_maxplus::Burdens;
-use spp_part::ProfileSoFar;
 use spp_site::Profile;
 use std::alloc::{AllocError, Global};
 use std::sync::Wait;
@@ -29,7 +29,7 @@ pub struct RecordProfile {
     head: RecordHead,
     burdens: Burdens,
     /// What they show; nothing is meant by it where more have come than the header claims.
-    shown: Shown<ProfileSoFar>,
+    shown: Shown<SharedProfile>,
     /// How many events have come.
     at: u32,
     ghost limits: { IsHead head },
@@ -62,7 +62,7 @@ impl RecordProfile {
             burdens,
             shown: Shown::Good(Joining::behind(
                 alloc,
-                ProfileSoFar::start(alloc, head.root, head.sites)?,
+                SharedProfile::start(alloc, head.root, head.sites)?,
             )),
             at: 0,
         })
@@ -209,7 +209,8 @@ impl RecordProfile {
             Shown::Good(joining) => joining,
             Shown::Bad(fault) => return Err(ProfileFault::Bad(fault)),
         };
-        let so_far = joining.end(rt, alloc, burdens)?;
+        let shared = joining.end(rt, alloc, burdens)?;
+        let so_far = shared.gathered(rt)?;
         if at < head.count {
             return Err(so_far.cut_off(EventFault::Truncated));
         }

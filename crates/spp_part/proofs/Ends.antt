@@ -10,8 +10,10 @@ use Rattle.spp_frame.specs.Answers.{IsFaultOf}
 use Rattle.spp_frame.specs.declared.profile_fault.ProfileFault.TheVariants.{Bad}
 use Rattle.spp_frame.specs.declared.Why.TheVariants.{RootReturn}
 use Rattle.spp_site.specs.Marks.{without}
-use Rattle.spp_site.specs.Table.{Sums, IsAdded}
+use Rattle.spp_site.specs.Rows.{Fits}
+use Rattle.spp_site.specs.Table.{Sums, IsAdded, row_at}
 use Rattle.spp_site.specs.Profiles.{key_row}
+use Rattle.spp_site.proofs.Rows.{plus-swap, first_fits}
 use Rattle.spp_ways.specs.declared.open_ways.OnPaths.{OnPaths}
 use Rattle.spp_ways.specs.declared.open_ways.OpenWays.{OpenWays}
 use Rattle.spp_ways.specs.Ways.{Ways}
@@ -27,14 +29,25 @@ use Rattle.spp_pass.proofs.Passed.{has_open, ready_return, root_stays, leans}
 use Rattle.spp_pass.proofs.RunReturns.{returned_seen, run_returns, with_row, is_added}
 use Rattle.spp_serial.proofs.Reading.{Led, has_one, has_two, site_in, returned_fits}
 use Rattle.spp_part.specs.States.{IsEventAt}
-use Rattle.spp_part.specs.Parts.{HasNone, HasNoWay, Stands}
+use Rattle.spp_part.specs.Parts.{HasNone, HasNoWay, Rows, Shows, Stands}
 use Rattle.spp_part.proofs.Standing.{noted, now_led}
 
--- which choices are noted doesn't matter
-return_plain : (b : Burdens) (c : Counting) (s : Seen) (fs : List CountedFrame) → CanReturn b (noted c s) fs → CanReturn b (seen_with c no_notes) fs
-return_plain b c s [] h = absurd h
-return_plain b c s (f ∷ []) h = tt
-return_plain b c s (f ∷ g ∷ fs) h = record { fits = h.fits; before = h.before; site = h.site; row = h.row }
+-- which choices are noted doesn't matter, and that the table lacks rows
+return_plain : {rest : Rows} (b : Burdens) (c : Counting) (s : Seen) → Shows rest (seen_with c no_notes) s → (fs : List CountedFrame) → CanReturn b (noted c s) fs → CanReturn b (seen_with c no_notes) fs
+return_plain b c s e [] h = absurd h
+return_plain b c s e (f ∷ []) h = tt
+return_plain {rest = rest} b c s e (f ∷ g ∷ fs) h = record {
+  fits = h.fits;
+  before = h.before;
+  site = h.site;
+  row = first_fits (row_at c.table f.site) (rest (Some f.site)) (row_of f c.work) (subst (λ (r : Row). Fits (plus r (row_of f c.work))) (sym (e.table (Some f.site))) h.row);
+}
+
+-- where the root alone is open nothing is told of a table
+still : (b : Burdens) (i : ℕ) (s t new : Seen) (fs : List CountedFrame) → Returns b i s fs false new → Returns b i t fs false new
+still b i s t new [] h = h
+still b i s t new (f ∷ []) h = h
+still b i s t new (f ∷ g ∷ fs) h = absurd (let z : false ≡ true = h.0 in cc)
 
 -- two frames are open where the innermost returns
 record Two (b : Burdens) (work : ℕ) (fs : List CountedFrame) (closing : Closing) : Type 0 where
@@ -49,11 +62,11 @@ two_open b work [] closing h = absurd h
 two_open b work (f ∷ []) closing h = let z : Some closing ≡ None = h in cc
 two_open b work (f ∷ g ∷ fs) closing h = record { top = f; next = g; below = fs; is = refl; told = (let z : Some closing ≡ Some (closing_of b work f g) = h in cc) }
 
-added_same : (a b x y : Sums) (site : ℕ) (r q : Row) → IsAdded a b site r → IsAdded x y site q → r ≡ q → ((key : Option ℕ) → key_row a key ≡ key_row x key) → (key : Option ℕ) → key_row b key ≡ key_row y key
-added_same a b x y site r q h k e same key =
-    added_key a b site r h key ∙ ap₂ plus (same key) (ap (λ (z : Row). cond (same_key (Some site) key) z zero_row) e) ∙ sym (added_key x y site q k key)
+added_same : (rest : Rows) (a b x y : Sums) (site : ℕ) (r q : Row) → IsAdded a b site r → IsAdded x y site q → r ≡ q → ((key : Option ℕ) → plus (key_row a key) (rest key) ≡ key_row x key) → (key : Option ℕ) → plus (key_row b key) (rest key) ≡ key_row y key
+added_same rest a b x y site r q h k e same key =
+    ap (λ (z : Row). plus z (rest key)) (added_key a b site r h key) ∙ plus-swap (key_row a key) (cond (same_key (Some site) key) r zero_row) (rest key) ∙ ap₂ plus (same key) (ap (λ (z : Row). cond (same_key (Some site) key) z zero_row) e) ∙ sym (added_key x y site q k key)
 
-module _ (trace : Recording) (burdens : Burdens) (i : ℕ) (c : Counting) (o : OpenWays) (st : Stands trace burdens i false c o) (lt : i < length trace.records) where
+module _ {rest : Rows} (trace : Recording) (burdens : Burdens) (i : ℕ) (c : Counting) (o : OpenWays) (st : Stands rest trace burdens i false c o) (lt : i < length trace.records) where
   abbrev led : Led trace burdens i (noted c st.state) st.ways
   led = now_led trace burdens i false c o st
 
@@ -67,20 +80,20 @@ module _ (trace : Recording) (burdens : Burdens) (i : ℕ) (c : Counting) (o : O
   one = some_frame false o (st.ways false) (st.logged false) (has_one trace burdens st.light st.limits.events i lt (noted c st.state) st.ways led false)
 
   pub can_return : CanReturn burdens now now.frames
-  can_return = return_plain burdens c st.state now.frames (ready_return trace burdens st.light st.limits.events 0 i (omega arith) lt st.limits.sites (noted c st.state) led.passed)
+  can_return = return_plain burdens c st.state st.counted now.frames (ready_return trace burdens st.light st.limits.events 0 i (omega arith) lt st.limits.sites (noted c st.state) led.passed)
 
   pub root_returns : IsEventAt trace i Ret → (d : Counting) → ((n : Notes) → Returns burdens i (seen_with c n) (seen_with c n).frames false (seen_with d (noted_return i (seen_with c n).frames n)))
       → IsFaultOf trace.records (Bad (record { at = i; why = RootReturn }))
   root_returns e d h =
       let n : Notes = record { ends = st.state.ends; joins = st.state.joins; burdened_joins = st.state.burdened_joins } in
-      let stop = root_stays trace burdens st.light st.limits.events 0 i (omega arith) lt (noted c st.state) _ (h n) led.passed in
+      let stop = root_stays trace burdens st.light st.limits.events 0 i (omega arith) lt (noted c st.state) (seen_with d (noted_return i now.frames n)) (still burdens i (seen_with c n) (noted c st.state) (seen_with d (noted_return i now.frames n)) now.frames (h n)) led.passed in
       kept_return trace.records burdens trace.root i (noted c st.state).work (leans (noted c st.state).frames) lt e.0 stop led.passed.reached
 
   -- ---- a wait
 
   pub waits : IsEventAt trace i Sync → (answer : OnPaths) → AreTakes answer now.frames → (d : Counting) → ((at : ℕ) (n : Notes) → seen_with d (noted_sync at (seen_with c n).frames n) ≡ sync_seen at (seen_with c n))
       → (p : OpenWays) → IsLaid p → ((on : Bool) (ways : List Ways) → AreWays on o ways → AreWays on p (waited_list (on_path on answer) ways)) → length p.log.rows.items ≤ length o.log.rows.items
-      → Stands trace burdens (suc i) true d p
+      → Stands rest trace burdens (suc i) true d p
   waits e answer takes d is p laid ways rows =
       record {
         state = sync_seen i st.state;
@@ -92,7 +105,7 @@ module _ (trace : Recording) (burdens : Burdens) (i : ℕ) (c : Counting) (o : O
           open_sites = λ y. ap (λ (s : Seen). s.open_sites y) (is i no_notes) ∙ st.counted.open_sites y;
           open_funcs = λ y. ap (λ (s : Seen). s.open_funcs y) (is i no_notes) ∙ st.counted.open_funcs y;
           work = ap (λ (s : Seen). s.work) (is i no_notes) ∙ st.counted.work;
-          table = λ key. ap (λ (s : Seen). key_row s.table key) (is i no_notes) ∙ st.counted.table key;
+          table = λ key. ap (λ (s : Seen). plus (key_row s.table key) (rest key)) (is i no_notes) ∙ st.counted.table key;
         };
         logged = λ on. ways on (st.ways on) (st.logged on);
         laid = laid;
@@ -125,7 +138,7 @@ module _ (trace : Recording) (burdens : Burdens) (i : ℕ) (c : Counting) (o : O
 
     pub returns : IsEventAt trace i Ret → (d : Counting) → ((n : Notes) → Returns burdens i (seen_with c n) (seen_with c n).frames true (seen_with d (noted_return i (seen_with c n).frames n)))
         → (p : OpenWays) → IsLaid p → ((on : Bool) (ways : List Ways) → AreWays on o ways → AreWays on p (returned_list closing.kind (on_path on closing.takes) (on_path on closing.wins) closing.site (bare_row closing.closed) ways))
-        → length p.log.rows.items ≤ length o.log.rows.items + 1 → Stands trace burdens (suc i) false d p
+        → length p.log.rows.items ≤ length o.log.rows.items + 1 → Stands rest trace burdens (suc i) false d p
     returns e d h p laid ways rows =
         let t = two_open burdens now.work now.frames closing is in
         let frames : st.state.frames ≡ t.top ∷ t.next ∷ t.below = sym st.counted.frames ∙ t.is in
@@ -156,7 +169,7 @@ module _ (trace : Recording) (burdens : Burdens) (i : ℕ) (c : Counting) (o : O
             open_sites = λ y. ap (λ (m : ℕ → Bool). m y) r.open_sites ∙ ap (λ (m : ℕ → Bool). without t.top.top_site t.top.site m y) (λ k z. st.counted.open_sites z k);
             open_funcs = λ y. ap (λ (m : ℕ → Bool). m y) r.open_funcs ∙ ap (λ (m : ℕ → Bool). without t.top.top_func t.top.func m y) (λ k z. st.counted.open_funcs z k);
             work = r.work ∙ st.counted.work;
-            table = λ key. added_same now.table d.table s.table (with_row s.table t.top.site (row_of t.top s.work)) t.top.site (row_of t.top now.work) (row_of t.top s.work) r.table
+            table = λ key. added_same rest now.table d.table s.table (with_row s.table t.top.site (row_of t.top s.work)) t.top.site (row_of t.top now.work) (row_of t.top s.work) r.table
                 (is_added s.table t.top.site (row_of t.top s.work)) (ap (row_of t.top) st.counted.work) st.counted.table key;
           };
           logged = λ on. ways on (st.ways on) (st.logged on);

@@ -25,16 +25,16 @@ use Rattle.spp_pass.proofs.Passed.{IsTold, leans, ready_finish}
 use Rattle.spp_pass.proofs.Projected.{counted}
 use Rattle.spp_serial.proofs.Reading.{Led}
 use Rattle.spp_serial.proofs.Told.{told, path_fits, path_is}
-use Rattle.spp_part.specs.Parts.{Stands}
-use Rattle.spp_part.proofs.Standing.{noted, now_led}
+use Rattle.spp_part.specs.Parts.{no_rows, Stands}
+use Rattle.spp_part.proofs.Standing.{plain_noted, plain_led}
 
 one_way : (ways : List Ways) → length ways ≡ 1 → HasOne ways
 one_way [] e = absurd (omega arith)
 one_way (w ∷ ws) e = tt
 
-module _ (trace : Recording) (burdens : Burdens) (c : Counting) (o : OpenWays) (st : Stands trace burdens (length trace.records) false c o) where
-  abbrev led : Led trace burdens (length trace.records) (noted c st.state) st.ways
-  led = now_led trace burdens (length trace.records) false c o st
+module _ (trace : Recording) (burdens : Burdens) (c : Counting) (o : OpenWays) (st : Stands no_rows trace burdens (length trace.records) false c o) where
+  abbrev led : Led trace burdens (length trace.records) (plain_noted c st.state) st.ways
+  led = plain_led trace burdens (length trace.records) false c o st
 
   abbrev now : Seen
   now = seen_with c no_notes
@@ -55,31 +55,31 @@ module _ (trace : Recording) (burdens : Burdens) (c : Counting) (o : OpenWays) (
 
   pub unclosed : (depth : ℕ) → depth + 1 ≡ length now.frames → 0 < depth → IsFaultOf trace.records (Bad (record { at = length trace.records; why = Unclosed depth }))
   unclosed depth e deep =
-      kept_open trace.records burdens trace.root (length trace.records) (noted c st.state).work (length trace.records) depth (leans now.frames) (λ j. length trace.records) (λ j. length trace.records)
+      kept_open trace.records burdens trace.root (length trace.records) (plain_noted c st.state).work (length trace.records) depth (leans now.frames) (λ j. length trace.records) (λ j. length trace.records)
       (e ∙ sym (length-map now.frames _)) deep led.passed.reached
 
   -- where the root frame alone is open
   module _ (one : length now.frames ≡ 1) where
     pub can_finish : CanFinish now
-    can_finish = by now.frames (ready_finish trace burdens st.limits.events (length trace.records) (λ j. length trace.records) (noted c st.state) one led.passed)
+    can_finish = by now.frames (ready_finish trace burdens st.limits.events (length trace.records) (λ j. length trace.records) (plain_noted c st.state) one led.passed)
       where
-        by : (fs : List CountedFrame) → CanFinish (record (noted c st.state) { frames = fs }) → CanFinish (record now { frames = fs })
+        by : (fs : List CountedFrame) → CanFinish (record (plain_noted c st.state) { frames = fs }) → CanFinish (record now { frames = fs })
         by [] h = h
         by (f ∷ fs) h = h
 
     module _ (e : Ended) (ended : IsEnded now now.frames e) where
-      ended_now : IsEnded (noted c st.state) now.frames e
+      ended_now : IsEnded (plain_noted c st.state) now.frames e
       ended_now = by now.frames ended
         where
-          by : (fs : List CountedFrame) → IsEnded now fs e → IsEnded (noted c st.state) fs e
+          by : (fs : List CountedFrame) → IsEnded now fs e → IsEnded (plain_noted c st.state) fs e
           by [] h = h
           by (f ∷ fs) h = h
 
       abbrev all : IsTold trace burdens st.limits.events (length trace.records) (λ j. length trace.records) e
-      all = told trace burdens st.limits.events st.good (length trace.records) (λ j. length trace.records) (noted c st.state) st.ways led one e ended_now
+      all = told trace burdens st.limits.events st.good (length trace.records) (λ j. length trace.records) (plain_noted c st.state) st.ways led one e ended_now
 
       pub fits : (on : Bool) → (ways : List Ways) × AreWays on o ways × HasOne ways × ((key : Option ℕ) → Fits (rows_at (root_rows (on_path on e.takes) (bare_row e.root) ways) key))
-      fits on = (st.ways on, st.logged on, one_way (st.ways on) (led.many on ∙ one), path_fits trace burdens st.limits.events st.good (length trace.records) (λ j. length trace.records) (noted c st.state) st.ways led one e ended_now on)
+      fits on = (st.ways on, st.logged on, one_way (st.ways on) (led.many on ∙ one), path_fits trace burdens st.limits.events st.good (length trace.records) (λ j. length trace.records) (plain_noted c st.state) st.ways led one e ended_now on)
 
       pub figures : AreFigures trace.records burdens e.figures
       figures = all.figures
@@ -95,7 +95,7 @@ module _ (trace : Recording) (burdens : Burdens) (c : Counting) (o : OpenWays) (
       Told on t = (ways : List Ways) → AreWays on o ways → (key : Option ℕ) → key_row t key ≡ rows_at (root_rows (on_path on e.takes) (bare_row e.root) ways) key
 
       pub path : (on : Bool) (t : Sums) → Told on t → IsPathTable trace (burdens_on on burdens) t
-      path on t h = path_is trace burdens st.limits.events st.good (length trace.records) (λ j. length trace.records) (noted c st.state) st.ways led one e ended_now on t (h (st.ways on) (st.logged on))
+      path on t h = path_is trace burdens st.limits.events st.good (length trace.records) (λ j. length trace.records) (plain_noted c st.state) st.ways led one e ended_now on t (h (st.ways on) (st.logged on))
 
       pub profile : (p b : Sums) → Told false p → Told true b → IsProfileOf trace burdens (record { figures = e.figures; dag = e.dag; path = p; burdened_path = b })
       profile p b g h = whole trace burdens (record { figures = e.figures; dag = e.dag; path = p; burdened_path = b }) figures dag (path false p g) (path true b h)

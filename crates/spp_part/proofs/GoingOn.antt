@@ -1,17 +1,19 @@
 -- How a stretch takes on what has come so far.
-use Rattle.std.proofs.Common.{◌≡◌, ℕ, ◌+◌, ◌-◌, ◌*◌, ◌≤◌, ◌<◌, ◌^◌, max, Bool, true, false, Option, List, [], ◌∷◌, ◌++◌, length, reverse, drop, refl, sym, ap, subst, ◌∙◌, arith}
+use Rattle.std.proofs.Common.{◌≡◌, ℕ, ◌+◌, ◌-◌, ◌*◌, ◌≤◌, ◌<◌, ◌^◌, max, Bool, true, false, Option, List, [], ◌∷◌, ◌++◌, length, reverse, drop, refl, sym, ap, ap₂, subst, ◌∙◌, arith}
 use Rattle.std.proofs.lemmas.List.{reverse-append}
 use Rattle.std.specs.Global.{Box}
 use Rattle.spp_event.specs.Recordings.{Recording}
 use Rattle.spp_maxplus.specs.declared.state.Burdens.{Burdens}
 use Rattle.spp_maxplus.specs.Weights.{close}
+use Rattle.spp_dag.specs.declared.row.Row.{Row}
 use Rattle.spp_dag.specs.Shares.{plus, zero_row}
+use Rattle.spp_site.specs.Rows.{Fits}
 use Rattle.spp_site.specs.Profiles.{key_row}
-use Rattle.spp_site.proofs.Rows.{zero-plus}
+use Rattle.spp_site.proofs.Rows.{zero-plus, plus-zero, plus-assoc, plus-swap, plus-over, first_fits}
 use Rattle.spp_ways.specs.declared.log.Merged.{Merged}
 use Rattle.spp_ways.specs.declared.log.LogRow.{LogRow}
 use Rattle.spp_ways.specs.declared.open_ways.OnPaths.{OnPaths}
-use Rattle.spp_ways.specs.declared.open_ways.FrameWays.{FrameWays}
+use Rattle.spp_ways.specs.declared.frame_ways.FrameWays.{FrameWays}
 use Rattle.spp_ways.specs.declared.open_ways.OpenWays.{OpenWays}
 use Rattle.spp_ways.specs.Enclosures.{Enclosure}
 use Rattle.spp_ways.specs.Logs.{merged_on}
@@ -25,7 +27,9 @@ use Rattle.spp_pass.specs.declared.counted_frame.CountedFrame.{CountedFrame}
 use Rattle.spp_pass.specs.declared.calls.CallRow.{CallRow}
 use Rattle.spp_pass.specs.declared.counting.Counting.{Counting}
 use Rattle.spp_pass.specs.Passes.{Seen, no_notes, seen_with, strand_frame, strand_seen, OnTop, CanAdd, FitsStrand}
+use Rattle.spp_pass.specs.CallRows.{calls_row}
 use Rattle.spp_pass.specs.Stretches.{stretch_frame, stretch_seen, enclosure, child_wins, FitsJoin, CanJoin, IsJoined}
+use Rattle.spp_pass.proofs.Suspending.{row_fits}
 use Rattle.spp_pass.proofs.Joinable.{IsLastOf, last_of_reverse, can_join}
 use Rattle.spp_pass.proofs.Alone.{alone_start}
 use Rattle.spp_pass.proofs.Stretching.{joined_as, follows_start, follows_strand}
@@ -34,9 +38,9 @@ use Rattle.spp_serial.proofs.Low.{AreLow, top_fits}
 use Rattle.spp_serial.proofs.Reading.{Led}
 use Rattle.spp_part.specs.declared.stretch.Stretch.{Stretch}
 use Rattle.spp_part.specs.States.{Both, IsAt}
-use Rattle.spp_part.specs.Parts.{outer_of, StretchOf, AreJoined, IsJoinedOnto, Stands, GoesOn, stretch_of, strands_alone}
+use Rattle.spp_part.specs.Parts.{outer_of, StretchOf, AreJoined, IsJoinedOnto, Rows, Shows, Stands, GoesOn, stretch_of, strands_alone}
 use Rattle.spp_part.proofs.Leading.{led_at}
-use Rattle.spp_part.proofs.Standing.{joined_on, noted, state_led, now_led, few}
+use Rattle.spp_part.proofs.Standing.{joined_on, filled, noted, state_led, now_led, few}
 
 -- ---- the outer frame
 
@@ -98,17 +102,49 @@ fit_own t small on wins r f u w h a b e = record { along = (let z = h.0 in omega
 -- choices don't matter
 
 noted_joined : (first : ℕ) (fs : List CountedFrame) (more : ℕ) (calls : List CallRow) (g : CountedFrame) (gs : List CountedFrame) (c : Counting) (s new : Seen)
-    → IsJoined first fs more calls g gs (seen_with c no_notes) new → IsJoined first fs more calls g gs (noted c s) new
+    → IsJoined first fs more calls g gs (filled (seen_with c no_notes) s) new → IsJoined first fs more calls g gs (noted c s) new
 noted_joined first fs more calls g gs c s new h = record { frames = h.frames; open_sites = h.open_sites; open_funcs = h.open_funcs; work = h.work; table = h.table }
 
-plain_can : (first : ℕ) (fs : List CountedFrame) (outer : CountedFrame) (more : ℕ) (calls : List CallRow) (c : Counting) (s : Seen) → CanJoin first fs outer more calls (noted c s) → CanJoin first fs outer more calls (seen_with c no_notes)
-plain_can first fs outer more calls c s h = record { top = h.top; work = h.work; sites = h.sites; places = h.places }
+on_top_map : (P Q : CountedFrame → Type 0) → ((g : CountedFrame) → P g → Q g) → (fs : List CountedFrame) → OnTop P fs → OnTop Q fs
+on_top_map P Q f [] h = h
+on_top_map P Q f (g ∷ gs) h = f g h
+
+plus_turn : (a b : Row) → plus a b ≡ plus b a
+plus_turn a b = ap (λ (r : Row). plus a r) (sym (plus-zero b)) ∙ plus-over a b zero_row ∙ ap (λ (r : Row). plus b r) (plus-zero a)
+
+last_two_fit : (a b c : Row) → Fits (plus (plus a b) c) → Fits (plus b c)
+last_two_fit a b c f = row_fits (plus b c) a (plus (plus a b) c) (plus_turn (plus b c) a ∙ sym (plus-assoc a b c)) f
+
+pub swapped : (a b c d : Row) → a ≡ plus b d → plus a c ≡ plus (plus b c) d
+swapped a b c d e = ap (λ (r : Row). plus r c) e ∙ plus-swap b d c
+
+-- nor does it matter that the table lacks rows
+plain_can : {rest : Rows} (first : ℕ) (fs : List CountedFrame) (outer : CountedFrame) (more : ℕ) (calls : List CallRow) (c : Counting) (s : Seen) → Shows rest (seen_with c no_notes) s → CanJoin first fs outer more calls (noted c s) → CanJoin first fs outer more calls (seen_with c no_notes)
+plain_can {rest = rest} first fs outer more calls c s e h =
+    let now : Seen = seen_with c no_notes in
+    let Row_fits : Seen → CountedFrame → Type 0 = λ t g. FitsJoin outer g × ((key : Option ℕ) → Fits (plus (key_row t.table key) (calls_row (enclosure g now) calls key))) in
+    record {
+      top = on_top_map (Row_fits (filled now s)) (Row_fits now)
+          (λ g q. (
+            q.0,
+            λ key. first_fits (key_row now.table key) (rest key) (calls_row (enclosure g now) calls key)
+                (subst (λ (r : Row). Fits (plus r (calls_row (enclosure g now) calls key))) (sym (e.table key)) (q.1 key)),
+          ))
+          now.frames h.top;
+      work = h.work;
+      sites = h.sites;
+      places = h.places;
+    }
 
 -- ---- the step
 
-module _ (trace : Recording) (burdens : Burdens) (first i j : ℕ) (settled : Bool) (c : Counting) (o : OpenWays) (whole : StretchOf) (st : Stands trace burdens i settled c o) (go : GoesOn trace burdens first i j settled whole) where
+module _ {rest : Rows} (trace : Recording) (burdens : Burdens) (first i j : ℕ) (settled : Bool) (c : Counting) (o : OpenWays) (whole : StretchOf) (st : Stands rest trace burdens i settled c o) (go : GoesOn trace burdens first i j settled whole) where
   abbrev now : Seen
   now = seen_with c no_notes
+
+  -- with all rows in the table
+  abbrev full : Seen
+  full = filled now st.state
 
   abbrev new : Seen
   new = (go.0.on st.state st.ways st.at st.none).0
@@ -133,7 +169,7 @@ module _ (trace : Recording) (burdens : Burdens) (first i j : ℕ) (settled : Bo
     pub top : CountedFrame
     pub below : List CountedFrame
     pub is : now.frames ≡ top ∷ below
-    pub joined : IsJoined first whole.frames whole.work whole.calls top below now new
+    pub joined : IsJoined first whole.frames whole.work whole.calls top below full new
     pub ways : (on : Bool) → AreJoined on whole top st.state (st.ways on) (then on)
 
   pub onto : Onto
@@ -154,16 +190,26 @@ module _ (trace : Recording) (burdens : Burdens) (first i j : ℕ) (settled : Bo
 
   -- it can be joined
   module _ (outer : CountedFrame) (last : IsLastOf outer whole.frames) where
-    pub can_join_it : CanJoin first whole.frames outer whole.work whole.calls now
-    can_join_it =
+    full_can : CanJoin first whole.frames outer whole.work whole.calls (noted c st.state)
+    full_can =
         let a = go.0.alone in
         let k : first + (j - first) ≤ 268435456 = (let p = few_j in let q = go.1 in let r = go.0.forward in omega arith) in
-        let joined = joined_as first whole.frames a.0.frames whole.work whole.calls g onto.below now new (sym a.2) onto.joined in
-        let moved : IsJoined first a.0.frames a.0.work whole.calls g onto.below now new = subst (λ w. IsJoined first a.0.frames w whole.calls g onto.below now new) (sym a.3) joined in
+        let joined = joined_as first whole.frames a.0.frames whole.work whole.calls g onto.below full new (sym a.2) onto.joined in
+        let moved : IsJoined first a.0.frames a.0.work whole.calls g onto.below full new = subst (λ w. IsJoined first a.0.frames w whole.calls g onto.below full new) (sym a.3) joined in
         let all = can_join trace burdens first (j - first) i j a.0 (noted c st.state) new whole.calls g onto.below outer (few trace burdens i settled c o st) few_j k go.0.calls onto.is (subst (IsLastOf outer) (sym a.2) last)
         (now_led trace burdens i settled c o st).passed new_led.passed a.1 (noted_joined first a.0.frames a.0.work whole.calls g onto.below c st.state new moved) in
-        plain_can first whole.frames outer whole.work whole.calls c st.state
-        (subst (λ (fs : List CountedFrame). CanJoin first fs outer whole.work whole.calls (noted c st.state)) a.2 (subst (λ w. CanJoin first a.0.frames outer w whole.calls (noted c st.state)) a.3 all))
+        subst (λ (fs : List CountedFrame). CanJoin first fs outer whole.work whole.calls (noted c st.state)) a.2 (subst (λ w. CanJoin first a.0.frames outer w whole.calls (noted c st.state)) a.3 all)
+
+    pub can_join_it : CanJoin first whole.frames outer whole.work whole.calls now
+    can_join_it = plain_can first whole.frames outer whole.work whole.calls c st.state st.counted full_can
+
+    -- the rest can have its rows
+    pub rest_fits : OnTop (λ g. (key : Option ℕ) → Fits (plus (rest key) (calls_row (enclosure g now) whole.calls key))) now.frames
+    rest_fits =
+        on_top_map _ (λ g. (key : Option ℕ) → Fits (plus (rest key) (calls_row (enclosure g now) whole.calls key)))
+        (λ g q. λ key. last_two_fit (key_row now.table key) (rest key) (calls_row (enclosure g now) whole.calls key)
+        (subst (λ (r : Row). Fits (plus r (calls_row (enclosure g now) whole.calls key))) (sym (st.counted.table key)) (q.1 key)))
+        now.frames full_can.top
 
     pub fits_it : OnTop (FitsJoin outer) now.frames
     fits_it = subst (OnTop (FitsJoin outer)) (sym onto.is) (subst (OnTop (λ (f : CountedFrame). FitsJoin outer f × _)) onto.is can_join_it.top).0
@@ -194,20 +240,14 @@ module _ (trace : Recording) (burdens : Burdens) (first i j : ℕ) (settled : Bo
         subst (AreWays on p) (sym a.2) (goes base.0 w ws a.0 (subst (AreWays on o) q (st.logged on)) (base.1 on) a.1)
 
     -- what has come so far then
-    pub stands : (d : Counting) (p : OpenWays) → IsJoined first whole.frames whole.work whole.calls g onto.below now (seen_with d no_notes) → IsLaid p → ((on : Bool) → Goes p on)
-        → length p.log.rows.items < length o.log.rows.items + length whole.rows → Stands trace burdens j false d p
-    stands d p is laid goes rows = record {
+    pub stands_with : (then_rest : Rows) (d : Counting) (p : OpenWays) → Shows then_rest (seen_with d no_notes) new → IsLaid p → ((on : Bool) → Goes p on)
+        → length p.log.rows.items < length o.log.rows.items + length whole.rows → Stands then_rest trace burdens j false d p
+    stands_with then_rest d p is laid goes rows = record {
       state = new;
       ways = then;
       at = at;
       none = λ q. cc;
-      counted = record {
-        frames = is.frames ∙ sym onto.joined.frames;
-        open_sites = λ y. is.open_sites y ∙ sym (onto.joined.open_sites y);
-        open_funcs = λ y. is.open_funcs y ∙ sym (onto.joined.open_funcs y);
-        work = is.work ∙ sym onto.joined.work;
-        table = λ key. is.table key ∙ sym (onto.joined.table key);
-      };
+      counted = is;
       logged = λ on. went p on (st.ways on) refl (onto.ways on) (goes on);
       laid = laid;
       rows = (let a = st.rows in let b = go.0.short in let f = go.0.forward in omega arith);
@@ -217,9 +257,37 @@ module _ (trace : Recording) (burdens : Burdens) (first i j : ℕ) (settled : Bo
       light = st.light;
     }
 
+    -- where the rows of its frames are in the table
+    pub stands : (d : Counting) (p : OpenWays) → IsJoined first whole.frames whole.work whole.calls g onto.below now (seen_with d no_notes) → IsLaid p → ((on : Bool) → Goes p on)
+        → length p.log.rows.items < length o.log.rows.items + length whole.rows → Stands rest trace burdens j false d p
+    stands d p is = stands_with rest d p (record {
+      frames = is.frames ∙ sym onto.joined.frames;
+      open_sites = λ y. is.open_sites y ∙ sym (onto.joined.open_sites y);
+      open_funcs = λ y. is.open_funcs y ∙ sym (onto.joined.open_funcs y);
+      work = is.work ∙ sym onto.joined.work;
+      table = λ key.
+          let added = calls_row (enclosure g now) whole.calls key in
+          ap (λ (r : Row). plus r (rest key)) (is.table key) ∙ plus-swap (key_row now.table key) added (rest key) ∙ ap (λ (r : Row). plus r added) (st.counted.table key) ∙ sym (onto.joined.table key);
+    })
+
+    -- where they are with the rest
+    pub stands_owing : (then_rest : Rows) → ((key : Option ℕ) → then_rest key ≡ plus (rest key) (calls_row (enclosure g now) whole.calls key))
+        → (d : Counting) (p : OpenWays) → IsJoined first whole.frames whole.work [] g onto.below now (seen_with d no_notes) → IsLaid p → ((on : Bool) → Goes p on)
+        → length p.log.rows.items < length o.log.rows.items + length whole.rows → Stands then_rest trace burdens j false d p
+    stands_owing then_rest more d p is = stands_with then_rest d p (record {
+      frames = is.frames ∙ sym onto.joined.frames;
+      open_sites = λ y. is.open_sites y ∙ sym (onto.joined.open_sites y);
+      open_funcs = λ y. is.open_funcs y ∙ sym (onto.joined.open_funcs y);
+      work = is.work ∙ sym onto.joined.work;
+      table = λ key.
+          let added = calls_row (enclosure g now) whole.calls key in
+          ap₂ plus (is.table key ∙ plus-zero (key_row now.table key)) (more key) ∙ sym (plus-assoc (key_row now.table key) (rest key) added)
+          ∙ ap (λ (r : Row). plus r added) (st.counted.table key) ∙ sym (onto.joined.table key);
+    })
+
 -- ---- a stretch as it was read
 
-module _ (trace : Recording) (burdens : Burdens) (first i j : ℕ) (settled : Bool) (c : Counting) (o : OpenWays) (x : Stretch) (st : Stands trace burdens i settled c o)
+module _ {rest : Rows} (trace : Recording) (burdens : Burdens) (first i j : ℕ) (settled : Bool) (c : Counting) (o : OpenWays) (x : Stretch) (st : Stands rest trace burdens i settled c o)
     (go : GoesOn trace burdens first i j settled (stretch_of x)) where
   abbrev all : StretchOf
   all = stretch_of x
@@ -236,6 +304,33 @@ module _ (trace : Recording) (burdens : Burdens) (first i j : ℕ) (settled : Bo
   -- it can be joined
   pub can : CanJoin first all.frames x.counted.outer x.counted.work x.calls.items (seen_with c no_notes)
   can = can_join_it trace burdens first i j settled c o all st go x.counted.outer last
+
+  -- without the rows of its frames
+  pub can_without : CanJoin first all.frames x.counted.outer x.counted.work [] (seen_with c no_notes)
+  can_without =
+      let now : Seen = seen_with c no_notes in
+      record {
+        top = on_top_map _ (λ g. FitsJoin x.counted.outer g × ((key : Option ℕ) → Fits (plus (key_row now.table key) zero_row)))
+            (λ g q. (
+              q.0,
+              λ key. subst Fits (sym (plus-zero (key_row now.table key)))
+                  (let z : Fits (key_row now.table key) = row_fits (key_row now.table key) (calls_row (enclosure g now) x.calls.items key) _ refl (q.1 key) in z),
+            ))
+            now.frames can.top;
+        work = can.work;
+        sites = tt;
+        places = can.places;
+      }
+
+  -- which are kept aside
+  pub aside_fits : (a lent : Rows) → ((key : Option ℕ) → rest key ≡ plus (a key) (lent key))
+      → OnTop (λ g. (key : Option ℕ) → Fits (plus (a key) (calls_row (enclosure g (seen_with c no_notes)) x.calls.items key))) (seen_with c no_notes).frames
+  aside_fits a lent split =
+      let now : Seen = seen_with c no_notes in
+      on_top_map _ (λ g. (key : Option ℕ) → Fits (plus (a key) (calls_row (enclosure g now) x.calls.items key)))
+      (λ g q. λ key. first_fits (a key) (lent key) (calls_row (enclosure g now) x.calls.items key)
+      (subst (λ (r : Row). Fits (plus r (calls_row (enclosure g now) x.calls.items key))) (split key) (q key)))
+      now.frames (rest_fits trace burdens first i j settled c o all st go x.counted.outer last)
 
   pub fits : OnTop (FitsJoin x.counted.outer) (seen_with c no_notes).frames
   fits = fits_it trace burdens first i j settled c o all st go x.counted.outer last
@@ -301,7 +396,7 @@ no_win : (on : Bool) (n : ℕ) (g : CountedFrame) → on_path on (child_wins (st
 no_win false n g = refl
 no_win true n g = refl
 
-module _ (trace : Recording) (burdens : Burdens) (first i j : ℕ) (settled : Bool) (c : Counting) (o : OpenWays) (n : ℕ) (st : Stands trace burdens i settled c o)
+module _ {rest : Rows} (trace : Recording) (burdens : Burdens) (first i j : ℕ) (settled : Bool) (c : Counting) (o : OpenWays) (n : ℕ) (st : Stands rest trace burdens i settled c o)
     (go : GoesOn trace burdens first i j settled (strands_alone n)) where
   abbrev run : Onto trace burdens first i j settled c o (strands_alone n) st go
   run = onto trace burdens first i j settled c o (strands_alone n) st go
@@ -342,7 +437,7 @@ module _ (trace : Recording) (burdens : Burdens) (first i j : ℕ) (settled : Bo
 
   -- what has come so far then
   pub strand_stands : (d : Counting) (p : OpenWays) → seen_with d no_notes ≡ strand_seen n (seen_with c no_notes) → IsLaid p → ((on : Bool) (ways : List Ways) → AreWays on o ways → AreWays on p (strand_list n ways))
-      → length p.log.rows.items ≤ length o.log.rows.items → Stands trace burdens j false d p
+      → length p.log.rows.items ≤ length o.log.rows.items → Stands rest trace burdens j false d p
   strand_stands d p counted laid ways rows =
       let zero : 0 + n ≡ n = omega arith in
       stands trace burdens first i j settled c o (strands_alone n) st go (child_wins outer run.top) (enclosure run.top st.state) refl refl d p

@@ -7,6 +7,7 @@ use Rattle.spp_maxplus.specs.declared.state.Burdens.{Burdens}
 use Rattle.spp_dag.specs.declared.stack.FrameKind.{FrameKind}
 use Rattle.spp_dag.specs.declared.stack.FrameKind.TheVariants.{Root, Called, Spawned}
 use Rattle.spp_site.specs.Marks.{with_mark}
+use Rattle.spp_dag.specs.Shares.{plus}
 use Rattle.spp_site.specs.Profiles.{key_row}
 use Rattle.spp_ways.specs.declared.open_ways.OpenWays.{OpenWays}
 use Rattle.spp_ways.specs.Ways.{Ways, no_ways}
@@ -18,12 +19,12 @@ use Rattle.spp_pass.specs.Passes.{Seen, Notes, no_notes, seen_with, opened_frame
 use Rattle.spp_pass.proofs.Passed.{ready_add}
 use Rattle.spp_serial.proofs.Reading.{Led, fits}
 use Rattle.spp_part.specs.States.{Goes, IsEventAt}
-use Rattle.spp_part.specs.Parts.{Shows, Stands}
+use Rattle.spp_part.specs.Parts.{Rows, Shows, Stands}
 use Rattle.spp_part.specs.Readings.{Opens}
 use Rattle.spp_part.proofs.Standing.{noted, now_led}
 
 -- whether a child may wait needn't be known
-pub unsettled : (trace : Recording) (burdens : Burdens) (i : ℕ) (settled : Bool) (c : Counting) (o : OpenWays) → Stands trace burdens i settled c o → Stands trace burdens i false c o
+pub unsettled : {rest : Rows} (trace : Recording) (burdens : Burdens) (i : ℕ) (settled : Bool) (c : Counting) (o : OpenWays) → Stands rest trace burdens i settled c o → Stands rest trace burdens i false c o
 unsettled trace burdens i settled c o st = record {
   state = st.state;
   ways = st.ways;
@@ -40,11 +41,11 @@ unsettled trace burdens i settled c o st = record {
 }
 
 -- a frame is opened alike where the same is counted
-open_same : (kind : FrameKind) (at site func : ℕ) (now s : Seen) → Shows now s → (fs : List CountedFrame) → open_frames kind at site func now fs ≡ open_frames kind at site func s fs
+open_same : {rest : Rows} (kind : FrameKind) (at site func : ℕ) (now s : Seen) → Shows rest now s → (fs : List CountedFrame) → open_frames kind at site func now fs ≡ open_frames kind at site func s fs
 open_same kind at site func now s h [] = refl
 open_same kind at site func now s h (f ∷ fs) = λ j. opened_frame kind at site func (h.work j) (not (h.open_sites site j)) f.top_func (not (h.open_funcs func j)) ∷ f ∷ fs
 
-module _ (trace : Recording) (burdens : Burdens) (i : ℕ) (c : Counting) (o : OpenWays) (st : Stands trace burdens i false c o) (lt : i < length trace.records) where
+module _ {rest : Rows} (trace : Recording) (burdens : Burdens) (i : ℕ) (c : Counting) (o : OpenWays) (st : Stands rest trace burdens i false c o) (lt : i < length trace.records) where
   abbrev led : Led trace burdens i (noted c st.state) st.ways
   led = now_led trace burdens i false c o st
 
@@ -62,7 +63,7 @@ module _ (trace : Recording) (burdens : Burdens) (i : ℕ) (c : Counting) (o : O
   fit_strand n e on = strand_fits on n o (st.ways on) (st.logged on) (fits trace burdens st.light st.limits.events i lt (noted c st.state) st.ways led n e.1 on)
 
   pub strand_next : (n : ℕ) → IsEventAt trace i (Strand n) → (d : Counting) → ((m : Notes) → seen_with d m ≡ strand_seen n (seen_with c m)) → (p : OpenWays) → IsLaid p
-      → ((on : Bool) (ways : List Ways) → AreWays on o ways → AreWays on p (strand_list n ways)) → length p.log.rows.items ≤ length o.log.rows.items → Stands trace burdens (suc i) false d p
+      → ((on : Bool) (ways : List Ways) → AreWays on o ways → AreWays on p (strand_list n ways)) → length p.log.rows.items ≤ length o.log.rows.items → Stands rest trace burdens (suc i) false d p
   strand_next n e d is p laid ways rows = record {
     state = strand_seen n st.state;
     ways = λ on. strand_list n (st.ways on);
@@ -73,7 +74,7 @@ module _ (trace : Recording) (burdens : Burdens) (i : ℕ) (c : Counting) (o : O
       open_sites = λ y. ap (λ (s : Seen). s.open_sites y) (is no_notes) ∙ st.counted.open_sites y;
       open_funcs = λ y. ap (λ (s : Seen). s.open_funcs y) (is no_notes) ∙ st.counted.open_funcs y;
       work = ap (λ (s : Seen). s.work) (is no_notes) ∙ ap (λ w. w + n) st.counted.work;
-      table = λ key. ap (λ (s : Seen). key_row s.table key) (is no_notes) ∙ st.counted.table key;
+      table = λ key. ap (λ (s : Seen). plus (key_row s.table key) (rest key)) (is no_notes) ∙ st.counted.table key;
     };
     logged = λ on. ways on (st.ways on) (st.logged on);
     laid = laid;
@@ -88,7 +89,7 @@ module _ (trace : Recording) (burdens : Burdens) (i : ℕ) (c : Counting) (o : O
 
   module _ (kind : FrameKind) (site func : ℕ) (d : Counting) (is : (m : Notes) → seen_with d m ≡ open_seen kind i site func (seen_with c m)) (p : OpenWays) (laid : IsLaid p)
       (ways : (on : Bool) (ways : List Ways) → AreWays on o ways → AreWays on p (no_ways ∷ ways)) (rows : length p.log.rows.items ≤ length o.log.rows.items) where
-    opened : (event : Event) → IsEventAt trace i event → Goes burdens i event st.state st.ways (open_seen kind i site func st.state) (λ on. no_ways ∷ st.ways on) → Stands trace burdens (suc i) false d p
+    opened : (event : Event) → IsEventAt trace i event → Goes burdens i event st.state st.ways (open_seen kind i site func st.state) (λ on. no_ways ∷ st.ways on) → Stands rest trace burdens (suc i) false d p
     opened event e goes = record {
       state = open_seen kind i site func st.state;
       ways = λ on. no_ways ∷ st.ways on;
@@ -99,7 +100,7 @@ module _ (trace : Recording) (burdens : Burdens) (i : ℕ) (c : Counting) (o : O
         open_sites = λ y. ap (λ (s : Seen). s.open_sites y) (is no_notes) ∙ ap (λ (m : ℕ → Bool). with_mark site m y) (λ k z. st.counted.open_sites z k);
         open_funcs = λ y. ap (λ (s : Seen). s.open_funcs y) (is no_notes) ∙ ap (λ (m : ℕ → Bool). with_mark func m y) (λ k z. st.counted.open_funcs z k);
         work = ap (λ (s : Seen). s.work) (is no_notes) ∙ st.counted.work;
-        table = λ key. ap (λ (s : Seen). key_row s.table key) (is no_notes) ∙ st.counted.table key;
+        table = λ key. ap (λ (s : Seen). plus (key_row s.table key) (rest key)) (is no_notes) ∙ st.counted.table key;
       };
       logged = λ on. ways on (st.ways on) (st.logged on);
       laid = laid;
@@ -112,7 +113,7 @@ module _ (trace : Recording) (burdens : Burdens) (i : ℕ) (c : Counting) (o : O
 
   pub open_next : (kind : FrameKind) (site func : ℕ) (event : Event) → Opens kind site func event → IsEventAt trace i event → (d : Counting)
       → ((m : Notes) → seen_with d m ≡ open_seen kind i site func (seen_with c m)) → (p : OpenWays) → IsLaid p
-      → ((on : Bool) (ways : List Ways) → AreWays on o ways → AreWays on p (no_ways ∷ ways)) → length p.log.rows.items ≤ length o.log.rows.items → Stands trace burdens (suc i) false d p
+      → ((on : Bool) (ways : List Ways) → AreWays on o ways → AreWays on p (no_ways ∷ ways)) → length p.log.rows.items ≤ length o.log.rows.items → Stands rest trace burdens (suc i) false d p
   open_next Root site func event opens e d is p laid ways rows = absurd opens
   open_next Called site func event opens e d is p laid ways rows =
       opened Called site func d is p laid ways rows (Call site func) (subst (IsEventAt trace i) opens e) (refl, λ on. refl)

@@ -14,7 +14,7 @@ use Rattle.spp_pass.proofs.Passed.{leans}
 use Rattle.spp_part.specs.declared.stretch.EndedStretch.{EndedStretch}
 use Rattle.spp_part.specs.declared.part_profile.PartProfile.{PartProfile}
 use Rattle.spp_part.specs.States.{IsEventAt}
-use Rattle.spp_part.specs.Parts.{Lead, IsCutOff, IsPartProfile, Stands, GoesOn, stretch_of, stored_of, end_event, settles}
+use Rattle.spp_part.specs.Parts.{Rows, Lead, IsCutOff, IsPartProfile, Stands, GoesOn, stretch_of, stored_of, end_event, settles}
 use Rattle.spp_part.proofs.Standing.{noted, now_led}
 
 -- the stretches lead on
@@ -27,15 +27,15 @@ cut_le trace first count good None h = omega arith
 cut_le trace first count good (Some f) h = let a = h.0 in omega arith
 
 -- the record behind what has come so far is what is wrong, where it is bad
-pub stopped : (trace : Recording) (burdens : Burdens) (i : ℕ) (c : Counting) (w : OpenWays) → Stands trace burdens i false c w → (fault : EventFault) → i < length trace.records → record_at trace.records i ≡ Err fault
+pub stopped : {rest : Rows} (trace : Recording) (burdens : Burdens) (i : ℕ) (c : Counting) (w : OpenWays) → Stands rest trace burdens i false c w → (fault : EventFault) → i < length trace.records → record_at trace.records i ≡ Err fault
     → IsFaultOf trace.records (Bad (record { at = i; why = Event fault }))
 stopped trace burdens i c w st fault lt is =
     kept_bad trace.records burdens trace.root i (noted c st.state).work (leans (noted c st.state).frames) fault lt is (now_led trace burdens i false c w st).passed.reached
 
 module _ (trace : Recording) (burdens : Burdens) (i count : ℕ) (p : PartProfile) (h : IsPartProfile trace burdens i count p) where
   -- what has come so far, and what is left of the part
-  abbrev pub Since : List EndedStretch → Counting → OpenWays → Type 0
-  Since xs c w = (from : ℕ) × (settled : Bool) × Stands trace burdens (i + from) settled c w × Lead trace burdens i from settled xs h.to h.settled
+  abbrev pub Since : Rows → List EndedStretch → Counting → OpenWays → Type 0
+  Since rest xs c w = (from : ℕ) × (settled : Bool) × Stands rest trace burdens (i + from) settled c w × Lead trace burdens i from settled xs h.to h.settled
 
   pub good_le : p.good ≤ count
   good_le = cut_le trace i count p.good p.fault h.cut_off
@@ -46,11 +46,11 @@ module _ (trace : Recording) (burdens : Burdens) (i count : ℕ) (p : PartProfil
   pub to_le : h.to ≤ p.good
   to_le = let a = h.last.forward in omega arith
 
-  pub since_start : (c : Counting) (w : OpenWays) → Stands trace burdens i false c w → Since p.ended.items c w
-  since_start c w st = (0, false, subst (λ n. Stands trace burdens n false c w) (let z : i ≡ i + 0 = omega arith in z) st, h.ended)
+  pub since_start : {rest : Rows} (c : Counting) (w : OpenWays) → Stands rest trace burdens i false c w → Since rest p.ended.items c w
+  since_start {rest} c w st = (0, false, subst (λ n. Stands rest trace burdens n false c w) (let z : i ≡ i + 0 = omega arith in z) st, h.ended)
 
   -- a stretch is left
-  module _ (x : EndedStretch) (xs : List EndedStretch) (c : Counting) (w : OpenWays) (s : Since (x ∷ xs) c w) where
+  module _ {rest : Rows} (x : EndedStretch) (xs : List EndedStretch) (c : Counting) (w : OpenWays) (s : Since rest (x ∷ xs) c w) where
     pub inside : i + x.at < length trace.records
     inside = let a = lead_le trace burdens i (suc x.at) (settles x.end) xs h.to h.settled s.3.2 in let b = to_le in let d = good_le in let e = h.within in omega arith
 
@@ -60,21 +60,21 @@ module _ (trace : Recording) (burdens : Burdens) (i count : ℕ) (p : PartProfil
     pub ends : IsEventAt trace (i + x.at) (end_event x.end)
     ends = s.3.1
 
-    pub since_more : (d : Counting) (v : OpenWays) → Stands trace burdens (suc (i + x.at)) (settles x.end) d v → Since xs d v
-    since_more d v st = (suc x.at, settles x.end, subst (λ n. Stands trace burdens n (settles x.end) d v) (let z : suc (i + x.at) ≡ i + suc x.at = omega arith in z) st, s.3.2)
+    pub since_more : {then : Rows} (d : Counting) (v : OpenWays) → Stands then trace burdens (suc (i + x.at)) (settles x.end) d v → Since then xs d v
+    since_more {then} d v st = (suc x.at, settles x.end, subst (λ n. Stands then trace burdens n (settles x.end) d v) (let z : suc (i + x.at) ≡ i + suc x.at = omega arith in z) st, s.3.2)
 
   -- none is left
-  module _ (c : Counting) (w : OpenWays) (s : Since [] c w) where
-    pub stands_last : Stands trace burdens (i + h.to) h.settled c w
-    stands_last = subst (λ b. Stands trace burdens (i + h.to) b c w) (sym s.3.1) (subst (λ n. Stands trace burdens (i + n) s.1 c w) (sym s.3.0) s.2)
+  module _ {rest : Rows} (c : Counting) (w : OpenWays) (s : Since rest [] c w) where
+    pub stands_last : Stands rest trace burdens (i + h.to) h.settled c w
+    stands_last = subst (λ b. Stands rest trace burdens (i + h.to) b c w) (sym s.3.1) (subst (λ n. Stands rest trace burdens (i + n) s.1 c w) (sym s.3.0) s.2)
 
     pub goes_last : GoesOn trace burdens i (i + h.to) (i + p.good) h.settled (stretch_of p.last)
     goes_last = (h.last, (let z : i ≤ i + h.to = omega arith in z), (let b = good_le in let e = h.within in omega arith))
 
   -- the end of the part
-  module _ (c : Counting) (w : OpenWays) (st : Stands trace burdens (i + p.good) false c w) where
-    pub whole : p.fault ≡ None → Stands trace burdens (i + count) false c w
-    whole e = let z : p.good ≡ count = subst (IsCutOff trace i count p.good) e h.cut_off in subst (λ n. Stands trace burdens (i + n) false c w) z st
+  module _ {rest : Rows} (c : Counting) (w : OpenWays) (st : Stands rest trace burdens (i + p.good) false c w) where
+    pub whole : p.fault ≡ None → Stands rest trace burdens (i + count) false c w
+    whole e = let z : p.good ≡ count = subst (IsCutOff trace i count p.good) e h.cut_off in subst (λ n. Stands rest trace burdens (i + n) false c w) z st
 
     pub faulty : (fault : EventFault) → p.fault ≡ Some fault → IsFaultOf trace.records (Bad (record { at = i + p.good; why = Event fault }))
     faulty fault e =

@@ -8,7 +8,7 @@ use Rattle.spp_maxplus.specs.declared.state.Burdens.{Burdens}
 use Rattle.spp_dag.proofs.OpenEntries.{AreOpen}
 use Rattle.spp_ways.specs.declared.log.Merged.{Merged}
 use Rattle.spp_ways.specs.declared.log.LogRow.{LogRow}
-use Rattle.spp_ways.specs.declared.open_ways.FrameWays.{FrameWays}
+use Rattle.spp_ways.specs.declared.frame_ways.FrameWays.{FrameWays}
 use Rattle.spp_ways.specs.declared.open_ways.OpenWays.{OpenWays}
 use Rattle.spp_ways.specs.Ways.{Ways, no_way}
 use Rattle.spp_ways.specs.OpenWays.{on_path}

@@ -6,10 +6,12 @@ use Rattle.spp_event.specs.declared.records.Event.{Event}
 use Rattle.spp_event.specs.declared.records.Event.TheVariants.{Ret as RetEvent, Sync as SyncEvent}
 use Rattle.spp_event.specs.Recordings.{Recording, InLimits, AreEventsOf, record_at}
 use Rattle.spp_maxplus.specs.declared.state.Burdens.{Burdens}
+use Rattle.spp_dag.specs.declared.row.Row.{Row}
+use Rattle.spp_dag.specs.Shares.{plus, zero_row}
 use Rattle.spp_site.specs.Profiles.{key_row}
 use Rattle.spp_ways.specs.declared.log.Merged.{Merged}
 use Rattle.spp_ways.specs.declared.log.LogRow.{LogRow}
-use Rattle.spp_ways.specs.declared.open_ways.FrameWays.{FrameWays}
+use Rattle.spp_ways.specs.declared.frame_ways.FrameWays.{FrameWays}
 use Rattle.spp_ways.specs.declared.open_ways.OpenWays.{OpenWays}
 use Rattle.spp_ways.specs.Ways.{Ways, no_way}
 use Rattle.spp_ways.specs.OpenWays.{AreWays, IsLaid, on_path}
@@ -19,6 +21,7 @@ use Rattle.spp_pass.specs.declared.calls.CallRow.{CallRow}
 use Rattle.spp_pass.specs.declared.counting.Counting.{Counting}
 use Rattle.spp_pass.specs.Passes.{Seen, strand_frame, no_notes, seen_with}
 use Rattle.spp_pass.specs.CallRows.{AreCallsBelow}
+use Rattle.spp_pass.specs.AsideRows.{aside_row}
 use Rattle.spp_pass.specs.Stretches.{stretch_frame, enclosure, frames_of, child_wins, IsJoined}
 use Rattle.spp_pass.proofs.Alone.{Alone}
 use Rattle.spp_part.specs.declared.stretch.End.{End}
@@ -142,21 +145,29 @@ pub record IsPartProfile (trace : Recording) (burdens : Burdens) (first count : 
 
 -- ---- the profile so far
 
--- these are counted, but for the choices, and in whatever order the rows were added
-pub record Shows (now s : Seen) : Type 0 where
+-- rows by their keys
+abbrev pub Rows : Type 0
+Rows = Option ℕ → Row
+
+abbrev pub no_rows : Rows
+no_rows key = zero_row
+
+-- These are counted, but for the choices, in whatever order the rows were added; the rest of the rows isn't in the table.
+pub record Shows (rest : Rows) (now s : Seen) : Type 0 where
   pub frames : now.frames ≡ s.frames
   pub open_sites : (y : ℕ) → now.open_sites y ≡ s.open_sites y
   pub open_funcs : (y : ℕ) → now.open_funcs y ≡ s.open_funcs y
   pub work : now.work ≡ s.work
-  pub table : (key : Option ℕ) → key_row now.table key ≡ key_row s.table key
+  pub table : (key : Option ℕ) → plus (key_row now.table key) (rest key) ≡ key_row s.table key
 
--- What the first i events have come to; where that is settled no child waits in the innermost frame.
-pub record Stands (trace : Recording) (burdens : Burdens) (i : ℕ) (settled : Bool) (c : Counting) (w : OpenWays) : Type 0 where
+-- What the first i events have come to, but for the rest of the rows; where that is settled no child waits in the innermost
+-- frame.
+pub record Stands (rest : Rows) (trace : Recording) (burdens : Burdens) (i : ℕ) (settled : Bool) (c : Counting) (w : OpenWays) : Type 0 where
   pub state : Seen
   pub ways : Both
   pub at : IsAt trace burdens i state ways
   pub none : settled ≡ true → IsSettled state ways
-  pub counted : Shows (seen_with c no_notes) state
+  pub counted : Shows rest (seen_with c no_notes) state
   pub logged : (on : Bool) → AreWays on w (ways on)
   pub laid : IsLaid w
   pub rows : length w.log.rows.items ≤ i
@@ -169,5 +180,13 @@ pub record Stands (trace : Recording) (burdens : Burdens) (i : ℕ) (settled : B
 abbrev pub GoesOn : Recording → Burdens → ℕ → ℕ → ℕ → Bool → StretchOf → Type 0
 GoesOn trace burdens first i j settled x = Takes trace burdens first i j settled x × (first ≤ i) × (j ≤ length trace.records)
 
+-- what it has of the rows, with those that are kept aside, and others that were lent
+abbrev pub rest_of : ProfileSoFar → Rows → Rows
+rest_of r lent key = plus (aside_row r.aside key) (lent key)
+
+-- the profile of the first i events, but for rows that were lent
+abbrev pub IsSoFarBut : Rows → Recording → Burdens → ℕ → ProfileSoFar → Type 0
+IsSoFarBut lent trace burdens i r = Stands (rest_of r lent) trace burdens i false r.counting r.ways × (r.events ≡ i)
+
 abbrev pub IsSoFar : Recording → Burdens → ℕ → ProfileSoFar → Type 0
-IsSoFar trace burdens i r = Stands trace burdens i false r.counting r.ways × (r.events ≡ i)
+IsSoFar trace burdens i r = IsSoFarBut no_rows trace burdens i r

@@ -13,7 +13,9 @@ ghost use Rattle.spp_event.specs.declared.records.Event.{Event as EventValue};
 ghost use Rattle.spp_event.specs.declared.records.Event.TheVariants.{Ret as RetEvent, Sync as SyncEvent};
 ghost use Rattle.spp_part.specs.Readings.{Opens};
 ghost use Rattle.spp_part.specs.States.{IsEventAt};
-ghost use Rattle.spp_part.specs.Parts.{IsPartProfile, IsSoFar, Stands, GoesOn, stretch_of, stored_of, end_event, settles};
+ghost use Rattle.spp_pass.specs.AsideRows.{aside_row};
+ghost use Rattle.spp_part.specs.Parts.{IsPartProfile, IsSoFar, IsSoFarBut, Rows, Stands, GoesOn, no_rows, rest_of, strands_alone, stretch_of, stored_of, end_event, settles};
+ghost use Rattle.spp_dag.specs.Shares.{plus};
 
 use crate::part_profile::PartProfile;
 use crate::stretch::{End, StoredStretch, Stretch};
@@ -21,10 +23,14 @@ use spp_dag::FrameKind;
 use spp_event::{Event, EventFault, Trace};
 use spp_frame::{Fault, ProfileFault, Why};
 use spp_maxplus::Burdens;
-use spp_pass::Counting;
+use spp_pass::{Counting, RowsAside};
 use spp_site::Profile;
 use spp_ways::OpenWays;
 use std::alloc::{AllocError, Global};
+use std::mem;
+
+/// Rows of a stretch that are so many take longer to add to a table than it takes to copy what encloses the stretch.
+const MANY_CALLS: usize = 512;
 
 /// The profile of a run so far: what the events up to a position have come to.
 #[derive(Drop)]
@@ -33,6 +39,8 @@ pub struct ProfileSoFar {
     ways: OpenWays,
     /// How many events have been read.
     events: u32,
+    /// Rows of frames that have closed, which aren't in the table of `counting`.
+    aside: RowsAside,
 }
 
 /// A bad event as what is wrong with a run.
@@ -56,6 +64,7 @@ impl ProfileSoFar {
             counting: Counting::new(alloc, root)?,
             ways: OpenWays::new(alloc, sites)?,
             events: 0,
+            aside: RowsAside::new(alloc),
         })
     }
 
@@ -77,15 +86,27 @@ impl ProfileSoFar {
     ///
     /// Where an allocation failed.
     fn go_on(&mut self, alloc: Global, stretch: &Stretch, first: u32) -> Result<(), AllocError>
-        requires { (trace : Recording) × (burdens : BurdensValue) × (i : ℕ) × (j : ℕ) × (settled : Bool) × Stands trace burdens i settled self.old.counting self.old.ways × GoesOn trace burdens first i j settled (stretch_of stretch.now) }
-        ensures stands { OnOk result ((trace : Recording) (burdens : BurdensValue) (i j : ℕ) (settled : Bool) → Stands trace burdens i settled self.old.counting self.old.ways → GoesOn trace burdens first i j settled (stretch_of stretch.now) → Stands trace burdens j false self.new.counting self.new.ways) }
+        requires { (rest : Rows) × (trace : Recording) × (burdens : BurdensValue) × (i : ℕ) × (j : ℕ) × (settled : Bool) × Stands rest trace burdens i settled self.old.counting self.old.ways × GoesOn trace burdens first i j settled (stretch_of stretch.now) }
+        ensures stands { OnOk result ((rest : Rows) (trace : Recording) (burdens : BurdensValue) (i j : ℕ) (settled : Bool) → Stands rest trace burdens i settled self.old.counting self.old.ways → GoesOn trace burdens first i j settled (stretch_of stretch.now) → Stands rest trace burdens j false self.new.counting self.new.ways) }
         ensures events { self.new.events ≡ self.old.events }
+        ensures aside { self.new.aside ≡ self.old.aside }
     {
         let wins = self.counting.wins_by(&stretch.counted);
         self.ways
             .join(alloc, &stretch.logged, wins, &self.counting.enclosing())?;
         self.counting.join(&stretch.counted, &stretch.calls, first)?;
         Ok(())
+    }
+
+    /// Goes on by strands of so many instructions together.
+    fn strands(&mut self, count: u64)
+        requires { (rest : Rows) × (trace : Recording) × (burdens : BurdensValue) × (first : ℕ) × (i : ℕ) × (j : ℕ) × (settled : Bool) × Stands rest trace burdens i settled self.old.counting self.old.ways × GoesOn trace burdens first i j settled (strands_alone count) }
+        ensures stands { (rest : Rows) (trace : Recording) (burdens : BurdensValue) (first i j : ℕ) (settled : Bool) → Stands rest trace burdens i settled self.old.counting self.old.ways → GoesOn trace burdens first i j settled (strands_alone count) → Stands rest trace burdens j false self.new.counting self.new.ways }
+        ensures events { self.new.events ≡ self.old.events }
+        ensures aside { self.new.aside ≡ self.old.aside }
+    {
+        self.counting.strand(count);
+        self.ways.strand(count);
     }
 
     /// Goes on by a stretch that has ended; positions in it count from `first`.
@@ -99,16 +120,66 @@ impl ProfileSoFar {
         stored: &StoredStretch,
         first: u32,
     ) -> Result<(), AllocError>
-        requires { (trace : Recording) × (burdens : BurdensValue) × (i : ℕ) × (j : ℕ) × (settled : Bool) × Stands trace burdens i settled self.old.counting self.old.ways × GoesOn trace burdens first i j settled (stored_of stored.now) }
-        ensures stands { OnOk result ((trace : Recording) (burdens : BurdensValue) (i j : ℕ) (settled : Bool) → Stands trace burdens i settled self.old.counting self.old.ways → GoesOn trace burdens first i j settled (stored_of stored.now) → Stands trace burdens j false self.new.counting self.new.ways) }
+        requires { (rest : Rows) × (trace : Recording) × (burdens : BurdensValue) × (i : ℕ) × (j : ℕ) × (settled : Bool) × Stands rest trace burdens i settled self.old.counting self.old.ways × GoesOn trace burdens first i j settled (stored_of stored.now) }
+        ensures stands { OnOk result ((rest : Rows) (trace : Recording) (burdens : BurdensValue) (i j : ℕ) (settled : Bool) → Stands rest trace burdens i settled self.old.counting self.old.ways → GoesOn trace burdens first i j settled (stored_of stored.now) → Stands rest trace burdens j false self.new.counting self.new.ways) }
+        ensures events { self.new.events ≡ self.old.events }
+        ensures aside { self.new.aside ≡ self.old.aside }
+    {
+        match stored {
+            StoredStretch::Strand(count) => self.strands(*count),
+            StoredStretch::Whole(stretch) => self.go_on(alloc, stretch, first)?,
+        }
+        Ok(())
+    }
+
+    /// The same, where the rows of the stretch are kept aside if they are many.
+    ///
+    /// # Errors
+    ///
+    /// Where an allocation failed.
+    fn go_on_aside(&mut self, alloc: Global, stretch: Stretch, first: u32) -> Result<(), AllocError>
+        requires { (lent : Rows) × (trace : Recording) × (burdens : BurdensValue) × (i : ℕ) × (j : ℕ) × (settled : Bool) × Stands (rest_of self.old lent) trace burdens i settled self.old.counting self.old.ways × GoesOn trace burdens first i j settled (stretch_of stretch) }
+        ensures stands { OnOk result ((lent : Rows) (trace : Recording) (burdens : BurdensValue) (i j : ℕ) (settled : Bool) → Stands (rest_of self.old lent) trace burdens i settled self.old.counting self.old.ways → GoesOn trace burdens first i j settled (stretch_of stretch) → Stands (rest_of self.new lent) trace burdens j false self.new.counting self.new.ways) }
+        ensures events { self.new.events ≡ self.old.events }
+    {
+        if stretch.calls.len() < MANY_CALLS {
+            self.go_on(alloc, &stretch, first)?;
+            return Ok(());
+        }
+        let Stretch {
+            counted,
+            calls,
+            logged,
+        } = stretch;
+        let wins = self.counting.wins_by(&counted);
+        self.ways
+            .join(alloc, &logged, wins, &self.counting.enclosing())?;
+        let aside = mem::replace(&mut self.aside, RowsAside::new(alloc));
+        self.aside = self.counting.put_aside(alloc, calls, aside)?;
+        self.counting.join(&counted, &[], first)?;
+        Ok(())
+    }
+
+    /// The same by a stretch that has ended.
+    ///
+    /// # Errors
+    ///
+    /// Where an allocation failed.
+    fn go_on_by_aside(
+        &mut self,
+        alloc: Global,
+        stored: StoredStretch,
+        first: u32,
+    ) -> Result<(), AllocError>
+        requires { (lent : Rows) × (trace : Recording) × (burdens : BurdensValue) × (i : ℕ) × (j : ℕ) × (settled : Bool) × Stands (rest_of self.old lent) trace burdens i settled self.old.counting self.old.ways × GoesOn trace burdens first i j settled (stored_of stored) }
+        ensures stands { OnOk result ((lent : Rows) (trace : Recording) (burdens : BurdensValue) (i j : ℕ) (settled : Bool) → Stands (rest_of self.old lent) trace burdens i settled self.old.counting self.old.ways → GoesOn trace burdens first i j settled (stored_of stored) → Stands (rest_of self.new lent) trace burdens j false self.new.counting self.new.ways) }
         ensures events { self.new.events ≡ self.old.events }
     {
         match stored {
-            StoredStretch::Strand(count) => {
-                self.counting.strand(*count);
-                self.ways.strand(*count);
+            StoredStretch::Strand(count) => self.strands(count),
+            StoredStretch::Whole(stretch) => {
+                self.go_on_aside(alloc, Box::into_inner(stretch), first)?;
             }
-            StoredStretch::Whole(stretch) => self.go_on(alloc, stretch, first)?,
         }
         Ok(())
     }
@@ -116,9 +187,10 @@ impl ProfileSoFar {
     /// The innermost frame waits.
     #[inline(always)]
     fn sync(&mut self)
-        requires { (trace : Recording) × (burdens : BurdensValue) × (at : ℕ) × Stands trace burdens at false self.old.counting self.old.ways × IsEventAt trace at SyncEvent × (at < length trace.records) }
-        ensures stands { (trace : Recording) (burdens : BurdensValue) (at : ℕ) → Stands trace burdens at false self.old.counting self.old.ways → IsEventAt trace at SyncEvent → at < length trace.records → Stands trace burdens (suc at) true self.new.counting self.new.ways }
+        requires { (rest : Rows) × (trace : Recording) × (burdens : BurdensValue) × (at : ℕ) × Stands rest trace burdens at false self.old.counting self.old.ways × IsEventAt trace at SyncEvent × (at < length trace.records) }
+        ensures stands { (rest : Rows) (trace : Recording) (burdens : BurdensValue) (at : ℕ) → Stands rest trace burdens at false self.old.counting self.old.ways → IsEventAt trace at SyncEvent → at < length trace.records → Stands rest trace burdens (suc at) true self.new.counting self.new.ways }
         ensures events { self.new.events ≡ self.old.events }
+        ensures aside { self.new.aside ≡ self.old.aside }
     {
         let takes = self.counting.takes();
         self.counting.sync();
@@ -132,10 +204,11 @@ impl ProfileSoFar {
     /// Where an allocation failed.
     #[inline(always)]
     fn ret(&mut self, alloc: Global, burdens: Burdens) -> Result<bool, AllocError>
-        requires { (trace : Recording) × (at : ℕ) × Stands trace burdens at false self.old.counting self.old.ways × IsEventAt trace at RetEvent × (at < length trace.records) }
-        ensures stands { IfOk result (λ returns. returns ≡ true → (trace : Recording) (at : ℕ) → Stands trace burdens at false self.old.counting self.old.ways → IsEventAt trace at RetEvent → at < length trace.records → Stands trace burdens (suc at) false self.new.counting self.new.ways) }
-        ensures fault { IfOk result (λ returns. returns ≡ false → (trace : Recording) (at : ℕ) → Stands trace burdens at false self.old.counting self.old.ways → IsEventAt trace at RetEvent → at < length trace.records → IsFaultOf trace.records (Bad (record { at = at; why = RootReturn }))) }
+        requires { (rest : Rows) × (trace : Recording) × (at : ℕ) × Stands rest trace burdens at false self.old.counting self.old.ways × IsEventAt trace at RetEvent × (at < length trace.records) }
+        ensures stands { IfOk result (λ returns. returns ≡ true → (rest : Rows) (trace : Recording) (at : ℕ) → Stands rest trace burdens at false self.old.counting self.old.ways → IsEventAt trace at RetEvent → at < length trace.records → Stands rest trace burdens (suc at) false self.new.counting self.new.ways) }
+        ensures fault { IfOk result (λ returns. returns ≡ false → (rest : Rows) (trace : Recording) (at : ℕ) → Stands rest trace burdens at false self.old.counting self.old.ways → IsEventAt trace at RetEvent → at < length trace.records → IsFaultOf trace.records (Bad (record { at = at; why = RootReturn }))) }
         ensures events { self.new.events ≡ self.old.events }
+        ensures aside { self.new.aside ≡ self.old.aside }
     {
         let Some(closing) = self.counting.ret(burdens)? else {
             return Ok(false);
@@ -163,10 +236,11 @@ impl ProfileSoFar {
         at: u32,
         end: End,
     ) -> Result<(), ProfileFault>
-        requires { (trace : Recording) × Stands trace burdens at false self.old.counting self.old.ways × IsEventAt trace at (end_event end) × (at < length trace.records) }
-        ensures stands { OnOk result ((trace : Recording) → Stands trace burdens at false self.old.counting self.old.ways → IsEventAt trace at (end_event end) → at < length trace.records → Stands trace burdens (suc at) (settles end) self.new.counting self.new.ways) }
-        ensures fault { IfErr result (λ f. (trace : Recording) → Stands trace burdens at false self.old.counting self.old.ways → IsEventAt trace at (end_event end) → at < length trace.records → IsFaultOf trace.records f) }
+        requires { (rest : Rows) × (trace : Recording) × Stands rest trace burdens at false self.old.counting self.old.ways × IsEventAt trace at (end_event end) × (at < length trace.records) }
+        ensures stands { OnOk result ((rest : Rows) (trace : Recording) → Stands rest trace burdens at false self.old.counting self.old.ways → IsEventAt trace at (end_event end) → at < length trace.records → Stands rest trace burdens (suc at) (settles end) self.new.counting self.new.ways) }
+        ensures fault { IfErr result (λ f. (rest : Rows) (trace : Recording) → Stands rest trace burdens at false self.old.counting self.old.ways → IsEventAt trace at (end_event end) → at < length trace.records → IsFaultOf trace.records f) }
         ensures events { self.new.events ≡ self.old.events }
+        ensures aside { self.new.aside ≡ self.old.aside }
     {
         match end {
             End::Sync => self.sync(),
@@ -223,8 +297,9 @@ impl ProfileSoFar {
     #[inline(always)]
     fn open(&mut self, kind: FrameKind, site: u32, func: u32) -> Result<(), AllocError>
         requires { (trace : Recording) × (burdens : BurdensValue) × (i : ℕ) × (event : EventValue) × Opens kind site func event × IsSoFar trace burdens i self.old × IsEventAt trace i event × (i < length trace.records) }
-        ensures stands { OnOk result ((trace : Recording) (burdens : BurdensValue) (i : ℕ) (event : EventValue) → Opens kind site func event → IsSoFar trace burdens i self.old → IsEventAt trace i event → i < length trace.records → Stands trace burdens (suc i) false self.new.counting self.new.ways) }
+        ensures stands { OnOk result ((trace : Recording) (burdens : BurdensValue) (i : ℕ) (event : EventValue) → Opens kind site func event → IsSoFar trace burdens i self.old → IsEventAt trace i event → i < length trace.records → Stands (rest_of self.new no_rows) trace burdens (suc i) false self.new.counting self.new.ways) }
         ensures events { self.new.events ≡ self.old.events }
+        ensures aside { self.new.aside ≡ self.old.aside }
     {
         self.counting.open(kind, self.events, site, func)?;
         self.ways.open()?;
@@ -270,6 +345,65 @@ impl ProfileSoFar {
         Ok(())
     }
 
+    /// Joins a part as [`ProfileSoFar::join`] does, and keeps the rows of its long stretches aside.
+    ///
+    /// # Errors
+    ///
+    /// The first bad event of the run, if it is one of the part, or `Memory` where an allocation failed.
+    pub fn join_aside(
+        &mut self,
+        alloc: Global,
+        part: PartProfile,
+        burdens: Burdens,
+    ) -> Result<(), ProfileFault>
+        requires { (lent : Rows) × (trace : Recording) × (i : ℕ) × (count : ℕ) × IsSoFarBut lent trace burdens i self.old × IsPartProfile trace burdens i count part }
+        ensures so_far { OnOk result ((lent : Rows) (trace : Recording) (i count : ℕ) → IsSoFarBut lent trace burdens i self.old → IsPartProfile trace burdens i count part → IsSoFarBut lent trace burdens (i + count) self.new) }
+        ensures fault { IfErr result (λ f. (lent : Rows) (trace : Recording) (i count : ℕ) → IsSoFarBut lent trace burdens i self.old → IsPartProfile trace burdens i count part → IsFaultOf trace.records f) }
+    {
+        let first = self.events;
+        let PartProfile {
+            ended,
+            last,
+            good,
+            fault,
+        } = part;
+        for ended in ended {
+            self.go_on_by_aside(alloc, ended.stored, first)?;
+            match self.end(alloc, burdens, first + ended.at, ended.end) {
+                Ok(()) => {}
+                Err(fault) => return Err(fault),
+            }
+        }
+        self.go_on_aside(alloc, last, first)?;
+        if let Some(fault) = fault {
+            return Err(bad(first + good, Why::Event(fault)));
+        }
+        self.events += good;
+        Ok(())
+    }
+
+    /// Gives the rows away that are kept aside, so that another thread adds them up. It takes constant time.
+    pub fn lend(&mut self, alloc: Global) -> RowsAside
+        ensures { (lent : Rows) (trace : Recording) (burdens : BurdensValue) (i : ℕ) → IsSoFarBut lent trace burdens i self.old → IsSoFarBut (λ key. plus (aside_row result key) (lent key)) trace burdens i self.new }
+    {
+        mem::replace(&mut self.aside, RowsAside::new(alloc))
+    }
+
+    /// Takes rows back that were lent, or their like. It takes constant time, besides that for each row that is kept aside: these
+    /// are added to the table.
+    ///
+    /// # Errors
+    ///
+    /// Where an allocation failed.
+    pub fn take_back(&mut self, rows: RowsAside) -> Result<(), AllocError>
+        requires { (lent : Rows) × (trace : Recording) × (burdens : BurdensValue) × (i : ℕ) × IsSoFarBut (λ key. plus (aside_row rows key) (lent key)) trace burdens i self.old }
+        ensures { OnOk result ((lent : Rows) (trace : Recording) (burdens : BurdensValue) (i : ℕ) → IsSoFarBut (λ key. plus (aside_row rows key) (lent key)) trace burdens i self.old → IsSoFarBut lent trace burdens i self.new) }
+    {
+        let before = mem::replace(&mut self.aside, rows);
+        self.counting.add_aside(before)?;
+        Ok(())
+    }
+
     /// The profile of the whole run, all of whose events have been read. It takes time linear in the numbers of rows that both
     /// paths have in the log, of those that are stored for them, and of call sites.
     ///
@@ -286,11 +420,17 @@ impl ProfileSoFar {
         ensures profile { IfOk result (λ p. (trace : Recording) (burdens : BurdensValue) → IsSoFar trace burdens (length trace.records) self → IsProfileOf trace burdens p) }
         ensures fault { IfErr result (λ f. (trace : Recording) (burdens : BurdensValue) → IsSoFar trace burdens (length trace.records) self → IsFaultOf trace.records f) }
     {
-        let depth = self.counting.depth();
+        let ProfileSoFar {
+            mut counting,
+            ways,
+            events,
+            aside,
+        } = self;
+        counting.add_aside(aside)?;
+        let depth = counting.depth();
         if depth > 0 {
-            return Err(bad(self.events, Why::Unclosed { depth }));
+            return Err(bad(events, Why::Unclosed { depth }));
         }
-        let ProfileSoFar { counting, ways, .. } = self;
         let ended = counting.finish();
         let path = ways.path_table(alloc, false, ended.takes, &ended.root)?;
         let burdened_path = ways.path_table(alloc, true, ended.takes, &ended.root)?;

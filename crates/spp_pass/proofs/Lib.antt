@@ -21,3 +21,4 @@ pub mod RunReturns
 pub mod Stretching
 pub mod Joinable
 pub mod Alike
+pub mod AsideRows

@@ -1,5 +1,5 @@
 -- What the frames come to that close in a stretch of events.
-use Rattle.std.specs.Prelude.{◌≡◌, ℕ, ◌*◌, ◌<◌, ◌≤◌, cond, not, List, [], ◌∷◌, Option, Some}
+use Rattle.std.specs.Prelude.{◌≡◌, ℕ, ◌*◌, ◌<◌, ◌≤◌, cond, not, List, [], ◌∷◌, length, get_or, Option, Some}
 use Rattle.spp_dag.specs.declared.row.Row.{Row}
 use Rattle.spp_dag.specs.Shares.{plus, zero_row}
 use Rattle.spp_dag.specs.Steps.{same_key}
@@ -32,6 +32,14 @@ abbrev pub AreCallsBelow : ℕ → List CallRow → Type 0
 AreCallsBelow n [] = Unit {0}
 AreCallsBelow n (c ∷ cs) = (c.site < n) × AreCallsBelow n cs
 
+-- in place of a row where there is none
+abbrev pub no_calls : CallRow
+no_calls = record { row = zero_row; site = 0; caller = 0 }
+
+-- the same by their numbers
+abbrev pub EachBelow : ℕ → List CallRow → Type 0
+EachBelow n cs = (k : ℕ) → k < length cs → (get_or cs k no_calls).site < n
+
 -- what a frame that closes adds to it
 abbrev pub call_row : Enclosure → ℕ → ℕ → ClosedFrame → Option ℕ → Row
 call_row e site caller f key = cond (same_key (Some site) key) (frame_row (enclosed e site caller f)) zero_row
@@ -60,7 +68,3 @@ pub record IsLightFrame (f : ClosedFrame) : Type 0 where
   pub local : f.local ≤ 4951760157141521099596496896
   pub work : f.work ≤ 4951760157141521099596496896
   pub span : f.span ≤ 4951760157141521099596496896
-
--- in place of a row where there is none
-abbrev pub no_calls : CallRow
-no_calls = record { row = zero_row; site = 0; caller = 0 }

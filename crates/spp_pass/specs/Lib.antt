@@ -4,3 +4,5 @@ pub mod Shares
 pub mod Outside
 pub mod CallRows
 pub mod Stretches
+pub mod OwedRows
+pub mod AsideRows

@@ -1,13 +1,14 @@
 //! The frames that close in a stretch of events.
 
-ghost use Rattle.std.specs.Prelude.{◌≡◌, ◌+◌, ◌*◌, ◌<◌, ◌≤◌, ◌^◌, ◌++◌, ◌∷◌, [], ℕ, length, get_or, IfSome, OnOk};
+ghost use Rattle.std.specs.Prelude.{◌≡◌, ◌+◌, ◌*◌, ◌<◌, ◌≤◌, ◌^◌, ◌++◌, ◌∷◌, [], ℕ, length, get_or, Option, IfSome, OnOk};
 ghost use Rattle.spp_dag.specs.Shares.{plus};
 ghost use Rattle.spp_site.specs.Rows.{Fits, frame_row};
+ghost use Rattle.spp_site.specs.Profiles.{key_row};
 ghost use Rattle.spp_ways.specs.Enclosures.{enclosure_of};
-ghost use Rattle.spp_pass.specs.CallRows.{enclosed_sums, no_calls, AreAdded, AreLight, IsLightFrame};
+ghost use Rattle.spp_pass.specs.CallRows.{enclosed_sums, calls_row, no_calls, AreAdded, EachBelow, AreLight, IsLightFrame};
 
 use spp_dag::Row;
-use spp_site::ClosedFrame;
+use spp_site::{ClosedFrame, Table};
 use spp_ways::Enclosing;
 use std::alloc::{AllocError, Global};
 use std::mem;
@@ -44,6 +45,26 @@ impl CallRow {
             caller_span: if top_caller { row.caller_span } else { 0 },
         }
     }
+}
+
+/// Adds rows to a table, of a stretch that this encloses.
+///
+/// # Errors
+///
+/// Where an allocation failed.
+pub(crate) fn add_calls(
+    table: &mut Table,
+    calls: &[CallRow],
+    enclosing: &Enclosing<'_>,
+) -> Result<(), AllocError>
+    requires below { EachBelow 65536 calls.now }
+    requires fits { (key : Option ℕ) → Fits (plus (key_row table.old key) (calls_row (enclosure_of enclosing.now) calls.now key)) }
+    ensures { OnOk result ((key : Option ℕ) → key_row table.new key ≡ plus (key_row table.old key) (calls_row (enclosure_of enclosing.now) calls.now key)) }
+{
+    for call in calls {
+        table.add(call.site, &call.within(enclosing))?;
+    }
+    Ok(())
 }
 
 /// Where a row may be found.

@@ -1,6 +1,6 @@
 //! The open frames of a run with their weights, and the frames that have closed by call site, as its events come.
 
-ghost use Rattle.std.specs.Prelude.{◌≡◌, suc, ◌+◌, ◌<◌, ◌≤◌, ◌^◌, ◌∷◌, ℕ, List, length, None, is_some, IfSome, OnOk, IfOk};
+ghost use Rattle.std.specs.Prelude.{◌≡◌, suc, ◌+◌, ◌<◌, ◌≤◌, ◌^◌, ◌∷◌, ℕ, List, length, Option, None, is_some, IfSome, OnOk, IfOk};
 ghost use Rattle.spp_dag.specs.declared.stack.EntryFrame.{EntryFrame as FrameValue};
 ghost use Rattle.spp_stack.specs.Chain.{HasFrames};
 ghost use Rattle.spp_pass.specs.Passes.{
@@ -42,6 +42,11 @@ ghost use Rattle.spp_pass.specs.Stretches.{
   CanJoin,
   IsJoined,
 };
+ghost use Rattle.spp_dag.specs.Shares.{plus};
+ghost use Rattle.spp_site.specs.Rows.{Fits};
+ghost use Rattle.spp_site.specs.Profiles.{key_row};
+ghost use Rattle.spp_pass.specs.CallRows.{calls_row, AreCallsBelow};
+ghost use Rattle.spp_pass.specs.AsideRows.{aside_row, HasAside};
 ghost use Rattle.spp_pass.specs.Outside.{
   IsBegun,
   IsOutside,
@@ -51,8 +56,10 @@ ghost use Rattle.spp_pass.specs.Outside.{
   IsShareSuspended,
 };
 
-use crate::calls::CallRow;
+use crate::aside::RowsAside;
+use crate::calls::{CallRow, add_calls};
 use crate::counted_frame::CountedFrame;
+use crate::owed::OwedCalls;
 use spp_dag::{Figures, FrameKind};
 use spp_maxplus::{Burdens, Weights};
 use spp_site::{ClosedFrame, Marks, Share, Table};
@@ -469,9 +476,7 @@ impl Counting {
             funcs: &self.open_funcs,
             direct: self.frames[last].top_func,
         };
-        for call in calls {
-            self.table.add(call.site, &call.within(&enclosing))?;
-        }
+        add_calls(&mut self.table, calls, &enclosing)?;
         let outer = &mut self.frames[last];
         outer.join(&stretch.outer, first);
         let mut caller = OUTER_CALLER;
@@ -488,6 +493,38 @@ impl Counting {
         }
         self.work += stretch.work;
         Ok(())
+    }
+
+    /// Keeps rows of frames aside that have closed in a stretch which begins here, with those that are there. It takes time linear
+    /// in the greatest number of a site and of a function that the open frames have had.
+    ///
+    /// # Errors
+    ///
+    /// Where an allocation failed.
+    pub fn put_aside(
+        &self,
+        alloc: Global,
+        calls: Vec<CallRow>,
+        aside: RowsAside,
+    ) -> Result<RowsAside, AllocError>
+        requires below { AreCallsBelow 65536 calls.items }
+        requires fits { OnTop (λ g. (key : Option ℕ) → Fits (plus (aside_row aside key) (calls_row (enclosure g (seen_with self.now no_notes)) calls.items key))) (seen_with self.now no_notes).frames }
+        ensures { IfOk result (λ r. (g : CountedFrameValue) (gs : List CountedFrameValue) → (seen_with self.now no_notes).frames ≡ g ∷ gs → (key : Option ℕ) → aside_row r key ≡ plus (aside_row aside key) (calls_row (enclosure g (seen_with self.now no_notes)) calls.items key)) }
+    {
+        let owed = OwedCalls::of(alloc, calls, &self.enclosing())?;
+        aside.with(owed)
+    }
+
+    /// Adds rows to the table that were kept aside. It takes constant time for each.
+    ///
+    /// # Errors
+    ///
+    /// Where an allocation failed.
+    pub fn add_aside(&mut self, aside: RowsAside) -> Result<(), AllocError>
+        requires { (key : Option ℕ) → Fits (plus (key_row (seen_with self.old no_notes).table key) (aside_row aside key)) }
+        ensures { OnOk result (HasAside aside (seen_with self.old no_notes) (seen_with self.new no_notes)) }
+    {
+        aside.add_to(&mut self.table)
     }
 
     /// What the run comes to, where the root, which alone is open, closes at the end.

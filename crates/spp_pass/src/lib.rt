@@ -12,12 +12,16 @@
 //! part's end.
 #![tactic(auto)]
 
+mod aside;
 mod calls;
 mod counted_frame;
 mod counting;
+mod owed;
 mod part;
 mod summing;
 
+pub use aside::RowsAside;
 pub use calls::{CallRow, Calls};
 pub use counting::{Closing, CountedStretch, Counting, Ended, Popped};
+pub use owed::OwedCalls;
 pub use part::{PartResult, run_part};

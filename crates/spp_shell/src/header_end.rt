@@ -19,8 +19,8 @@ const MOST_EVENTS: u32 = 1 << 28;
 const FEW_NAMES: u64 = 1 << 11;
 
 /// The most events of a trace of more call sites than [`FEW_SITES`] that is kept for its profile where several workers share it, which
-/// is faster than one alone: 537 MB of version 1.
-const MOST_KEPT: u32 = 1 << 25;
+/// is faster than by blocks: 67 MB of version 1.
+const MOST_KEPT: u32 = 1 << 22;
 
 /// A name that begins within so many bytes is judged when it is there, a later one when the header ends.
 const JUDGED: usize = 1 << 16;

@@ -25,7 +25,7 @@ use crate::records::Records;
 use crate::refusal::Refusal;
 use crate::source::Source;
 use crate::telling::Telling;
-use spp_crew::{FEW_SITES, RecordHead, RecordProfile};
+use spp_crew::{RecordHead, RecordProfile};
 use spp_event::{HeaderFault, Trace};
 use spp_frame::ProfileFault;
 use spp_report::Named;
@@ -133,8 +133,7 @@ fn tell_records<R: Threads + Wait + Sync, S: Source, T: Telling>(
     Ok(telling.tell(alloc, &named)?)
 }
 
-/// What profiles the records of a trace, before the first has come. One worker does where it names many call sites: with more their
-/// joins, made one at a time, would take longer than it alone.
+/// What profiles the records of a trace, before the first has come.
 ///
 /// # Errors
 ///
@@ -145,14 +144,9 @@ fn records_of(
     trace: &Trace<'_>,
 ) -> Result<ProfiledRecords, AllocError>
     ensures beginning { IfOk result (IsBeginning trace.now request.now.burdens) }
-    ensures asked { IfOk result (λ records. length trace.now.sites ≤ 1024 → records.workers ≡ request.now.workers) }
+    ensures asked { IfOk result (λ records. records.workers ≡ request.now.workers) }
 {
     trace.keeps_limits();
-    let workers = if trace.sites() > FEW_SITES {
-        1
-    } else {
-        request.workers.number()
-    };
     let run = RecordHead {
         root: trace.root(),
         sites: trace.sites(),
@@ -162,7 +156,7 @@ fn records_of(
     Ok(ProfiledRecords {
         profile: RecordProfile::new(alloc, run, request.burdens)?,
         alloc,
-        workers,
+        workers: request.workers.number(),
     })
 }
 
@@ -208,8 +202,8 @@ fn open_header<'a>(
 
 /// What is told of the run whose trace an input gives, or why nothing is.
 ///
-/// The events of a trace are profiled as they come, in blocks, and let go; by two workers or more each block of one with few call
-/// sites is read by a thread of its own, while the next ones come. Read whole first are a trace that is kept ([`is_kept`]), an
+/// The events of a trace are profiled as they come, in blocks, and let go; by two workers or more each block is read by a thread of
+/// its own, while the next ones come. Read whole first are a trace that is kept ([`is_kept`]), an
 /// input that ends within its header, and one where memory is refused for its header or for the beginning of its profile. Where no
 /// trace begins as it does, it is refused without reading on where [`open_front`] shows that, but for a kept one of many names.
 pub(crate) fn tell_input<R: Threads + Wait + Sync, S: Source, T: Telling>(

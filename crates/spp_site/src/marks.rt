@@ -33,6 +33,18 @@ impl Marks {
         }
     }
 
+    /// A set of the same numbers. It takes time linear in the greatest number that was put in.
+    ///
+    /// # Errors
+    ///
+    /// Where an allocation failed.
+    pub fn copy(alloc: Global, marks: &Marks) -> Result<Marks, AllocError>
+        ensures { IfOk result (λ copy. copy ≡ marks.now) }
+    {
+        let bits = Vec::from_slice(alloc, &marks.bits)?;
+        Ok(Marks { bits })
+    }
+
     /// Whether the number is in the set.
     #[inline(always)]
     pub fn has(&self, x: u32) -> bool

@@ -8,7 +8,7 @@ use Rattle.spp_site.specs.declared.closed_frame.ClosedFrame.{ClosedFrame}
 use Rattle.spp_ways.specs.declared.log.Merged.{Merged}
 use Rattle.spp_ways.specs.declared.log.LogRow.{LogRow}
 use Rattle.spp_ways.specs.declared.open_ways.OnPaths.{OnPaths}
-use Rattle.spp_ways.specs.declared.open_ways.FrameWays.{FrameWays}
+use Rattle.spp_ways.specs.declared.frame_ways.FrameWays.{FrameWays}
 use Rattle.spp_ways.specs.declared.open_ways.OpenWays.{OpenWays}
 use Rattle.spp_ways.specs.Ways.{Ways}
 use Rattle.spp_ways.specs.Logs.{IsLinked, AreLinked}

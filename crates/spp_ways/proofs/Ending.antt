@@ -12,9 +12,9 @@ use Rattle.spp_site.proofs.Rows.{plus-zero}
 use Rattle.spp_site.proofs.Small.{empty_row}
 use Rattle.spp_ways.specs.declared.log.LogRow.{LogRow}
 use Rattle.spp_ways.specs.declared.open_ways.OnPaths.{OnPaths}
-use Rattle.spp_ways.specs.declared.open_ways.FrameWays.{FrameWays}
+use Rattle.spp_ways.specs.declared.frame_ways.FrameWays.{FrameWays}
 use Rattle.spp_ways.specs.declared.open_ways.OpenWays.{OpenWays}
-use Rattle.spp_ways.specs.declared.open_ways.LoggedWays.{LoggedWays}
+use Rattle.spp_ways.specs.declared.frame_ways.LoggedWays.{LoggedWays}
 use Rattle.spp_ways.specs.Ways.{Ways, rows_at, way_on}
 use Rattle.spp_ways.specs.Logs.{way_row}
 use Rattle.spp_ways.specs.OpenWays.{IsWay, AreBoth, AllWays, AreWays, Laid, IsLaid, on_path, path_of, bare_row, root_rows, chosen}

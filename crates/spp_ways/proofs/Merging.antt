@@ -7,8 +7,8 @@ use Rattle.spp_site.specs.Profiles.{key_row}
 use Rattle.spp_site.proofs.Rows.{zero-plus}
 use Rattle.spp_ways.specs.declared.log.Merged.{Merged}
 use Rattle.spp_ways.specs.declared.log.LogRow.{LogRow}
-use Rattle.spp_ways.specs.declared.open_ways.LoggedWays.{LoggedWays}
-use Rattle.spp_ways.specs.declared.open_ways.FrameWays.{FrameWays}
+use Rattle.spp_ways.specs.declared.frame_ways.LoggedWays.{LoggedWays}
+use Rattle.spp_ways.specs.declared.frame_ways.FrameWays.{FrameWays}
 use Rattle.spp_ways.specs.declared.open_ways.OpenWays.{OpenWays}
 use Rattle.spp_ways.specs.Ways.{Ways}
 use Rattle.spp_ways.specs.Logs.{way_row, row_on, merged_row, merged_on, before_on, within_on, IsMergedRow, IsLinked, AreLinked}

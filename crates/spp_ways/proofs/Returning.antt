@@ -10,8 +10,8 @@ use Rattle.spp_site.specs.Rows.{frame_row}
 use Rattle.spp_site.specs.declared.closed_frame.ClosedFrame.{ClosedFrame}
 use Rattle.spp_ways.specs.declared.log.LogRow.{LogRow}
 use Rattle.spp_ways.specs.declared.open_ways.OnPaths.{OnPaths}
-use Rattle.spp_ways.specs.declared.open_ways.LoggedWays.{LoggedWays}
-use Rattle.spp_ways.specs.declared.open_ways.FrameWays.{FrameWays}
+use Rattle.spp_ways.specs.declared.frame_ways.LoggedWays.{LoggedWays}
+use Rattle.spp_ways.specs.declared.frame_ways.FrameWays.{FrameWays}
 use Rattle.spp_site.proofs.Rows.{plus-zero}
 use Rattle.spp_ways.specs.Ways.{Leaf, Way, Ways, rows_at, way_on, way_through, waited_ways, closed_rows, returned_ways}
 use Rattle.spp_ways.specs.Logs.{way_row, row_on, merged_row, before_on, within_on, closed_on, AreLinked}

@@ -6,8 +6,8 @@ use Rattle.spp_dag.specs.declared.stack.FrameKind.TheVariants.{Root, Called, Spa
 use Rattle.spp_site.specs.declared.closed_frame.ClosedFrame.{ClosedFrame}
 use Rattle.spp_ways.specs.declared.log.LogRow.{LogRow}
 use Rattle.spp_ways.specs.declared.open_ways.OnPaths.{OnPaths}
-use Rattle.spp_ways.specs.declared.open_ways.LoggedWays.{LoggedWays}
-use Rattle.spp_ways.specs.declared.open_ways.FrameWays.{FrameWays}
+use Rattle.spp_ways.specs.declared.frame_ways.LoggedWays.{LoggedWays}
+use Rattle.spp_ways.specs.declared.frame_ways.FrameWays.{FrameWays}
 use Rattle.spp_ways.specs.Ways.{Ways, way_on, closed_rows, returned_ways}
 use Rattle.spp_ways.specs.Logs.{IsLinked, AreLinked}
 use Rattle.spp_ways.specs.OpenWays.{AreBoth, AllWays, on_path, plain_of, burdened_of, path_of, AreIn, Laid, returned_list, bare_row, chosen, entered, StayIn, returned_row, come_frame}

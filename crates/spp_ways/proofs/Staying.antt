@@ -3,10 +3,10 @@ use Rattle.std.proofs.Common.{◌≡◌, ℕ, suc, ◌≤◌, Bool, true, false,
 use Rattle.std.proofs.lemmas.Bool.{ne_eqb, eq-eqb}
 use Rattle.std.proofs.lemmas.List.{reverse-append, length-reverse, length-append, length-take-le, take-append-drop}
 use Rattle.spp_ways.specs.declared.log.LogRow.{LogRow}
-use Rattle.spp_ways.specs.declared.open_ways.LoggedWays.{LoggedWays}
-use Rattle.spp_ways.specs.declared.open_ways.FrameWays.{FrameWays}
+use Rattle.spp_ways.specs.declared.frame_ways.LoggedWays.{LoggedWays}
+use Rattle.spp_ways.specs.declared.frame_ways.FrameWays.{FrameWays}
 use Rattle.spp_dag.specs.Shares.{plus, zero_row}
-use Rattle.spp_ways.specs.declared.open_ways.LoggedWay.{LoggedWay}
+use Rattle.spp_ways.specs.declared.frame_ways.LoggedWay.{LoggedWay}
 use Rattle.spp_ways.specs.Ways.{Way, Ways}
 use Rattle.spp_ways.specs.Logs.{way_row, before_on, within_on, row_on, AreLinked}
 use Rattle.spp_ways.specs.OpenWays.{IsWay, AreBoth, AllWays, plain_of, burdened_of, path_of, AreIn, Laid}

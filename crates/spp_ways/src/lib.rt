@@ -5,6 +5,7 @@
 #![tactic(auto)]
 
 mod enclosing;
+mod frame_ways;
 mod laws;
 mod log;
 mod open_ways;

@@ -8,23 +8,23 @@ use Rattle.spp_part.proofs.GoingOn.{onto, fits, can, can_ways, wins_of_outer, st
 use Rattle.spp_part.proofs.so_far.ProfileSoFar.go_on.Goals as goal
 
 pub wins_by-wins-requires : goal.wins_by-wins-requires
-wins_by-wins-requires c = let q = c.requires in fits q.0 q.1 c.args.first q.2 q.3 q.4 c.args.self.now.counting c.args.self.now.ways c.args.stretch.now q.5 q.6
+wins_by-wins-requires c = let q = c.requires in fits q.1 q.2 c.args.first q.3 q.4 q.5 c.args.self.now.counting c.args.self.now.ways c.args.stretch.now q.6 q.7
 
 pub join-requires-clause-can : goal.join-requires-clause-can
 join-requires-clause-can c on =
     let q = c.requires in
-    let o = onto q.0 q.1 c.args.first q.2 q.3 q.4 c.args.self.now.counting c.args.self.now.ways (stretch_of c.args.stretch.now) q.5 q.6 in
-    can_ways q.0 q.1 c.args.first q.2 q.3 q.4 c.args.self.now.counting c.args.self.now.ways c.args.stretch.now q.5 q.6 c.wins_by-wins.result (enclosure_of c.enclosing.result)
-    (c.wins_by-wins.ensures o.top o.below o.is) (c.enclosing.ensures o.top o.below o.is ∙ same_enclosure o.top (seen_with c.args.self.now.counting no_notes) q.5.state q.5.counted) on
+    let o = onto q.1 q.2 c.args.first q.3 q.4 q.5 c.args.self.now.counting c.args.self.now.ways (stretch_of c.args.stretch.now) q.6 q.7 in
+    can_ways q.1 q.2 c.args.first q.3 q.4 q.5 c.args.self.now.counting c.args.self.now.ways c.args.stretch.now q.6 q.7 c.wins_by-wins.result (enclosure_of c.enclosing.result)
+    (c.wins_by-wins.ensures o.top o.below o.is) (c.enclosing.ensures o.top o.below o.is ∙ same_enclosure o.top (seen_with c.args.self.now.counting no_notes) q.6.state q.6.counted) on
 
 pub join-requires-2 : goal.join-requires-2
 join-requires-2 c =
     let q = c.requires in
     subst (λ (calls : _). CanJoin c.args.first (frames_of c.args.stretch.now.counted) c.args.stretch.now.counted.outer c.args.stretch.now.counted.work calls (seen_with c.args.self.now.counting no_notes)) (sym c.deref.ensures.value)
-    (can q.0 q.1 c.args.first q.2 q.3 q.4 c.args.self.now.counting c.args.self.now.ways c.args.stretch.now q.5 q.6)
+    (can q.1 q.2 c.args.first q.3 q.4 q.5 c.args.self.now.counting c.args.self.now.ways c.args.stretch.now q.6 q.7)
 
 pub returns-clause-stands : goal.returns-clause-stands
-returns-clause-stands c trace burdens i j settled st go =
+returns-clause-stands c rest trace burdens i j settled st go =
     let o = onto trace burdens c.args.first i j settled c.args.self.now.counting c.args.self.now.ways (stretch_of c.args.stretch.now) st go in
     let encloses = c.enclosing.ensures o.top o.below o.is ∙ same_enclosure o.top (seen_with c.args.self.now.counting no_notes) st.state st.counted in
     stands trace burdens c.args.first i j settled c.args.self.now.counting c.args.self.now.ways (stretch_of c.args.stretch.now) st go c.wins_by-wins.result (enclosure_of c.enclosing.result)

@@ -1,9 +1,14 @@
 use Rattle.std.proofs.Common.{suc, ◌≡◌, true, false, refl, sym, subst, ◌∙◌, arith}
 use Rattle.spp_event.specs.declared.records.Event.{Event}
 use Rattle.spp_event.specs.declared.records.Event.TheVariants.{Strand, Call, Spawn, Ret, Sync}
+use Rattle.spp_frame.specs.Answers.{IsFaultOf}
+use Rattle.spp_frame.specs.declared.profile_fault.ProfileFault.{ProfileFault}
+use Rattle.spp_frame.specs.declared.profile_fault.ProfileFault.TheVariants.{Bad}
+use Rattle.spp_frame.specs.declared.Why.TheVariants.{RootReturn}
 use Rattle.spp_part.specs.declared.so_far.ProfileSoFar.{ProfileSoFar}
 use Rattle.spp_part.specs.States.{IsEventAt}
-use Rattle.spp_part.specs.Parts.{Stands}
+use Rattle.spp_part.specs.Parts.{Rows, Stands, no_rows, rest_of}
+use Rattle.spp_part.proofs.Standing.{aside_same}
 use Rattle.spp_part.proofs.Nexts.{unsettled, can_add, fit_strand, strand_next}
 use Rattle.spp_part.proofs.so_far.ProfileSoFar.read.Goals as goal
 use Rattle.spp_part.proofs.so_far.ProfileSoFar.read.Goals.{in-Strand, in-Call+in_ok-open-in-Call, in-Spawn+in_ok-open-in-Spawn, in-Ret+in_ok-returns-in-Ret+else-not-returns, in-Sync}
@@ -22,8 +27,10 @@ pub returns-clause-so_far : goal.returns-clause-so_far
 returns-clause-so_far c trace i so at lt =
     let b = c.args.burdens in
     let old : ProfileSoFar = c.args.self.now in
-    let Now : ProfileSoFar → Type 0 = λ r. Stands trace b (suc i) false r.counting r.ways × (r.events ≡ i) in
-    let is = λ (e : Event) (same : c.args.event ≡ e). let r : IsEventAt trace i e = subst (IsEventAt trace i) same at in r in
+    let rest : Rows = rest_of old no_rows in
+    let Now : ProfileSoFar → Type 0 = λ r. Stands (rest_of r no_rows) trace b (suc i) false r.counting r.ways × (r.events ≡ i) in
+    let same = λ (r : ProfileSoFar) (aside : r.aside ≡ old.aside) (st : Stands rest trace b (suc i) false r.counting r.ways). aside_same no_rows old.aside r.aside aside trace b (suc i) r.counting r.ways st in
+    let is = λ (e : Event) (told : c.args.event ≡ e). let r : IsEventAt trace i e = subst (IsEventAt trace i) told at in r in
     let moved : Now c.match-event.self = elim c.match-event.branch [
       | in-Strand w ↦
           let n = w.in-Strand.count in
@@ -40,12 +47,18 @@ returns-clause-so_far c trace i so at lt =
           (f.stands trace b i (Spawn w.in-Spawn.site w.in-Spawn.func) refl so (is (Spawn w.in-Spawn.site w.in-Spawn.func) w.in-Spawn.is) lt, f.events ∙ so.1)
       | in-Ret+in_ok-returns-in-Ret+else-not-returns w ↦
           let f = w.in_ok-returns-in-Ret.ensures in
-          subst Now (sym w.self-is) (f.stands w.if-not-returns.false trace i so.0 (is Ret w.in-Ret.is) lt, w.ret.ensures.events ∙ so.1)
+          subst Now (sym w.self-is) (same w.ret.new.self w.ret.ensures.aside (f.stands w.if-not-returns.false rest trace i so.0 (is Ret w.in-Ret.is) lt), w.ret.ensures.events ∙ so.1)
       | in-Sync w ↦
           let f = w.sync.ensures in
           subst Now (sym w.self-is) (
-            unsettled trace b (suc i) true w.sync.new.self.counting w.sync.new.self.ways (f.stands trace b i so.0 (is Sync w.in-Sync.is) lt),
+            same w.sync.new.self f.aside (unsettled trace b (suc i) true w.sync.new.self.counting w.sync.new.self.ways (f.stands rest trace b i so.0 (is Sync w.in-Sync.is) lt)),
             f.events ∙ so.1,
           )
     ] in
     (moved.0, (let z : c.match-event.self.events ≡ i = moved.1 in omega arith))
+
+pub returns-then-not-returns-clause-fault : goal.returns-then-not-returns-clause-fault
+returns-then-not-returns-clause-fault c trace i so at lt =
+    subst (λ (f : ProfileFault). IsFaultOf trace.records f) (sym c.bad.ensures)
+    (subst (λ k. IsFaultOf trace.records (Bad (record { at = k; why = RootReturn }))) (sym (c.ret.ensures.events ∙ so.1))
+    (c.in_ok-returns-in-Ret.ensures.fault c.if-not-returns.true (rest_of c.args.self.now no_rows) trace i so.0 (subst (IsEventAt trace i) c.in-Ret.is at) lt))

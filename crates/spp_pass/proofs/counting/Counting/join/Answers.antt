@@ -1,8 +1,6 @@
-use Rattle.std.proofs.Common.{◌≡◌, ◌+◌, ◌-◌, ◌<◌, ℕ, List, ◌∷◌, length, reverse, drop, get_or, Option, refl, sym, ap, ap₂, subst, ◌∙◌, arith}
-use Rattle.spp_dag.specs.declared.row.Row.{Row}
+use Rattle.std.proofs.Common.{◌≡◌, ◌+◌, ◌-◌, ◌<◌, ℕ, List, ◌∷◌, length, reverse, drop, Option, refl, ap, ap₂, ◌∙◌, arith}
 use Rattle.spp_dag.specs.Shares.{plus}
 use Rattle.spp_site.specs.Rows.{Fits}
-use Rattle.spp_site.specs.Table.{row_at, IsAdded}
 use Rattle.spp_site.specs.Profiles.{key_row}
 use Rattle.spp_site.specs.Marks.{is_marked}
 use Rattle.spp_ways.specs.Enclosures.{Enclosure}
@@ -11,40 +9,19 @@ use Rattle.spp_pass.specs.declared.counted_frame.CountedFrame.{CountedFrame}
 use Rattle.spp_pass.specs.Passes.{Seen, seen_with, no_notes}
 use Rattle.spp_pass.specs.CallRows.{calls_row, no_calls}
 use Rattle.spp_pass.specs.Stretches.{enclosure, joined, placed_frames, with_frames, FitsJoin}
-use Rattle.spp_pass.proofs.Joining.{call_below, rest_at, call_fits, call_added, rest_none, last_is, last_has, upto, upto_all, frames_more, caller_next, marks_more, outer_place, item_place}
+use Rattle.spp_pass.proofs.Joining.{call_below, last_is, last_has, upto, upto_all, frames_more, caller_next, marks_more, outer_place, item_place}
 use Rattle.spp_pass.proofs.counting.Counting.join.Goals as goal
 
-pub loop-call-init : goal.loop-call-init
-loop-call-init c = λ key. refl
+pub add_calls-requires-clause-below : goal.add_calls-requires-clause-below
+add_calls-requires-clause-below c = λ k lt. call_below 65536 c.args.calls.now k no_calls lt c.requires.sites
 
-pub add-requires-clause-limit : goal.add-requires-clause-limit
-add-requires-clause-limit c = call_below 65536 c.args.calls.now c.loop-call.call-index _ c.loop-call-test.true c.requires.sites
-
-pub add-requires-clause-fits : goal.add-requires-clause-fits
-add-requires-clause-fits c =
+pub add_calls-requires-clause-fits : goal.add_calls-requires-clause-fits
+add_calls-requires-clause-fits c =
     let s : Seen = seen_with c.args.self.now no_notes in
-    let g : CountedFrame = c.index.result.now in
-    let e : Enclosure = enclosure g s in
     let calls : List CallRow = c.args.calls.now in
-    let k : ℕ = c.loop-call.call-index in
-    let call : CallRow = get_or calls k no_calls in
     let at : c.len-last.result - 1 ≡ length c.args.self.now.frames.items - 1 = omega (arith, c.len-last.ensures, c.args.self.now.frames.ok.0) in
-    let whole : Option ℕ → Row = λ key. plus (key_row s.table key) (calls_row e calls key) in
-    let has = last_has (λ g. FitsJoin c.args.stretch.now.outer g × ((key : Option ℕ) → Fits (plus (key_row s.table key) (calls_row (enclosure g s) calls key)))) c.args.self.now.frames.items (c.len-last.result - 1) g
-    at c.index.ensures c.requires.top in
-    subst (λ (r : Row). Fits (plus (row_at c.loop-call.self.1.1.1.1.1.0 call.site) r)) (sym c.within.ensures)
-    (call_fits c.loop-call.self.1.1.1.1.1.0 e call (drop (k + 1) calls) whole (rest_at c.loop-call.self.1.1.1.1.1.0 e calls k no_calls whole c.loop-call-test.true c.loop-call.invariant) has.1)
-
-pub loop-call-preserved : goal.loop-call-preserved
-loop-call-preserved c =
-    let s : Seen = seen_with c.args.self.now no_notes in
-    let e : Enclosure = enclosure c.index.result.now s in
-    let calls : List CallRow = c.args.calls.now in
-    let k : ℕ = c.loop-call.call-index in
-    let call : CallRow = get_or calls k no_calls in
-    let whole : Option ℕ → Row = λ key. plus (key_row s.table key) (calls_row e calls key) in
-    call_added c.loop-call.self.1.1.1.1.1.0 c.add.new.self e call (drop (k + 1) calls) whole (rest_at c.loop-call.self.1.1.1.1.1.0 e calls k no_calls whole c.loop-call-test.true c.loop-call.invariant)
-    (subst (IsAdded c.loop-call.self.1.1.1.1.1.0 c.add.new.self call.site) c.within.ensures c.in_ok-add.ensures.added)
+    (last_has (λ g. FitsJoin c.args.stretch.now.outer g × ((key : Option ℕ) → Fits (plus (key_row s.table key) (calls_row (enclosure g s) calls key)))) c.args.self.now.frames.items (c.len-last.result - 1) c.index.result.now
+    at c.index.ensures c.requires.top).1
 
 pub join-requires-clause-child : goal.join-requires-clause-child
 join-requires-clause-child c = (outer_place c.args.self.now.work c.args.first c.args.stretch.now.outer (drop 1 c.args.stretch.now.frames.items) c.requires.places).2
@@ -107,10 +84,10 @@ loop-k-2-preserved c =
     let x : CountedFrame = c.index-frame-in-loop-k-2.result.now in
     record {
       frames = c.loop-k-2.invariant.frames;
-      sites = marks_more (λ (f : CountedFrame). f.site) outer items c.loop-k-2.k x (is_marked c.args.self.now.open_sites) (is_marked c.loop-k-2.self.open_sites) (is_marked c.add-in-loop-k-2.new.self) pos lt c.index-frame-in-loop-k-2.ensures
-          c.in_ok-add-2.ensures.added c.loop-k-2.invariant.sites;
-      funcs = marks_more (λ (f : CountedFrame). f.func) outer items c.loop-k-2.k x (is_marked c.args.self.now.open_funcs) (is_marked c.loop-k-2.self.open_funcs) (is_marked c.add-in-loop-k-2-2.new.self) pos lt c.index-frame-in-loop-k-2.ensures
-          c.in_ok-add-3.ensures.added c.loop-k-2.invariant.funcs;
+      sites = marks_more (λ (f : CountedFrame). f.site) outer items c.loop-k-2.k x (is_marked c.args.self.now.open_sites) (is_marked c.loop-k-2.self.open_sites) (is_marked c.add.new.self) pos lt c.index-frame-in-loop-k-2.ensures
+          c.in_ok-add.ensures.added c.loop-k-2.invariant.sites;
+      funcs = marks_more (λ (f : CountedFrame). f.func) outer items c.loop-k-2.k x (is_marked c.args.self.now.open_funcs) (is_marked c.loop-k-2.self.open_funcs) (is_marked c.add-in-loop-k-2.new.self) pos lt c.index-frame-in-loop-k-2.ensures
+          c.in_ok-add-2.ensures.added c.loop-k-2.invariant.funcs;
       work = c.loop-k-2.invariant.work;
       table = c.loop-k-2.invariant.table;
     }
@@ -136,7 +113,6 @@ returns c = λ g gs is m n.
       open_funcs = λ y. c.loop-k-2.invariant.funcs y ∙ ap (λ (l : List CountedFrame). with_frames (λ (f : CountedFrame). f.func) l s.open_funcs y) all2;
       work = ap (λ w. w + c.args.stretch.now.work) c.loop-k-2.invariant.work;
       table = λ key. ap (λ t. key_row t key) c.loop-k-2.invariant.table
-          ∙ rest_none c.loop-call.self.1.1.1.1.1.0 (enclosure c.index.result.now s) c.args.calls.now c.loop-call.call-index (λ k. plus (key_row s.table k) (calls_row (enclosure c.index.result.now s) c.args.calls.now k))
-          (omega (arith, c.loop-call-test.false)) c.loop-call.invariant key
+          ∙ c.in_ok-add_calls.ensures key
           ∙ ap (λ e. plus (key_row s.table key) (calls_row e c.args.calls.now key)) same;
     }

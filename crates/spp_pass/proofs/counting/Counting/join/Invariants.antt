@@ -1,19 +1,11 @@
-use Rattle.std.proofs.Common.{◌≡◌, ℕ, List, ◌∷◌, reverse, drop}
-use Rattle.spp_dag.specs.Shares.{plus}
-use Rattle.spp_site.specs.Profiles.{key_row}
+use Rattle.std.proofs.Common.{◌≡◌, ℕ, List, ◌∷◌, reverse}
 use Rattle.spp_site.specs.Marks.{is_marked}
 use Rattle.spp_ways.specs.Enclosures.{enclosure_of}
 use Rattle.spp_pass.specs.declared.counted_frame.CountedFrame.{CountedFrame}
 use Rattle.spp_pass.specs.Passes.{caller_in}
-use Rattle.spp_pass.specs.CallRows.{calls_row}
 use Rattle.spp_pass.specs.Stretches.{placed_frames, with_frames}
-use Rattle.spp_pass.proofs.Joining.{Rest, upto}
+use Rattle.spp_pass.proofs.Joining.{upto}
 use Rattle.spp_pass.proofs.counting.Counting.join.Given as goal
-
--- the calls before the index are in the table
-abbrev pub invariant-loop-call : goal.invariant-loop-call
-invariant-loop-call l =
-    Rest l.self.1.1.1.1.1.0 (enclosure_of l.enclosing) (drop l.call-index l.fn.calls) (λ key. plus (key_row l.fn.self.table key) (calls_row (enclosure_of l.enclosing) l.fn.calls key))
 
 -- the frames of the stretch before k are open
 abbrev pub invariant-loop-k : goal.invariant-loop-k

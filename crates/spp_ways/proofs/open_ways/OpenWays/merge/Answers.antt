@@ -5,7 +5,7 @@ use Rattle.spp_site.specs.Profiles.{key_row}
 use Rattle.spp_site.proofs.LastFirst.{topped}
 use Rattle.spp_ways.specs.declared.log.Merged.{Merged}
 use Rattle.spp_ways.specs.declared.log.LogRow.{LogRow}
-use Rattle.spp_ways.specs.declared.open_ways.FrameWays.{FrameWays}
+use Rattle.spp_ways.specs.declared.frame_ways.FrameWays.{FrameWays}
 use Rattle.spp_ways.specs.declared.open_ways.OpenWays.{OpenWays}
 use Rattle.spp_ways.specs.Logs.{way_row, merged_on, AreLinked}
 use Rattle.spp_ways.specs.OpenWays.{AllWays, HasRowsOf, Laid, path_of, AreMerged}

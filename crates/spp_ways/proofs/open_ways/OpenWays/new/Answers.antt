@@ -1,6 +1,6 @@
 use Rattle.std.proofs.Common.{◌≡◌, List, [], ◌∷◌, ◌++◌, reverse, ap, sym, subst, ◌∙◌}
 use Rattle.spp_ways.specs.declared.log.LogRow.{LogRow}
-use Rattle.spp_ways.specs.declared.open_ways.FrameWays.{FrameWays}
+use Rattle.spp_ways.specs.declared.frame_ways.FrameWays.{FrameWays}
 use Rattle.spp_ways.specs.Ways.{no_ways}
 use Rattle.spp_ways.specs.OpenWays.{AllWays}
 use Rattle.spp_ways.proofs.Steps.{opened, opened_ways}

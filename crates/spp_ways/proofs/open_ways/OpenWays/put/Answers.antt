@@ -5,9 +5,9 @@ use Rattle.spp_site.proofs.LastFirst.{topped}
 use Rattle.spp_site.specs.declared.closed_frame.ClosedFrame.{ClosedFrame}
 use Rattle.spp_ways.specs.declared.log.LogRow.{LogRow}
 use Rattle.spp_ways.specs.declared.open_ways.OnPaths.{OnPaths}
-use Rattle.spp_ways.specs.declared.open_ways.LoggedWay.{LoggedWay}
-use Rattle.spp_ways.specs.declared.open_ways.LoggedWays.{LoggedWays}
-use Rattle.spp_ways.specs.declared.open_ways.FrameWays.{FrameWays}
+use Rattle.spp_ways.specs.declared.frame_ways.LoggedWay.{LoggedWay}
+use Rattle.spp_ways.specs.declared.frame_ways.LoggedWays.{LoggedWays}
+use Rattle.spp_ways.specs.declared.frame_ways.FrameWays.{FrameWays}
 use Rattle.spp_ways.specs.declared.open_ways.OpenWays.{OpenWays}
 use Rattle.spp_ways.specs.OpenWays.{plain_of, burdened_of, HasRowsOf, Laid, AreIn, StayIn, IsLeft, chosen, entered, returned_row, come_frame}
 use Rattle.spp_ways.proofs.Staying.{in_more}

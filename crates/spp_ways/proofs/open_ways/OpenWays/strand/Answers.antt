@@ -1,6 +1,6 @@
 use Rattle.std.proofs.Common.{◌≡◌, ℕ, ◌-◌, true, false, List, ◌∷◌, length, map, reverse, get_or, set, ap, ap₂, subst, sym, ◌∙◌, arith}
 use Rattle.spp_site.proofs.LastFirst.{topped}
-use Rattle.spp_ways.specs.declared.open_ways.FrameWays.{FrameWays}
+use Rattle.spp_ways.specs.declared.frame_ways.FrameWays.{FrameWays}
 use Rattle.spp_ways.specs.declared.open_ways.OpenWays.{OpenWays}
 use Rattle.spp_ways.specs.OpenWays.{plain_of, burdened_of, frame_ways, FitTopStrand}
 use Rattle.spp_ways.specs.Stretches.{enclosed_row}

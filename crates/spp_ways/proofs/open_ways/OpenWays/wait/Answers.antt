@@ -2,7 +2,7 @@ use Rattle.std.proofs.Common.{◌≡◌, ℕ, ◌-◌, ◌≤◌, ◌<◌, max, 
 use Rattle.spp_site.proofs.LastFirst.{topped}
 use Rattle.spp_ways.specs.declared.log.LogRow.{LogRow}
 use Rattle.spp_ways.specs.declared.open_ways.OnPaths.{OnPaths}
-use Rattle.spp_ways.specs.declared.open_ways.FrameWays.{FrameWays}
+use Rattle.spp_ways.specs.declared.frame_ways.FrameWays.{FrameWays}
 use Rattle.spp_ways.specs.declared.open_ways.OpenWays.{OpenWays}
 use Rattle.spp_ways.specs.OpenWays.{plain_of, burdened_of, Laid, chosen, waited_frame}
 use Rattle.spp_ways.proofs.Returning.{chosen_in}
