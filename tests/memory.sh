@@ -97,9 +97,10 @@ each_refused() { # NAME STATUS STARTS OUT ERR INPUT PROGRAM WORDS..: what the pr
 # Each call twice: of the crew figures, profile, the same in three rounds, and marks by two workers, with 1, 1, 4 and 3 threads.
 each_refused 'the calls' 0 18 "$(cat "$tests/../crates/memory_probe/stdout")" '' /dev/null "$probe"
 
-# A round has a thread for each worker but one. `profile` by several workers of a trace of many call sites, which is read whole,
-# has three rounds, and settles its paths on two threads; of any other, which comes in blocks, it has a thread for each block,
-# but where a run is deep. With one worker it has none.
+# A round has a thread for each worker but one. `profile` by several workers of a trace of many call sites and at most 2^22
+# events, which is read whole, has three rounds, and settles its paths on two threads; of any other, which comes in blocks, it
+# has a thread for each block that it doesn't read itself, and of many call sites one for the rows of a block that are kept
+# aside. With one worker it has none.
 examples=$tests/../examples
 head -c 23 "$examples/small.sptrace" > "$folder/short"
 { head -c 100 "$examples/small.sptrace"; head -c 16 /dev/zero | tr '\0' '\5'; } > "$folder/tag"
@@ -139,6 +140,15 @@ each_refused 'profile over blocks' 0 3 'name,count*' '' "$folder/blocks" "$sppro
 # Two blocks of 131,072 bytes, and one that is less.
 "$spprof" migrate < "$folder/blocks" > "$folder/blocks.compact"
 each_refused 'profile over blocks, version 2' 0 3 'name,count*' '' "$folder/blocks.compact" "$spprof" profile --csv --workers 2
+# Blocks of so many call sites that other threads add up the rows of the first three and of the fifth; the fourth has none,
+# and the sixth is slow to join. The header claims more events, so many that the trace isn't read whole.
+{ awk 'BEGIN { print "func f"; for (n = 0; n < 5000; n++) print "site s" n
+    for (n = 0; n < 65536; n++) print "spawn", n % 5000, "0\nstrand", (n < 5000) "\nreturn"
+    for (n = 0; n < 65536; n++) print "strand 1"
+    for (n = 0; n < 21900; n++) print "spawn", n % 5000, "0\nstrand 1\nreturn"
+    for (n = 0; n < 40000; n++) print "call", n % 5000, "0\nreturn" }' | "$spprof" encode; } > "$folder/adders"
+printf '\0\x50\0\0' | dd of="$folder/adders" bs=1 seek=20 conv=notrunc 2> /dev/null
+each_refused 'profile by threads that add rows up' 1 11 '' 'bad event 407844: truncated' "$folder/adders" "$spprof" profile --workers 2
 each_refused 'profile by one worker' 0 0 'work 32744*' '' "$examples/nqueens.sptrace" "$spprof" profile --workers 1
 each_refused 'compare by one worker' 0 0 'work 10 17*' '' /dev/null "$spprof" compare --workers 1 "$folder/two" "$examples/small.sptrace"
 each_refused 'marks by workers' 0 3 '111100011' '' "$folder/two" "$printer" marks 9 2
@@ -258,7 +268,7 @@ peaks_within 24000 0 "$folder/headed" check "$folder/headed"
 size=$(($(stat -c %s "$folder/compact") / 1024))
 peaks_within 20000 0 "$folder/compact" check
 peaks_within 20000 0 "$folder/compact" figures --workers 1 "$folder/compact"
-# Of 30,000 sites, each called in turn, rows are added up in three tables: 67 MB by blocks.
+# Of 30,000 sites, each called in turn, blocks are slow to join: one thread reads most of these 67 MB.
 awk 'BEGIN { print "func f"; for (n = 0; n < 30000; n++) print "site s" n
     for (n = 0; n < 1400000; n++) print "call", n * 7 % 30000, "0\nstrand 5\nreturn" }' | "$spprof" encode > "$folder/row"
 peak_within 125000 "$folder/row" profile --workers 2

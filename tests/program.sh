@@ -421,11 +421,17 @@ wanted=$("$spprof" profile --csv --workers 4 "$folder/many")
 for many in many many.compact; do
     expect "tables of many call sites in blocks, $many" 0 "$wanted$lf" '' /dev/null profile --csv --workers 1 "$folder/$many"
 done
-# Of so many events blocks are read by several workers, and other threads add rows up. Frames around the rows, one of which ends
-# half way, decide which are top.
-awk 'BEGIN { print "func f\nfunc g"; for (n = 0; n < 1030; n++) print "site s" n
+# Of so many events blocks are read by several workers. By turns other threads add their rows up, they have no rows, and they are
+# slow to join. Frames around the rows, one of which ends half way, decide which are top.
+awk 'BEGIN { print "func f\nfunc g"; for (n = 0; n < 6000; n++) print "site s" n
     print "call 5 1\ncall 6 0"
-    for (n = 0; n < 1400000; n++) print (n % 3 ? "call" : "spawn"), n * 7 % 1030, n % 2 "\nstrand", n % 11 "\nreturn" (n % 5 ? "" : "\nsync") (n == 700000 ? "\nreturn" : "")
+    for (n = 0; n < 2000000; n++) {
+        turn = int(n / 130000) % 4
+        if (turn == 2) print "strand", n % 11
+        else if (turn == 3) print "call", n % 6000, n % 2 "\nreturn"
+        else print (n % 6 ? "spawn" : "call"), n * 7 % 6000, n % 2 "\nstrand", n % 11 "\nreturn" (n % 5 ? "" : "\nsync")
+        if (n == 1000000) print "return"
+    }
     print "return" }' | "$spprof" encode > "$folder/many"
 wanted=$("$spprof" profile --csv --workers 1 "$folder/many")
 for workers in 2 4 64; do

@@ -61,5 +61,9 @@ module _ (t : Recording) (b : Burdens) (i : ℕ) (r : ProfileSoFar) where
   pub earlier_alone : (earlier : Option Adder) → IsSoFarBut (adder_row earlier) t b i r → IsSoFarBut (λ key. plus (adder_row earlier key) (adder_row None key)) t b i r
   earlier_alone earlier = same_lent (adder_row earlier) (λ key. plus (adder_row earlier key) (adder_row None key)) (λ key. sym (plus-zero (adder_row earlier key)))
 
+  -- nor any earlier one
+  pub later_alone : (later : Option Adder) → IsSoFarBut (adder_row later) t b i r → IsSoFarBut (λ key. plus (adder_row None key) (adder_row later key)) t b i r
+  later_alone later = same_lent (adder_row later) (λ key. plus (adder_row None key) (adder_row later key)) (λ key. sym (zero-plus (adder_row later key)))
+
   pub none_shared : IsSoFar t b i r → IsSoFarBut (λ key. plus (adder_row None key) (adder_row None key)) t b i r
   none_shared = same_lent no_rows (λ key. plus (adder_row None key) (adder_row None key)) (λ key. sym (zero-plus (no_rows key)))

@@ -80,12 +80,12 @@ pub(crate) trait SoFar: Drop {
     fn wait<R: Threads>(rt: &R, thread: Self::Thread) -> BlockRead<Self::Part>
         ensures { IfOk result.part (is_part (block_of thread)) };
 
-    /// Waits for a thread of its own, if it has one, and lets go of all.
+    /// Waits for the threads that it has, and lets go of all.
     fn let_go<R: Threads>(self, rt: &R);
 
     /// Whether to join what a block comes to takes about as long as to read the block. No clause says when: answers don't depend
     /// on it.
-    fn is_deep(part: &Self::Part) -> bool;
+    fn joins_slowly(part: &Self::Part) -> bool;
 
     /// Goes on by what the next block comes to.
     ///

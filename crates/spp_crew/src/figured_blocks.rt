@@ -116,7 +116,7 @@ impl SoFar for Summary {
     fn let_go<R: Threads>(self, _rt: &R) {}
 
     /// Never: to join a summary takes less than to read its block.
-    fn is_deep(_part: &Summary) -> bool {
+    fn joins_slowly(_part: &Summary) -> bool {
         false
     }
 

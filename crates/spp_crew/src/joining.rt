@@ -13,18 +13,18 @@ use std::alloc::{AllocError, Global};
 use std::collections::VecDeque;
 use std::thread::Threads;
 
-/// The most blocks that one thread reads behind a deep one before another thread reads one again.
+/// The most blocks that one thread reads behind a slow one before another thread reads one again.
 const MOST_BLOCKS_ALONE: u32 = 32;
 
-/// Who reads the next blocks, where there are several workers. To join deep blocks takes as long as to read them, so one thread
-/// reads where a run is deep. No clause says when: the answers don't depend on it.
+/// Who reads the next blocks, where there are several workers. To join slow blocks takes as long as to read them, so one thread
+/// reads where a run has such blocks. No clause says when: the answers don't depend on it.
 #[derive(Clone, Copy)]
 enum Readers {
     /// As many threads as there are workers.
     All,
     /// This thread.
     Here {
-        /// So many blocks. Then another thread reads one, which shows whether the run is still deep.
+        /// So many blocks. Then another thread reads one, which shows whether they are still slow to join.
         left: u32,
         /// How many they were at first.
         all: u32,
@@ -32,11 +32,11 @@ enum Readers {
 }
 
 impl Readers {
-    /// Those behind a block that was joined, and is deep or isn't: behind the first deep one this thread reads two, and twice as
-    /// many whenever the next that another thread has read is deep, too.
-    fn behind_joined(self, is_deep: bool) -> Readers {
+    /// Those behind a block that was joined, and is slow or isn't: behind the first slow one this thread reads two, and twice as
+    /// many whenever the next that another thread has read is slow, too.
+    fn behind_joined(self, is_slow: bool) -> Readers {
         let all = match self {
-            _ if !is_deep => return Readers::All,
+            _ if !is_slow => return Readers::All,
             Readers::All => 2,
             Readers::Here { all, .. } => all.saturating_mul(2).min(MOST_BLOCKS_ALONE),
         };
@@ -147,7 +147,7 @@ impl<A: SoFar> Joining<A> {
             so_far.let_go(rt);
             return Err(ProfileFault::Memory);
         };
-        let readers = readers.behind_joined(A::is_deep(&part));
+        let readers = readers.behind_joined(A::joins_slowly(&part));
         match so_far.join(rt, alloc, part, burdens) {
             Ok(so_far) => Ok((
                 Joining {
@@ -268,7 +268,7 @@ impl<A: SoFar> Joining<A> {
             so_far.let_go(rt);
             return Err(ProfileFault::Memory);
         };
-        let readers = readers.behind_joined(A::is_deep(&part));
+        let readers = readers.behind_joined(A::joins_slowly(&part));
         match so_far.join(rt, alloc, part, burdens) {
             Ok(so_far) => Ok(Joining::read_by(alloc, so_far, readers)),
             Err(fault) => Err(fault),
@@ -314,7 +314,7 @@ impl<A: SoFar> Joining<A> {
 
     /// Goes on by the next block, and gives room for another one's bytes. By several workers a new thread reads the block, once
     /// no more than so many are left with it: this one waits for the first of them, and joins what it brings. This thread reads
-    /// the block itself where there is one worker, and for some blocks behind a deep one.
+    /// the block itself where there is one worker, and for some blocks behind a slow one.
     ///
     /// # Errors
     ///
@@ -340,7 +340,7 @@ impl<A: SoFar> Joining<A> {
             Ok(joined) => joined,
             Err(fault) => return Err(fault),
         };
-        // What was joined may be deep.
+        // What was joined may be slow.
         if joining.readers.threads(workers) == 0 {
             return joining.read_here(rt, alloc, block);
         }

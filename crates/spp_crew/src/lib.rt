@@ -11,7 +11,8 @@
 //!
 //! A trace of either version can also come block by block, and need not be kept: [`RecordFigures`], [`RecordProfile`]. Each block
 //! is read by a thread of its own, whose handle promises that what it brings is of that block, and the calling thread joins
-//! in order what they bring; there is no desk and no round.
+//! in order what they bring, or reads the block itself: where there is one worker, and where blocks are slow to join. There
+//! is no desk and no round.
 #![tactic(auto)]
 
 mod block;

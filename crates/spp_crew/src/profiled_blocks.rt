@@ -96,8 +96,8 @@ impl SoFar for SharedProfile {
         thread.join(rt)
     }
 
-    fn is_deep(part: &PartProfile) -> bool {
-        part.is_deep()
+    fn joins_slowly(part: &PartProfile) -> bool {
+        part.joins_slowly()
     }
 
     fn join<R: Threads>(
@@ -107,12 +107,13 @@ impl SoFar for SharedProfile {
         part: PartProfile,
         burdens: Burdens,
     ) -> Result<Self, ProfileFault> {
-        if self.shares_rows() {
+        if self.shares_rows_of(&part) {
             return self.join_and_share(rt, alloc, part, burdens);
         }
+        let shares = self.shares_rows();
         let mut so_far = self.gathered(rt)?;
         match so_far.join(alloc, &part, burdens) {
-            Ok(()) => Ok(SharedProfile::alone(so_far, false)),
+            Ok(()) => Ok(SharedProfile::alone(so_far, shares)),
             Err(fault) => Err(fault),
         }
     }

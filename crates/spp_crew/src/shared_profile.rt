@@ -1,4 +1,4 @@
-//! The profile of a run so far, some of whose rows another thread adds up.
+//! The profile of a run so far, some of whose rows other threads add up.
 
 ghost use Rattle.std.specs.Prelude.{◌≡◌, ◌+◌, ◌<◌, ◌^◌, ℕ, Option, length, IfOk, IfErr};
 ghost use Rattle.spp_event.specs.Recordings.{Recording, InLimits, AreEventsOf};
@@ -35,9 +35,9 @@ pub(crate) struct SharedProfile {
     so_far: ProfileSoFar,
     /// Whether threads add rows up. The answer doesn't depend on it.
     shares: bool,
-    /// The thread that was started last but one, if it still has rows.
+    /// The first of two threads that have rows, if there is one. It was started before the other.
     earlier: Option<Adder>,
-    /// The thread that was started last.
+    /// The other.
     later: Option<Adder>,
 }
 
@@ -99,6 +99,12 @@ impl SharedProfile {
         self.shares
     }
 
+    /// Whether threads add up the rows of a part. They don't where it is slow to join: this one reads the next blocks then, and
+    /// would have to wait for them.
+    pub(crate) fn shares_rows_of(&self, part: &PartProfile) -> bool {
+        self.shares && !part.joins_slowly()
+    }
+
     /// Waits for the threads, if there are any, and lets go of all.
     pub(crate) fn let_go<R: Threads>(self, rt: &R) {
         let SharedProfile { earlier, later, .. } = self;
@@ -154,8 +160,8 @@ impl SharedProfile {
         }
     }
 
-    /// That profile, with a thread that still has rows, and a new one that adds up those that are kept aside. Where none can be
-    /// started, this one does.
+    /// That profile, with a thread that still has rows, and a new one that adds up those that are kept aside, if there are any. Where
+    /// none can be started, this one does.
     ///
     /// # Errors
     ///
@@ -170,6 +176,14 @@ impl SharedProfile {
         ensures { IfOk result (λ r. (trace : Recording) (burdens : BurdensValue) (i : ℕ) → IsSoFarBut (adder_row earlier) trace burdens i so_far → IsShared trace burdens i r) }
     {
         let mut so_far = so_far;
+        if !so_far.owes_rows() {
+            return Ok(SharedProfile {
+                so_far,
+                shares: true,
+                earlier: None,
+                later: earlier,
+            });
+        }
         let rows = so_far.lend(alloc);
         match add_up(rt, alloc, rows) {
             Ok(thread) => Ok(SharedProfile {
@@ -179,7 +193,10 @@ impl SharedProfile {
                 later: Some(thread),
             }),
             Err(Ok(rows)) => {
-                so_far.take_back(rows)?;
+                let Ok(()) = so_far.take_back(rows) else {
+                    let_go(rt, earlier);
+                    return Err(AllocError);
+                };
                 Ok(SharedProfile {
                     so_far,
                     shares: true,
@@ -194,8 +211,8 @@ impl SharedProfile {
         }
     }
 
-    /// Goes on by a part, and has a thread add up the rows of its long stretches: two at a time do, so that it isn't waited for the
-    /// last one.
+    /// Goes on by a part, and has a thread add up the rows of its long stretches. Two take turns, so that no join waits for the one
+    /// that was started last.
     ///
     /// # Errors
     ///
@@ -217,11 +234,10 @@ impl SharedProfile {
             later,
             ..
         } = self;
-        let Ok(so_far) = SharedProfile::with_rows_of(rt, so_far, earlier) else {
+        let Ok(mut so_far) = SharedProfile::with_rows_of(rt, so_far, earlier) else {
             let_go(rt, later);
             return Err(ProfileFault::Memory);
         };
-        let mut so_far = so_far;
         match so_far.join_aside(alloc, part, burdens) {
             Ok(()) => Ok(SharedProfile::sharing(rt, alloc, so_far, later)?),
             Err(fault) => {

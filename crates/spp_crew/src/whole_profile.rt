@@ -49,7 +49,7 @@ fn finer<'t, 'a>(alloc: Global, cut: &Cut<'t, 'a>) -> Result<Option<Cut<'t, 'a>>
 /// which of them draws which part, and in which order the parts are done doesn't show in the profile.
 ///
 /// Where the trace names no more than 1,024 call sites, it is made in one round, as by [`profile_once`], and each event is
-/// read once; the trace is then cut anew if its parts have more than 65,536 events on average. Else it is made in three, as by
+/// read once; the trace is then cut anew if its parts have 65,536 events or more on average. Else it is made in three, as by
 /// [`profile_in_rounds`]. Time and memory are those of these calls. The work is below 2^92.
 ///
 /// # Errors

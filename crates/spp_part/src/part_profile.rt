@@ -186,6 +186,12 @@ const DEEP_FRAMES: usize = 1024;
 /// And they are at least one for so many of its events.
 const EVENTS_OF_A_FRAME: usize = 8;
 
+/// Fewer rows than that, of calls and of ways, are soon joined.
+const MANY_ROWS: usize = 8192;
+
+/// A row is joined in about the time in which so many events are read.
+const EVENTS_OF_A_ROW: usize = 2;
+
 impl PartProfile {
     /// Whether so many of its stretches have ended, and so many frames are left open, that to join the part takes about as long as
     /// to read its events. No clause says when it is so: answers don't depend on it.
@@ -195,6 +201,17 @@ impl PartProfile {
             .len()
             .saturating_add(self.last.counted.open_frames());
         frames >= DEEP_FRAMES && frames >= self.good as usize / EVENTS_OF_A_FRAME
+    }
+
+    /// Whether to join the part takes about as long as to read its events: it is deep, or its last stretch has one row for two
+    /// events, as where a frame calls by many sites in turn. No clause says when: answers don't depend on it.
+    pub fn joins_slowly(&self) -> bool {
+        let rows = self
+            .last
+            .calls
+            .len()
+            .saturating_add(self.last.logged.rows());
+        self.is_deep() || (rows >= MANY_ROWS && rows >= self.good as usize / EVENTS_OF_A_ROW)
     }
 
     /// What a part comes to, by a reader that stands at its first event.
@@ -235,11 +252,11 @@ impl PartProfile {
     /// number of a site and of a function up to the greatest in the part.
     ///
     /// For each of its stretches it takes 128 bytes for each pair of a call site and a function that calls by it, and at worst,
-    /// where nearly each pair is new, for each frame that closes in the part and was opened there; and 112 for each of these
+    /// where there are thousands of pairs, for each frame that closes in the part and was opened there; and 112 for each of these
     /// frames that was on a greatest way, on either path, as it returned. A stretch ends at each return of a frame that was open
     /// before, and at the first sync of such a frame: each takes 24 bytes, and 350 to 470 more if it isn't strands alone. Each
     /// frame that the part leaves open takes 224. All that is up to twice as much with spare room, and more where stretches
-    /// have few rows. While the part is read, some 50 bytes more are taken for each pair, and 2 MB at most.
+    /// have few rows. While the part is read, some 50 bytes more are taken for each pair, and 32 KB at most.
     ///
     /// # Errors
     ///

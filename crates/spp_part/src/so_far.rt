@@ -30,7 +30,7 @@ use std::alloc::{AllocError, Global};
 use std::mem;
 
 /// Rows of a stretch that are so many take longer to add to a table than it takes to copy what encloses the stretch.
-const MANY_CALLS: usize = 512;
+const MANY_CALLS: usize = 4096;
 
 /// The profile of a run so far: what the events up to a position have come to.
 #[derive(Drop)]
@@ -382,9 +382,15 @@ impl ProfileSoFar {
         Ok(())
     }
 
+    /// Whether there are rows that are kept aside and in no table yet. No clause says when: answers don't depend on it.
+    pub fn owes_rows(&self) -> bool {
+        self.aside.owes()
+    }
+
     /// Gives the rows away that are kept aside, so that another thread adds them up. It takes constant time.
     pub fn lend(&mut self, alloc: Global) -> RowsAside
-        ensures { (lent : Rows) (trace : Recording) (burdens : BurdensValue) (i : ℕ) → IsSoFarBut lent trace burdens i self.old → IsSoFarBut (λ key. plus (aside_row result key) (lent key)) trace burdens i self.new }
+        ensures all { result ≡ self.old.aside }
+        ensures so_far { (lent : Rows) (trace : Recording) (burdens : BurdensValue) (i : ℕ) → IsSoFarBut lent trace burdens i self.old → IsSoFarBut (λ key. plus (aside_row result key) (lent key)) trace burdens i self.new }
     {
         mem::replace(&mut self.aside, RowsAside::new(alloc))
     }

@@ -1,6 +1,6 @@
 //! Rows of frames that have closed, kept beside the table of a run.
 
-ghost use Rattle.std.specs.Prelude.{◌≡◌, ℕ, Option, OnOk, IfOk};
+ghost use Rattle.std.specs.Prelude.{◌≡◌, [], ℕ, Option, OnOk, IfOk};
 ghost use Rattle.spp_dag.specs.Shares.{plus, zero_row};
 ghost use Rattle.spp_site.specs.Rows.{Fits};
 ghost use Rattle.spp_site.specs.Profiles.{key_row};
@@ -33,6 +33,11 @@ impl RowsAside {
         }
     }
 
+    /// Whether there are rows that no table has yet.
+    pub fn owes(&self) -> bool {
+        !self.owed.is_empty()
+    }
+
     /// These with some more, which no table has yet. It takes constant time, amortized.
     ///
     /// # Errors
@@ -56,7 +61,8 @@ impl RowsAside {
     ///
     /// Where an allocation failed.
     pub fn added_up(self, alloc: Global) -> Result<Self, AllocError>
-        ensures { IfOk result (λ r. (key : Option ℕ) → aside_row r key ≡ aside_row self key) }
+        ensures rows { IfOk result (λ r. (key : Option ℕ) → aside_row r key ≡ aside_row self key) }
+        ensures none_owed { IfOk result (λ r. r.owed.items ≡ []) }
     {
         let RowsAside { mut table, owed } = self;
         OwedCalls::add_all(&mut table, &owed)?;

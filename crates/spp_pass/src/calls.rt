@@ -84,8 +84,8 @@ const NO_CALLER: u32 = u32::MAX;
 /// The fewest places, where there are any.
 const FEWEST_PLACES: usize = 64;
 
-/// The most places: as many as `first_place` tells apart.
-const MOST_PLACES: usize = 131_072;
+/// The most places: so many fit into the processor's nearest cache. Of more rows some aren't found again, and frames get new ones.
+const MOST_PLACES: usize = 2048;
 
 /// How many neighbouring places are looked at for a row.
 const PROBES: usize = 4;
@@ -98,7 +98,7 @@ const FREE: Place = Place {
 };
 
 /// What the frames come to that were opened and have closed in a stretch so far: rows, each for some of the frames of a call
-/// site and a function that calls by it. Most of these pairs have one row.
+/// site and a function that calls by it. Where such pairs are few, most of them have one row.
 #[derive(Drop)]
 pub struct Calls {
     /// The rows.
@@ -174,13 +174,13 @@ impl Calls {
             self.add_at(k, frame);
             return Ok(());
         }
-        self.add_aside(place, site, caller, *frame)
+        self.add_elsewhere(place, site, caller, *frame)
     }
 
     /// The same, where no row is at that place. It takes the frame by its value, so that the caller has no need to keep one in
     /// memory.
     #[inline(never)]
-    fn add_aside(
+    fn add_elsewhere(
         &mut self,
         place: usize,
         site: u32,

@@ -110,7 +110,7 @@ pub struct Ended {
 pub struct CountedStretch {
     /// The frame in which it begins, by what the stretch adds to it.
     outer: CountedFrame,
-    /// Those that it leaves open, behind one that isn't used; that one at most where there are none.
+    /// The first isn't used, and those that it leaves open follow it; where there are none, that one alone or nothing.
     frames: Vec<CountedFrame>,
     /// The counts of its strands.
     work: u128,

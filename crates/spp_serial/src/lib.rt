@@ -100,7 +100,8 @@ fn profile_by<R: Reader>(
 /// The events are read once, each in constant time, amortized, behind a step for each site and function. The memory is
 /// linear in the numbers of sites and of functions and in that of the frames that are open at a time; for each of these
 /// there are, besides, 112 bytes for each frame that it has called or spawned and that has closed, up to 256 of them or half
-/// the number of sites, or else some 512 bytes for each site that its greatest ways enter. The work is below 2^92.
+/// the number of sites, or else some 512 bytes for each site that its greatest ways enter; of all frames together up to 4,096
+/// or four for each site more. The work is below 2^92.
 ///
 /// # Errors
 ///

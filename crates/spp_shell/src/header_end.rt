@@ -66,8 +66,8 @@ fn names_behind(bytes: &[u8]) -> Option<u64> {
     let events = word(bytes, 20)?;
     let magic = bytes.first_chunk();
     let is_trace = magic == Some(b"SPTRACE1") || magic == Some(b"SPTRACE2");
-    let are_few = funcs <= MOST_NAMES && sites <= MOST_NAMES && events <= MOST_EVENTS;
-    if is_trace && are_few && root < funcs {
+    let in_limits = funcs <= MOST_NAMES && sites <= MOST_NAMES && events <= MOST_EVENTS;
+    if is_trace && in_limits && root < funcs {
         Some(u64::from(funcs) + u64::from(sites))
     } else {
         Some(0)
@@ -167,8 +167,8 @@ impl HeaderEnd {
         self.at
     }
 
-    /// Whether the header ends within these bytes, or begins with 24 bytes or names that are bad; they are those of the calls
-    /// before and more. Where it ends, two sites may still have one name, and late names be bad. All calls together take a time
+    /// Whether the header ends within these bytes, or begins with 24 bytes or names that are bad. The bytes are those of the
+    /// calls before, and more. Where it ends, two sites may still have one name, and late names be bad. All calls together take a time
     /// linear in the bytes of the header, and in the number of calls.
     pub(crate) fn is_in(&mut self, bytes: &[u8]) -> bool {
         let Some(mut at) = self.begun(bytes) else {

@@ -20,7 +20,7 @@ pub(crate) trait Records: Drop {
     ghost has_seen: { AVersion → Self → Self → List ℕ → Type 0 };
 
     /// The same behind the first `len` of these bytes as well, which are `count` whole events of that version, and room for other
-    /// bytes: a list of any, mostly of as many. It may have the runtime start threads.
+    /// bytes: a list of any, mostly as long. It may have the runtime start threads.
     ///
     /// # Errors
     ///

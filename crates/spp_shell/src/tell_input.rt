@@ -203,7 +203,7 @@ fn open_header<'a>(
 /// What is told of the run whose trace an input gives, or why nothing is.
 ///
 /// The events of a trace are profiled as they come, in blocks, and let go; by two workers or more each block is read by a thread of
-/// its own, while the next ones come. Read whole first are a trace that is kept ([`is_kept`]), an
+/// its own, while the next ones come, but where blocks are slow to join. Read whole first are a trace that is kept ([`is_kept`]), an
 /// input that ends within its header, and one where memory is refused for its header or for the beginning of its profile. Where no
 /// trace begins as it does, it is refused without reading on where [`open_front`] shows that, but for a kept one of many names.
 pub(crate) fn tell_input<R: Threads + Wait + Sync, S: Source, T: Telling>(

@@ -1,6 +1,6 @@
 //! The ways into one open frame of a run, on both paths.
 
-ghost use Rattle.std.specs.Prelude.{◌≡◌, ◌+◌, ◌-◌, ◌*◌, max, min, nat_lt, ◌<◌, ◌≤◌, ◌^◌, ℕ, true};
+ghost use Rattle.std.specs.Prelude.{◌≡◌, ◌+◌, ◌-◌, ◌*◌, max, min, nat_lt, ◌<◌, ◌≤◌, ◌^◌, ℕ, true, if◌then◌else◌, false};
 ghost use Rattle.spp_ways.specs.OpenWays.{
   on_path,
   plain_of,
@@ -375,14 +375,14 @@ impl FrameWays {
         }
     }
 
-    /// Whether its rows are to be merged, where the log has so many.
+    /// Whether its rows are to be merged, where the log has so many, and none are before it has more than `room`.
     #[inline(always)]
-    pub(crate) fn is_full(&self, rows: u32) -> bool
-        ensures full { result ≡ nat_lt (max (self.now.limit - self.now.stored) 1) (rows - self.now.start) }
+    pub(crate) fn is_full(&self, rows: u32, room: u32) -> bool
+        ensures full { result ≡ (if nat_lt room rows then nat_lt (max (self.now.limit - self.now.stored) 1) (rows - self.now.start) else false) }
         ensures two { result ≡ true → self.now.start + 2 ≤ rows }
     {
         let most = self.limit.saturating_sub(self.stored);
-        rows.saturating_sub(self.start) > most.max(1)
+        rows > room && rows.saturating_sub(self.start) > most.max(1)
     }
 
     /// The way on which the frame goes on where it waits, on that path: without burdens, or under them.

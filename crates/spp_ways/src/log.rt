@@ -273,6 +273,13 @@ impl Log {
         self.rows.len() as u32
     }
 
+    /// The same, however many there are.
+    pub(crate) fn count(&self) -> usize
+        ensures { result ≡ length self.now.rows.items }
+    {
+        self.rows.len()
+    }
+
     /// Whether there is no row behind the first.
     pub(crate) fn is_short(&self) -> bool
         ensures { result ≡ true → length self.now.rows.items < 2 }

@@ -64,13 +64,19 @@ pub struct OnPaths {
 pub struct LoggedStretch {
     /// Into the frame in which it begins.
     outer: FrameWays,
-    /// Into those that it leaves open, behind one that isn't used; that one at most where there are none.
+    /// The first isn't used, and those into the frames that it leaves open follow it; where there are none, that one alone or
+    /// nothing.
     frames: Vec<FrameWays>,
     /// The rows, the first of which stands for the way into the outer frame before the stretch; none where there is no other.
     log: Log,
 }
 
 impl LoggedStretch {
+    /// How many rows it has.
+    pub fn rows(&self) -> usize {
+        self.log.count()
+    }
+
     /// Whether the stretch is strands of so many instructions alone, as far as its ways tell.
     pub fn is_strand(&self, count: u64) -> bool
         ensures { result ≡ true → IsStrand count self.now }
@@ -95,6 +101,12 @@ fn is_entered(kind: FrameKind, wins: OnPaths) -> bool
 /// these, since merging takes a step for each.
 const LEAST_LIMIT: u32 = 256;
 
+/// No rows are merged while the log has at most so many: they lie in the processor's nearer caches.
+const LEAST_ROOM: u32 = 4096;
+
+/// Nor while it has at most so many for each call site, since merging takes up to four steps for each.
+const ROOM_OF_A_SITE: u32 = 4;
+
 /// Where more rows are stored than that, it doesn't matter how many.
 const MOST_STORED: usize = u32::MAX as usize;
 
@@ -103,16 +115,19 @@ const MOST_STORED: usize = u32::MAX as usize;
 /// frame takes, and which of two children is kept, is told by whoever keeps their weights.
 ///
 /// A closed frame that a way enters takes a row of 112 bytes in a log; rows behind the last one that a way ends with are cut
-/// off. Where the rows of an open frame are more than 256, and more than half of the trace's call sites, those of its ways
-/// are merged: what they add to each site is stored, in some 128 bytes a site for each way and path, up to four times
-/// that with spare room. What is stored counts towards the next time, which is not before twice as much. An open frame takes
-/// 96 bytes besides. Each step takes constant time, amortized. After an error the ways are of no use.
+/// off. Where the log has over 4,096 rows, and over four for each of the trace's call sites, and over 256 of these are an open
+/// frame's, and over half as many as sites, those of its ways are merged: what they add to each site is stored, in some 128
+/// bytes a site for each way and path, up to four times that with spare room. What is stored counts towards the next time,
+/// which is not before twice as much. An open frame takes 96 bytes besides. Each step takes constant time, amortized. After an
+/// error the ways are of no use.
 #[derive(Drop)]
 pub struct OpenWays {
     frames: Vec<FrameWays>,
     log: Log,
     /// Of how many rows a frame that is opened has its own merged.
     limit: u32,
+    /// How many rows the log may have before any are merged. No clause says so: the ways are the same.
+    room: u32,
 }
 
 impl OpenWays {
@@ -134,6 +149,7 @@ impl OpenWays {
             frames,
             log: Log::new(alloc),
             limit,
+            room: sites.saturating_mul(ROOM_OF_A_SITE).max(LEAST_ROOM),
         })
     }
 
@@ -279,7 +295,7 @@ impl OpenWays {
         })?;
         parent.come(kind, wins, rows);
         parent.inherit(stored, limit);
-        Ok(parent.is_full(rows))
+        Ok(parent.is_full(rows, self.room))
     }
 
     /// The innermost frame returns to the one below. `kind` and `site` tell how it was entered; `takes` on which paths it
@@ -361,6 +377,7 @@ impl OpenWays {
             frames,
             log,
             limit: 0,
+            room: 0,
         })
     }
 
@@ -426,7 +443,8 @@ impl OpenWays {
     /// Joins the ways of a stretch onto these, which stand before it. `wins` tells on which paths the way through the child
     /// that waits in its outer frame is greater than that through the one that waits in the innermost frame here, or none
     /// does; `enclosing` what encloses the stretch. It takes constant time for each row and each frame of the stretch; where
-    /// the outer frame has too many rows then, they are merged, which takes constant time for each, amortized over the run.
+    /// it leaves none open, and the innermost frame here has too many rows then, they are merged, which takes constant time for
+    /// each, amortized over the run.
     ///
     /// # Errors
     ///
@@ -457,7 +475,7 @@ impl OpenWays {
         self.frames[last].join(&stretch.outer, wins, links);
         self.open_inner(stretch, links)?;
         let alone = stretch.frames.len() < 2;
-        if alone && self.frames[last].is_full(self.log.len()) {
+        if alone && self.frames[last].is_full(self.log.len(), self.room) {
             self.merge(alloc)?;
         }
         Ok(())

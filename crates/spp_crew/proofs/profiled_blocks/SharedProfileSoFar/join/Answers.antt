@@ -10,11 +10,11 @@ join_and_share-requires g c =
     let q = c.requires in
     (q.0, q.1, count_of q.2, q.3, part_at q.0 c.args.burdens q.1 q.2 q.4 c.args.part q.5)
 
-pub returns-then-shares_rows-clause-so_far : goal.returns-then-shares_rows-clause-so_far
-returns-then-shares_rows-clause-so_far g c = if_ok c.join_and_share.result (λ s h. λ trace i block shared at part. h trace i (count_of block) shared (part_at trace c.args.burdens i block at c.args.part part)) c.join_and_share.ensures.so_far
+pub returns-then-shares_rows_of-clause-so_far : goal.returns-then-shares_rows_of-clause-so_far
+returns-then-shares_rows_of-clause-so_far g c = if_ok c.join_and_share.result (λ s h. λ trace i block shared at part. h trace i (count_of block) shared (part_at trace c.args.burdens i block at c.args.part part)) c.join_and_share.ensures.so_far
 
-pub returns-then-shares_rows-clause-fault : goal.returns-then-shares_rows-clause-fault
-returns-then-shares_rows-clause-fault g c = if_err c.join_and_share.result (λ f h. λ trace i block shared at part. h trace i (count_of block) shared (part_at trace c.args.burdens i block at c.args.part part)) c.join_and_share.ensures.fault
+pub returns-then-shares_rows_of-clause-fault : goal.returns-then-shares_rows_of-clause-fault
+returns-then-shares_rows_of-clause-fault g c = if_err c.join_and_share.result (λ f h. λ trace i block shared at part. h trace i (count_of block) shared (part_at trace c.args.burdens i block at c.args.part part)) c.join_and_share.ensures.fault
 
 pub join-requires : goal.join-requires
 join-requires g c =

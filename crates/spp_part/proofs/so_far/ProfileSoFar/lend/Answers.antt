@@ -7,8 +7,8 @@ use Rattle.spp_pass.specs.AsideRows.{aside_row}
 use Rattle.spp_part.proofs.Standing.{same_rest}
 use Rattle.spp_part.proofs.so_far.ProfileSoFar.lend.Goals as goal
 
-pub returns : goal.returns
-returns c lent trace burdens i so = (
+pub returns-clause-so_far : goal.returns-clause-so_far
+returns-clause-so_far c lent trace burdens i so = (
   same_rest trace burdens i false c.args.self.now.counting c.args.self.now.ways so.0 _
       (λ key. ap (λ (a : RowsAside). plus (aside_row a key) (lent key)) (sym c.replace.ensures.value)
       ∙ sym (zero-plus (plus (aside_row c.replace.result key) (lent key)))
