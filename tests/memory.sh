@@ -271,7 +271,7 @@ peaks_within 20000 0 "$folder/compact" figures --workers 1 "$folder/compact"
 # Of 30,000 sites, each called in turn, blocks are slow to join: one thread reads most of these 67 MB.
 awk 'BEGIN { print "func f"; for (n = 0; n < 30000; n++) print "site s" n
     for (n = 0; n < 1400000; n++) print "call", n * 7 % 30000, "0\nstrand 5\nreturn" }' | "$spprof" encode > "$folder/row"
-peak_within 125000 "$folder/row" profile --workers 2
+peak_within 75000 "$folder/row" profile --workers 2
 # `migrate` keeps what it writes: two bytes for each of these events.
 size=$(($(stat -c %s "$folder/long") / 1024))
 peaks_within 32000 0 "$folder/long" migrate
