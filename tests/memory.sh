@@ -162,6 +162,11 @@ printf 'func f\nsync\nsync 1 2 3 4 5\n' > "$folder/text"
 each_refused 'encode, a bad text' 1 0 '' 'bad text line 3: count' "$folder/text" "$spprof" encode
 printf 'func f\n\377' > "$folder/bytes"
 each_refused 'encode, bytes that are no text' 1 0 '' 'bad text line 2: word' "$folder/bytes" "$spprof" encode
+{ printf 'func f\n' && for site in {1..2500}; do echo "# a comment before the call site of number $site"; echo "site s$site"; done
+    yes 'call 7 0'$'\n'return | head -n 10000; } > "$folder/lines"
+each_refused 'encode over blocks' 0 0 'SPTRACE1*' '' "$folder/lines" "$spprof" encode
+echo 'site s' >> "$folder/lines"
+each_refused 'encode over blocks, a name too late' 1 0 '' 'bad text line 15002: late' "$folder/lines" "$spprof" encode
 each_refused 'migrate, a recorded trace' 0 0 'SPTRACE2*' '' "$examples/nqueens.sptrace" "$spprof" migrate
 each_refused 'migrate, a bad event' 1 0 '' 'bad event 4: tag' "$folder/tag" "$spprof" migrate
 each_refused 'migrate, version 2' 0 0 'SPTRACE2*' '' "$examples/nqueens.compact" "$spprof" migrate
@@ -272,6 +277,9 @@ peaks_within 20000 0 "$folder/compact" figures --workers 1 "$folder/compact"
 awk 'BEGIN { print "func f"; for (n = 0; n < 30000; n++) print "site s" n
     for (n = 0; n < 1400000; n++) print "call", n * 7 % 30000, "0\nstrand 5\nreturn" }' | "$spprof" encode > "$folder/row"
 peak_within 75000 "$folder/row" profile --workers 2
+# `encode` keeps the trace of these 39 MB of lines, and not the lines.
+awk 'BEGIN { print "func f"; for (n = 0; n < 4300000; n++) print "strand", n % 7 }' > "$folder/lines"
+peak_within 75000 "$folder/lines" encode
 # `migrate` keeps what it writes: two bytes for each of these events.
 size=$(($(stat -c %s "$folder/long") / 1024))
 peaks_within 32000 0 "$folder/long" migrate

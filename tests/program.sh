@@ -326,6 +326,10 @@ done
 { printf 'SPTRACE1\0\0\0\1\0\0\4\6\0\0\0\0\0\0\0\1\0\1f' && printf '\0\4%s' {1000..2028} 2028; } > "$folder/alike"
 in_little 1 'profile of many sites, two of one name' 1 '' "bad header: same name 1030$lf" <(cat "$folder/alike" /dev/zero) profile --workers 4
 in_little 1 'encode of zeros in a file' 1 '' "bad text line 1: word$lf" <(head -c 100 /dev/zero) encode
+# Of a text that isn't UTF-8 that is told without reading on; behind another fault it is read on, and not kept, nor are comments.
+in_little 1 'encode of no UTF-8, without an end' 1 '' "bad text line 2: word$lf" <(printf 'func f\n\377\n' && yes sync) encode
+in_little 20 'encode of a long faulty text' 1 '' "bad text line 1: word$lf" <(yes frob | head -c 300000000) encode
+in_little 20 'encode of many comments' 1 '' "bad text line 60000001: no function$lf" <(yes '#one' | head -c 300000000) encode
 in_little 1 'compare: zeros without an end' 1 '' "after: bad header: magic$lf" /dev/null compare "$small" /dev/zero
 in_little 9 'an input from a file that is too long' 4 '' "out of memory$lf" "$folder/long" check
 # A file whose length the system tells as 0, though it has bytes.
@@ -531,6 +535,9 @@ judge 'a text of a million lines' 1 '' "bad text line 1000002: word$lf"
 timeout 30 "$spprof" encode < "$folder/input" > "$folder/out" 2> "$folder/err"
 status=$?
 judge 'a line of 20 million blanks' 0 'SPTRACE1*' ''
+{ printf 'func f\n#' && head -c 300000000 /dev/zero; } | timeout 30 "$spprof" encode > "$folder/out" 2> "$folder/err"
+status=$?
+judge 'a line of 300 million bytes' 0 'SPTRACE1*' ''
 { printf 'func f\nsync'; head -c 20000000 /dev/zero | tr '\0' 'x' | sed 's/xx/ x/g'; } > "$folder/text"
 timeout 30 "$spprof" encode < "$folder/text" > "$folder/out" 2> "$folder/err"
 status=$?
@@ -540,6 +547,36 @@ timeout 30 "$spprof" encode < "$folder/text" > "$folder/bytes" 2> "$folder/err"
 "$spprof" check < "$folder/bytes" > "$folder/out" 2>> "$folder/err"
 status=$?
 judge 'a text of many long names' 0 "work 0$lf" ''
+
+# A text is read in blocks of 65,536 bytes: whatever stands where one ends and the next begins, the trace is the same, and so
+# is the first fault. A comment in front moves each byte of these lines there; it ends with a character of two bytes.
+lines=$(printf 'func main\nsite A\r\n# \303\251\r\n\tspawn 0  0 \r\nstrand 18446744073709551615\nreturn\n\n sync\nstrand 7')
+zeros='\0\0\0\0\0\0\0'
+{ printf 'SPTRACE1\0\0\0\1\0\0\0\1\0\0\0\0\0\0\0\5\0\4main\0\1A' && printf "\2$zeros\0$zeros\0$zeros\377\377\377\377\377\377\377\377"
+    printf "\3$zeros\0$zeros\4$zeros\0$zeros\0$zeros$zeros\7"; } > "$folder/wanted.trace"
+moved=0
+for ((n = 65536 - ${#lines} - 12; n < 65540; n++)); do
+    { printf '#%*s\303\251\n' "$n" '' && printf %s "$lines"; } > "$folder/input"
+    "$spprof" encode < "$folder/input" 2> "$folder/err" | cmp -s - "$folder/wanted.trace" || moved=$((moved + 1))
+    tr 7 x < "$folder/input" | "$spprof" encode > "$folder/out" 2> "$folder/err"
+    [ $? -eq 1 ] && [ ! -s "$folder/out" ] && [ "$(cat "$folder/err")" = 'bad text line 6: number' ] || moved=$((moved + 1))
+done
+status=$moved
+: > "$folder/out" && : > "$folder/err"
+judge 'lines where a block of a text ends' 0 '' ''
+# The first fault is told though many lines follow it, and bytes that aren't UTF-8 before any fault, wherever they are.
+{ printf 'func f\nsite A\nsync\nsite B\n' && yes frob | head -n 200000; } > "$folder/text"
+expect 'a fault in the first block' 1 '' "bad text line 4: late$lf" "$folder/text" encode
+{ cat "$folder/text" && printf 'sync \377\n' && yes frob | head -n 200000; } > "$folder/input"
+expect 'no UTF-8 behind a fault' 1 '' "bad text line 200005: word$lf" "$folder/input" encode
+{ echo 'func f' && yes sync | head -n 200000 && printf '\355\240\200\nfunc' && yes sync | head -n 20000; } > "$folder/input"
+expect 'no UTF-8 behind good lines' 1 '' "bad text line 200002: word$lf" "$folder/input" encode
+{ echo 'func f' && yes sync | head -n 200000 && printf 'func g\n' && yes sync | head -n 20000; } > "$folder/input"
+expect 'a name in a later block' 1 '' "bad text line 200002: late$lf" <(cat "$folder/input") encode
+{ echo 'func f' && yes sync | head -n 200000 && printf '# \303'; } > "$folder/input"
+expect 'a character that is cut at the end' 1 '' "bad text line 200002: word$lf" <(cat "$folder/input") encode
+{ echo 'func f' && head -c 200000 /dev/zero | tr '\0' '\n' && echo 'root 1' && yes '# no event' | head -n 20000; } > "$folder/input"
+expect 'a fault of the end behind many blocks' 1 '' "bad text line 220003: root$lf" <(cat "$folder/input") encode
 
 # Which words are which request, and what is shown for others, word for word.
 shown() { # NAME STATUS WORDS..: with these words the program tells just what the file tests/usage/NAME.txt has

@@ -199,7 +199,7 @@ const THE_SITE: Expected = Expected {
 
 const OF_MEMORY: Expected = Expected {
     wanted: "memory for what the command keeps of what it reads",
-    cause: "a trace or text that is read whole, or frames that are open at a time, for which there isn't enough",
+    cause: "a trace that is read whole or written, a line of a text, or frames that are open at a time, for which there isn't enough",
     advice: "record less, or with fewer sites",
 };
 

@@ -14,14 +14,6 @@ use Rattle.spp_shell.specs.declared.place.Place.TheVariants.{Before, After}
 use Rattle.spp_shell.specs.declared.refusal.Refusal.{Refusal}
 use Rattle.spp_shell.specs.declared.refusal.Refusal.TheVariants as refusal
 
--- the first input alone was used
-module _ (g h : Giving) (place : Place) (LineFor : List (List ℕ) → List ℕ → Type 0) (unused : h.Untouched) where
-  -- its bytes are refused, or an allocation failed after they were read
-  pub first_refused : (bytes : List ℕ) (r : Refusal) → g.Gave bytes → g.Within → IfLine r (LineFor (bytes ∷ [])) → IsRefusedBy (inputs_of g h) place LineFor r
-  first_refused bytes (refusal.Line told) gave within line = inl (bytes ∷ [], (gave, unused), line)
-  first_refused bytes (refusal.Unread trouble) gave within line = absurd line
-  first_refused bytes refusal.Memory gave within line = inl (within, unused)
-
 -- of two inputs the first is refused, and the second was not used
 pub before_refused : (g h : Giving) → h.Untouched → (r : Refusal) → IsInputRefused g Before (TellsFaultAt Before) r → IsRefusedBy (inputs_of g h) Before IsCompareLine r
 before_refused g h unused (refusal.Line told) (inl (bytes, gave, line)) = inl (bytes ∷ [], (gave, unused), inl (bytes, refl, line))
@@ -93,18 +85,6 @@ pub err_again : {T : Type 0} (r : Result T Refusal) (e : Refusal) (P : Refusal �
 err_again r e P is p =
     let found = err_from_is_err_and r is in
     subst (λ x. IfErr x P) (sym found.1) (subst P (sym found.2) p)
-
--- what is answered for the bytes of the first input alone
-module _ {T : Type 0} (items : T → List ℕ) (g h : Giving) (bytes : List ℕ) (gave : g.Gave bytes) (unused : h.Untouched) where
-  pub answered_first : (TextFor : List (List ℕ) → List ℕ → Type 0) (r : Result T Refusal) → IfOk r (λ text. TextFor (bytes ∷ []) (items text))
-      → IfOk r (λ text. (inputs : List (List ℕ)) × WasRead (inputs_of g h) inputs × TextFor inputs (items text))
-  answered_first TextFor (Ok text) is = (bytes ∷ [], (gave, unused), is)
-  answered_first TextFor (Err e) is = tt
-
-  pub told_first : (place : Place) (LineFor : List (List ℕ) → List ℕ → Type 0) (r : Result T Refusal) → g.Within → IfErr r (λ refusal. IfLine refusal (LineFor (bytes ∷ [])))
-      → IfErr r (IsRefusedBy (inputs_of g h) place LineFor)
-  told_first place LineFor (Ok text) within is = tt
-  told_first place LineFor (Err e) within is = first_refused g h place LineFor unused bytes e gave within is
 
 -- what is answered for the one input that a task reads
 module _ {T : Type 0} (items : T → List ℕ) (g h : Giving) (unused : h.Untouched) where

@@ -31,3 +31,7 @@ IsEncodeText inputs text = (bytes : List ℕ) × (inputs ≡ bytes ∷ []) × Is
 abbrev pub IsEncodeLine : List (List ℕ) → List ℕ → Type 0
 IsEncodeLine inputs told =
     (bytes : List ℕ) × (fault : TextFault) × (inputs ≡ bytes ∷ []) × (IsBadText bytes fault ⊎ IsNoText bytes fault) × (told ≡ text_line fault)
+
+-- the line for these bytes alone
+abbrev pub IsOneEncodeLine : List ℕ → List ℕ → Type 0
+IsOneEncodeLine bytes told = IsEncodeLine (bytes ∷ []) told

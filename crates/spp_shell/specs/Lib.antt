@@ -8,6 +8,7 @@ pub mod Check
 pub mod RecordStreams
 pub mod Checked
 pub mod Encode
+pub mod TextSoFar
 pub mod Migrate
 pub mod Migrated
 pub mod Figured

@@ -1,58 +1,95 @@
 //! The task `encode`: the bytes of the trace that a text names, or its first fault.
-ghost use Rattle.std.specs.Prelude.{◌≡◌, ◌≢◌, [], ◌∷◌, IfOk, IfErr};
-ghost use Rattle.std.specs.String.{string_bytes};
-ghost use Rattle.spp_text.specs.Reading.{fault_at};
+ghost use Rattle.std.specs.Prelude.{◌≡◌, ◌-◌, ◌≤◌, ◌∷◌, ◌++◌, [], List, ℕ, length, take, drop, IfOk, IfErr};
+ghost use Rattle.spp_text.specs.TextDrafts.{AreWholeLines};
+ghost use Rattle.spp_shell.specs.Devices.{giving_of};
+ghost use Rattle.spp_shell.specs.Encode.{IsEncodeText, IsOneEncodeLine};
+ghost use Rattle.spp_shell.specs.Inputs.{IsInputRefused};
+ghost use Rattle.spp_shell.specs.TextSoFar.{IsTextSoFar};
 ghost use Rattle.spp_shell.specs.Tasks.{IfLine};
-ghost use Rattle.spp_shell.specs.Encode.{IsEncodeText, IsEncodeLine, end_line, text_line};
+ghost use Rattle.spp_shell.specs.declared.place.Place.TheVariants.{Only};
 
+use crate::input::refusal_of_read;
+use crate::place::Place;
+use crate::reading::{INPUT_LIMIT, PIECE, ReadFault, make_room, move_to_front};
+use crate::reading_on::read_more;
 use crate::refusal::Refusal;
-use spp_text::{TextFault, TextWhy, parse_text};
-use std::alloc::{AllocError, Global};
-use std::str;
+use crate::source::Source;
+use crate::text_so_far::TextSoFar;
+use bumpalo::Bump;
+use memchr::memrchr;
+use std::alloc::Global;
 
-/// The line for a fault of a text.
-fn line_of_text(alloc: Global, fault: TextFault) -> Result<String, AllocError>
-    ensures { IfOk result (λ line. string_bytes line ≡ text_line fault) }
+/// How many of these bytes, from the first on, are whole lines.
+fn whole_len(bytes: &[u8]) -> usize
+    ensures within { result ≤ length bytes.now }
+    ensures ends { AreWholeLines (take result bytes.now) }
 {
-    let TextFault { line, why } = fault;
-    format!(in alloc; "bad text line {line}: {why}\n")
-}
-
-/// What bytes are answered with that have this fault as a text.
-fn refusal_of_text(alloc: Global, fault: TextFault) -> Refusal
-    ensures { IfLine result (λ line. (fault.why ≢ TextWhy.Memory) × (line ≡ text_line fault)) }
-{
-    match fault.why {
-        TextWhy::Memory => Refusal::Memory,
-        _ => Refusal::of_line(line_of_text(alloc, fault)),
+    match memrchr(b'\n', bytes) {
+        Some(at) => at + 1,
+        None => 0,
     }
 }
 
-/// The fault of bytes of which this is the longest front that is UTF-8.
-fn fault_behind(front: &[u8]) -> TextFault
-    ensures { result ≡ fault_at (end_line front.now) TextWhy.Word }
+/// Goes over the whole lines of the first `filled` of these bytes, where they are `due` bytes or more. Moves what is left to
+/// the front, and gives its length.
+///
+/// # Errors
+///
+/// Those of [`TextSoFar::followed_by`].
+fn go_over_block<'n>(
+    alloc: Global,
+    so_far: TextSoFar<'n>,
+    bytes: &mut Vec<u8>,
+    filled: usize,
+    due: usize,
+) -> Result<(TextSoFar<'n>, usize), Refusal>
+    requires { filled ≤ length bytes.old.items }
+    ensures come { (before : List ℕ) → IsTextSoFar so_far.entry before → AreWholeLines before → IfOk result (λ r. IsTextSoFar r.0 (before ++ take (filled - r.1) bytes.old.items) × AreWholeLines (before ++ take (filled - r.1) bytes.old.items)) }
+    ensures left { IfOk result (λ r. take r.1 bytes.new.items ≡ drop (filled - r.1) (take filled bytes.old.items)) }
+    ensures within { IfOk result (λ r. r.1 ≤ filled) }
+    ensures room { IfOk result (λ r. length bytes.new.items ≡ length bytes.old.items) }
+    ensures refused { (before : List ℕ) → IsTextSoFar so_far.entry before → AreWholeLines before → IfErr result (λ refusal. IfLine refusal (λ line. (more : List ℕ) → IsOneEncodeLine ((before ++ take filled bytes.old.items) ++ more) line)) }
 {
-    let feeds = front.iter().filter(|b| **b == b'\n').count();
-    TextFault {
-        line: u32::try_from(feeds).unwrap_or(u32::MAX).saturating_add(1),
-        why: TextWhy::Word,
+    if filled < due {
+        return Ok((so_far, filled));
     }
+    let whole = whole_len(&bytes[..filled]);
+    let so_far = so_far.followed_by(alloc, &bytes[..whole])?;
+    move_to_front(bytes, whole, filled);
+    Ok((so_far, filled - whole))
 }
 
-/// The bytes of the trace that a text names, or why there are none.
-pub(crate) fn answer_encode(alloc: Global, bytes: &[u8]) -> Result<Vec<u8>, Refusal>
-    ensures text { IfOk result (λ text. IsEncodeText (bytes.now ∷ []) text.items) }
-    ensures line { IfErr result (λ refusal. IfLine refusal (IsEncodeLine (bytes.now ∷ []))) }
+/// The bytes of the trace that an input names as a text, or why there are none.
+///
+/// The text is read in blocks of whole lines, and to its end behind a fault, since one that isn't UTF-8 is refused for that.
+/// The time is linear in its length, but for about S log S comparisons of names, S being the number of sites. The memory is
+/// 16 bytes for each event, with room for as many more, that of the names, and up to about three times the longest line,
+/// but 131,072 bytes at least, and 16 bytes for each word of a line.
+pub(crate) fn encode_input<S: Source>(alloc: Global, source: &mut S) -> Result<Vec<u8>, Refusal>
+    ensures text { IfOk result (λ text. (bytes : List ℕ) × (giving_of S.answered S.failed S.failures source.old source.new).Gave bytes × IsEncodeText (bytes ∷ []) text.items) }
+    ensures refused { IfErr result (IsInputRefused (giving_of S.answered S.failed S.failures source.old source.new) Only IsOneEncodeLine) }
 {
-    let text = match str::from_utf8(bytes) {
-        Ok(text) => text,
-        Err(e) => {
-            let fault = fault_behind(&bytes[..e.valid_up_to()]);
-            return Err(refusal_of_text(alloc, fault));
+    let names = Bump::new(alloc);
+    let mut so_far = TextSoFar::new(alloc, &names);
+    let mut bytes: Vec<u8> = Vec::new(alloc);
+    let mut filled = 0;
+    let mut before = 0;
+    let mut due = PIECE;
+    for _ in 0..INPUT_LIMIT {
+        let (now, left) = go_over_block(alloc, so_far, &mut bytes, filled, due)?;
+        // A line that is longer than a block is looked at again when it has doubled.
+        if filled >= due {
+            due = PIECE.max(2 * left);
         }
-    };
-    match parse_text(alloc, text) {
-        Ok(trace) => Ok(trace),
-        Err(fault) => Err(refusal_of_text(alloc, fault)),
+        so_far = now;
+        before += (filled - left) as u64;
+        filled = left;
+        make_room(&mut bytes, filled, None)?;
+        match read_more(source, &mut bytes, filled, before) {
+            Err(fault) => return Err(refusal_of_read(fault, Place::Only)),
+            Ok(None) => return so_far.followed_by(alloc, &bytes[..filled])?.end(alloc),
+            Ok(Some(more)) => filled = more,
+        }
     }
+    Err(refusal_of_read(ReadFault::TooLong, Place::Only))
 }

@@ -10,7 +10,7 @@ use crate::came::Came;
 use crate::header_end::{HeaderEnd, is_opened_early};
 use crate::opening::open_front;
 use crate::place::Place;
-use crate::reading::{INPUT_LIMIT, ReadFault, make_first_room, read_all};
+use crate::reading::{INPUT_LIMIT, ReadFault, make_first_room};
 use crate::reading_on::{Front, read_on};
 use crate::refusal::Refusal;
 use crate::source::Source;
@@ -25,21 +25,6 @@ pub(crate) fn refusal_of_read(fault: ReadFault, place: Place) -> Refusal
         ReadFault::Device => Refusal::Unread(Trouble::CannotRead(place)),
         ReadFault::TooLong => Refusal::Unread(Trouble::TooLong(place)),
         ReadFault::Memory => Refusal::Memory,
-    }
-}
-
-/// All bytes of an input, or why it could not be read whole.
-pub(crate) fn read_or_refuse<S: Source>(
-    alloc: Global,
-    input: &mut S,
-    place: Place,
-) -> Result<Vec<u8>, Refusal>
-    ensures read { IfOk result (λ bytes. (giving_of S.answered S.failed S.failures input.old input.new).Gave bytes.items) }
-    ensures refused { IfErr result (IsInputRefused (giving_of S.answered S.failed S.failures input.old input.new) place NoLine) }
-{
-    match read_all(alloc, input) {
-        Ok(bytes) => Ok(bytes),
-        Err(fault) => Err(refusal_of_read(fault, place)),
     }
 }
 

@@ -31,6 +31,7 @@ mod source;
 pub mod status;
 mod tell_input;
 mod telling;
+mod text_so_far;
 mod told_sites;
 mod trouble;
 mod usage;

@@ -1,5 +1,5 @@
 //! Reading all that a source gives up to its end.
-ghost use Rattle.std.specs.Prelude.{◌≡◌, ◌+◌, ◌^◌, ◌<◌, ◌≤◌, length, take, drop, IfOk, IfSome, OnOk, OnErr, IfErr};
+ghost use Rattle.std.specs.Prelude.{◌≡◌, ◌+◌, ◌-◌, ◌^◌, ◌<◌, ◌≤◌, length, take, drop, IfOk, IfSome, OnOk, OnErr, IfErr};
 ghost use Rattle.std.specs.Option.{option_map};
 ghost use Rattle.spp_report.specs.Devices.{Raised};
 ghost use Rattle.spp_shell.specs.Reading.{GaveAll};
@@ -68,6 +68,16 @@ pub(crate) fn make_room(
         bytes.resize(filled + PIECE, 0)?;
     }
     Ok(())
+}
+
+/// Moves the bytes from `from` to `filled` to the front.
+pub(crate) fn move_to_front(bytes: &mut Vec<u8>, from: usize, filled: usize)
+    requires start { from ≤ filled }
+    requires end { filled ≤ length bytes.old.items }
+    ensures room { length bytes.new.items ≡ length bytes.old.items }
+    ensures kept { take (filled - from) bytes.new.items ≡ drop from (take filled bytes.old.items) }
+{
+    bytes.copy_within(from..filled, 0);
 }
 
 /// Reads into the room behind the first `filled` bytes.

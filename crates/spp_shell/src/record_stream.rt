@@ -12,7 +12,7 @@ ghost use Rattle.spp_shell.specs.Tasks.{IfLine};
 use crate::came::Came;
 use crate::header_end::front_len;
 use crate::opening::open_front;
-use crate::reading::{INPUT_LIMIT, PIECE, ReadFault, make_room};
+use crate::reading::{INPUT_LIMIT, PIECE, ReadFault, make_room, move_to_front};
 use crate::reading_on::read_more;
 use crate::records::Records;
 use crate::refusal::Refusal;
@@ -93,16 +93,6 @@ impl Head {
             Version::Two => 1 << 17,
         }
     }
-}
-
-/// Moves the bytes from `from` to `filled` to the front.
-fn move_to_front(bytes: &mut Vec<u8>, from: usize, filled: usize)
-    requires start { from ≤ filled }
-    requires end { filled ≤ length bytes.old.items }
-    ensures room { length bytes.new.items ≡ length bytes.old.items }
-    ensures kept { take (filled - from) bytes.new.items ≡ drop from (take filled bytes.old.items) }
-{
-    bytes.copy_within(from..filled, 0);
 }
 
 /// Writes these bytes over the first of others.

@@ -9,11 +9,9 @@ ghost use Rattle.spp_shell.specs.Tasks.{IfLine};
 use crate::advise_task::answer_advise;
 use crate::check_task::check_input;
 use crate::compare_task::answer_compare;
-use crate::encode_task::answer_encode;
+use crate::encode_task::encode_input;
 use crate::figures_task::figures_input;
-use crate::input::read_or_refuse;
 use crate::migrate_task::migrate_input;
-use crate::place::Place;
 use crate::profile_task::answer_profile;
 use crate::refusal::Refusal;
 use crate::source::Source;
@@ -43,10 +41,7 @@ fn answer<R: Threads + Wait + Sync + RandomSource, S: Source, T: Source>(
         Command::Figures => figures_input(rt, alloc, request, first),
         Command::Profile => answer_profile(rt, alloc, request, first),
         Command::Compare => answer_compare(rt, alloc, request, first, second),
-        Command::Encode => {
-            let bytes = read_or_refuse(alloc, first, Place::Only)?;
-            answer_encode(alloc, bytes.as_slice())
-        }
+        Command::Encode => encode_input(alloc, first),
         Command::Migrate => migrate_input(rt, alloc, first),
     }
 }

@@ -5,6 +5,7 @@ pub mod WordsAndNumbers
 pub mod NameLines
 pub mod EventLines
 pub mod TextLaws
+pub mod LinesApart
 pub mod LineByLine
 pub mod LineAdds
 pub mod TextLines

@@ -9,3 +9,4 @@ pub mod Steps
 pub mod Drafts
 pub mod Laws
 pub mod Usual
+pub mod TextDrafts

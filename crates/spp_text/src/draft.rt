@@ -15,6 +15,7 @@ use crate::events::{event_of, short_number};
 use crate::fault::TextWhy;
 use crate::record::{push_record, set_count};
 use crate::words::words_of;
+use bumpalo::Bump;
 use spp_event::{Contents, Event, is_name, is_root_name, trace_bytes};
 use std::alloc::{AllocError, Global};
 use std::collections::BTreeSet;
@@ -22,10 +23,12 @@ use std::marker::Model;
 
 /// What the lines that were read have said of a trace.
 #[derive(Drop)]
-pub(crate) struct Draft<'t> {
-    funcs: Vec<&'t [u8]>,
-    sites: Vec<&'t [u8]>,
-    site_names: BTreeSet<&'t [u8]>,
+pub(crate) struct Draft<'n> {
+    /// The arena with the names.
+    names: &'n Bump,
+    funcs: Vec<&'n [u8]>,
+    sites: Vec<&'n [u8]>,
+    site_names: BTreeSet<&'n [u8]>,
     root: Option<u32>,
     /// From the first event on, the bytes of the trace, which still say that it has no events.
     bytes: Vec<u8>,
@@ -33,7 +36,7 @@ pub(crate) struct Draft<'t> {
     count: u32,
 }
 
-impl<'t> Model for Draft<'t> {
+impl<'n> Model for Draft<'n> {
     ghost use Rattle.std.specs.Prelude.{map, unwrap_or};
     ghost use Rattle.spp_text.specs.Reading.{Said};
     ghost use Rattle.spp_text.specs.Drafts.{IsKept, last_events};
@@ -67,12 +70,13 @@ fn after<'t>(front: &[u8], line: &'t [u8]) -> Option<&'t [u8]>
     line.strip_prefix(front)
 }
 
-impl<'t> Draft<'t> {
-    /// Nothing has been said.
-    pub(crate) fn new(alloc: Global) -> Self
+impl<'n> Draft<'n> {
+    /// Nothing has been said. The names that lines declare are copied to the arena.
+    pub(crate) fn new(alloc: Global, names: &'n Bump) -> Self
         ensures { result ≡ nothing }
     {
         Draft {
+            names,
             funcs: Vec::new(alloc),
             sites: Vec::new(alloc),
             site_names: BTreeSet::new(alloc),
@@ -115,7 +119,7 @@ impl<'t> Draft<'t> {
 
     /// A line declares the next function.
     #[tactic(auto, unfolding(crate::specs::Reading::read_func))]
-    fn add_func(&mut self, name: &'t [u8]) -> Result<(), TextWhy>
+    fn add_func(&mut self, name: &[u8]) -> Result<(), TextWhy>
         ensures said { Reads result (read_func self.old name.now) self.new }
         ensures stays { OnErr result (self.new ≡ self.old) }
     {
@@ -128,13 +132,14 @@ impl<'t> Draft<'t> {
         if !is_name(name) {
             return Err(TextWhy::Name);
         }
-        self.funcs.push(name)?;
+        let kept = self.names.try_alloc_slice_copy(name)?;
+        self.funcs.push(kept)?;
         Ok(())
     }
 
     /// A line declares the next site.
     #[tactic(auto, unfolding(crate::specs::Reading::read_site))]
-    fn add_site(&mut self, name: &'t [u8]) -> Result<(), TextWhy>
+    fn add_site(&mut self, name: &[u8]) -> Result<(), TextWhy>
         ensures said { Reads result (read_site self.old name.now) self.new }
         ensures stays { OnErr result (self.new ≡ self.old) }
     {
@@ -150,11 +155,12 @@ impl<'t> Draft<'t> {
         if is_root_name(name) {
             return Err(TextWhy::SameName);
         }
+        let kept = self.names.try_alloc_slice_copy(name)?;
         self.sites.reserve(1)?;
-        if !note(&mut self.site_names, name)? {
+        if !note(&mut self.site_names, kept)? {
             return Err(TextWhy::SameName);
         }
-        self.sites.push(name)?;
+        self.sites.push(kept)?;
         Ok(())
     }
 
@@ -327,7 +333,7 @@ impl<'t> Draft<'t> {
 
     /// One line more. One that is refused leaves what was said as it was.
     #[tactic(auto, using(crate::proofs::CommentLines::comment_line), unfolding(crate::specs::Reading::read_line))]
-    pub(crate) fn add_line(&mut self, alloc: Global, line: &'t [u8]) -> Result<(), TextWhy>
+    pub(crate) fn add_line(&mut self, alloc: Global, line: &[u8]) -> Result<(), TextWhy>
         ensures said { Reads result (read_line self.old line.now) self.new }
         ensures stays { OnErr result (self.new ≡ self.old) }
     {

@@ -9,6 +9,7 @@ mod lines;
 mod parse;
 mod print;
 mod record;
+mod text_draft;
 mod usual;
 mod words;
 
@@ -16,3 +17,4 @@ pub use fault::{TextFault, TextWhy};
 pub use laws::text_laws;
 pub use parse::parse_text;
 pub use print::{PrintFault, print_text};
+pub use text_draft::TextDraft;

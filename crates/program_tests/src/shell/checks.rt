@@ -192,6 +192,38 @@ fn got<R: Threads + Wait + Sync + RandomSource + AllocGlobal>(
     }
 }
 
+/// Whether the command ends so over the bytes in pieces of each of these sizes, and as an input does that can't be read where
+/// one of the reads `failing` fails.
+pub(super) fn ends_so<R: Threads + Wait + Sync + RandomSource + AllocGlobal>(
+    rt: &R,
+    command: Command,
+    bytes: &[u8],
+    all_sizes: &[&[usize]],
+    failing: &[usize],
+    wanted: (u8, &[u8], &[u8]),
+) -> bool {
+    let request = request_for(rt.alloc(), command);
+    for sizes in all_sizes {
+        let ending = got(rt, &request, bytes, sizes, usize::MAX, None);
+        if (
+            ending.status,
+            ending.text.as_slice(),
+            ending.line.as_slice(),
+        ) != wanted
+        {
+            return false;
+        }
+    }
+    for read in failing {
+        let ending = got(rt, &request, bytes, &[65536], *read, None);
+        let unread = b"cannot read input\n".as_slice();
+        if (ending.status, ending.text.len(), ending.line.as_slice()) != (3, 0, unread) {
+            return false;
+        }
+    }
+    true
+}
+
 /// Whether pieces of these sizes end as all the bytes at once, and so do the bytes of a file whose length is known.
 pub(super) fn ends_alike<R: Threads + Wait + Sync + RandomSource + AllocGlobal>(
     rt: &R,

@@ -1,11 +1,14 @@
 //! Whole runs of `encode`.
 
+use super::checks::{LARGE, ends_so};
 use super::commands::{command_ends_with, request_for};
 use super::fakes::{dripping, empty_cup, unread};
 use spp_request::Command;
 use spp_shell::run;
+use std::alloc::{AllocError, Global};
 use std::random::RandomSource;
 use std::sync::Wait;
+use std::test::Fail;
 use std::thread::Threads;
 
 const TEXT: &[u8] = b"func main\nstrand 1\n";
@@ -68,4 +71,100 @@ fn an_output_that_fails_has_the_first_bytes(rt: HostRuntime) {
         assert_eq!(rt; Some(out.taken.as_slice()), TRACE.get(..room));
         assert_eq!(rt; err.taken.as_slice(), b"cannot write output\n".as_slice());
     }
+}
+
+/// A text of 12,000 events, each on a line of 15 bytes, behind a comment of so many: more than two blocks of 65,536 bytes.
+fn long_text(alloc: Global, comment: usize) -> Result<Vec<u8>, AllocError> {
+    let mut text = b"func main\n#".as_slice().to_vec(alloc)?;
+    text.resize(text.len() + comment, b' ')?;
+    text.push(b'\n')?;
+    for pair in 0..6000 {
+        let lines = format!(in alloc;
+            "\tstrand {}\r\nstrand  {} \n",
+            10000 + 2 * pair,
+            10001 + 2 * pair
+        )?;
+        text.extend_from_slice(lines.as_bytes())?;
+    }
+    Ok(text)
+}
+
+/// The bytes of the trace that it names.
+fn long_trace(alloc: Global) -> Result<Vec<u8>, AllocError> {
+    let mut trace = b"SPTRACE1\0\0\0\x01\0\0\0\0\0\0\0\0\0\0\x2e\xe0\0\x04main"
+        .as_slice()
+        .to_vec(alloc)?;
+    for event in 0..12000u64 {
+        trace.extend_from_slice(&[0; 8])?;
+        trace.extend_from_slice(&(10000 + event).to_be_bytes())?;
+    }
+    Ok(trace)
+}
+
+#[test]
+fn a_text_is_read_in_pieces_of_any_size(rt: HostRuntime) -> Result<(), Fail> {
+    let trace = long_trace(rt.alloc())?;
+    let none = b"".as_slice();
+    for comment in [0, 1, 2, 3, 4, 5, 6, 7, 8, 9, 10, 65500, 65524, 70000] {
+        let text = long_text(rt.alloc(), comment)?;
+        let good = (0, trace.as_slice(), none);
+        assert!(rt;
+            ends_so(
+                &rt,
+                Command::Encode,
+                text.as_slice(),
+                LARGE,
+                &[0, 1, 2],
+                good
+            ),
+            "{comment}"
+        );
+    }
+    let text = long_text(rt.alloc(), 0)?;
+    let good = (0, trace.as_slice(), none);
+    assert!(rt;
+        ends_so(
+            &rt,
+            Command::Encode,
+            text.as_slice(),
+            &[&[1], &[16], &[15, 0, 17]],
+            &[],
+            good
+        )
+    );
+    Ok(())
+}
+
+#[test]
+fn a_fault_behind_many_lines_is_told(rt: HostRuntime) -> Result<(), Fail> {
+    let none = b"".as_slice();
+    let mut text = long_text(rt.alloc(), 5)?;
+    text.extend_from_slice(b"site A\n")?;
+    let late = (1, none, b"bad text line 12003: late\n".as_slice());
+    assert!(rt; ends_so(&rt, Command::Encode, text.as_slice(), LARGE, &[0, 3], late));
+    let more = long_text(rt.alloc(), 7)?;
+    text.extend_from_slice(more.as_slice())?;
+    assert!(rt;
+        ends_so(
+            &rt,
+            Command::Encode,
+            text.as_slice(),
+            LARGE,
+            &[0, 3, 5],
+            late
+        )
+    );
+    text.push(0xff)?;
+    let no_text = (1, none, b"bad text line 24006: word\n".as_slice());
+    assert!(rt;
+        ends_so(
+            &rt,
+            Command::Encode,
+            text.as_slice(),
+            LARGE,
+            &[0, 3, 5],
+            no_text
+        )
+    );
+    Ok(())
 }

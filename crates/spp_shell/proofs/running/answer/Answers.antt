@@ -1,4 +1,4 @@
-use Rattle.std.proofs.Common.{[], ◌∷◌, refl, inr}
+use Rattle.std.proofs.Common.{refl}
 use Rattle.spp_shell.specs.Check.{IsCheckText, IsCheckLine}
 use Rattle.spp_shell.specs.Devices.{Giving, giving_of}
 use Rattle.spp_shell.specs.Encode.{IsEncodeText, IsEncodeLine}
@@ -6,7 +6,7 @@ use Rattle.spp_shell.specs.Migrate.{IsMigrateText, IsMigrateLine}
 use Rattle.spp_shell.specs.Figures.{IsFiguresText}
 use Rattle.spp_shell.specs.Profiles.{IsProfileText}
 use Rattle.spp_shell.specs.declared.place.Place.TheVariants.{Only}
-use Rattle.spp_shell.proofs.Inputs.{answered_by, answered_first, err_again, refused_unread, told_by, told_first, told_so}
+use Rattle.spp_shell.proofs.Inputs.{answered_by, told_by}
 use Rattle.spp_shell.proofs.running.answer.Goals as goal
 
 pub returns-in-Check-clause-text : goal.returns-in-Check-clause-text
@@ -45,29 +45,17 @@ returns-in-Profile-clause-refused g c =
     let second : Giving = giving_of g.T.Source.answered g.T.Source.failed g.T.Source.failures c.args.second.now c.args.second.now in
     rw c.in-Profile.is (told_by (λ text. text.items) first second refl Only IsCheckLine c.answer_profile.result c.answer_profile.ensures.refused)
 
-pub returns-in_err-bytes-in-Encode-clause-refused : goal.returns-in_err-bytes-in-Encode-clause-refused
-returns-in_err-bytes-in-Encode-clause-refused g c =
-    let first : Giving = giving_of g.S.Source.answered g.S.Source.failed g.S.Source.failures c.args.first.now c.read_or_refuse.new.input in
+pub returns-in-Encode-clause-text : goal.returns-in-Encode-clause-text
+returns-in-Encode-clause-text g c =
+    let first : Giving = giving_of g.S.Source.answered g.S.Source.failed g.S.Source.failures c.args.first.now c.encode_input.new.source in
     let second : Giving = giving_of g.T.Source.answered g.T.Source.failed g.T.Source.failures c.args.second.now c.args.second.now in
-    let told = c.in_err-bytes-in-Encode.field-0.0 in
-    let refused = refused_unread first Only (λ bytes line. IsEncodeLine (bytes ∷ []) line) told c.in_err-bytes-in-Encode.ensures.refused in
-    rw c.in-Encode.is (err_again _ told _ c.from_residual.ensures.1 (told_so first second refl Only IsEncodeLine told refused))
+    rw c.in-Encode.is (answered_by (λ text. text.items) first second refl IsEncodeText c.encode_input.result c.encode_input.ensures.text)
 
-pub returns-in_ok-bytes-in-Encode-clause-text : goal.returns-in_ok-bytes-in-Encode-clause-text
-returns-in_ok-bytes-in-Encode-clause-text g c =
-    let first : Giving = giving_of g.S.Source.answered g.S.Source.failed g.S.Source.failures c.args.first.now c.read_or_refuse.new.input in
+pub returns-in-Encode-clause-refused : goal.returns-in-Encode-clause-refused
+returns-in-Encode-clause-refused g c =
+    let first : Giving = giving_of g.S.Source.answered g.S.Source.failed g.S.Source.failures c.args.first.now c.encode_input.new.source in
     let second : Giving = giving_of g.T.Source.answered g.T.Source.failed g.T.Source.failures c.args.second.now c.args.second.now in
-    let bytes = c.in_ok-bytes-in-Encode.bytes.items in
-    let gave = c.in_ok-bytes-in-Encode.ensures.read in
-    rw c.in-Encode.is (answered_first (λ text. text.items) first second bytes gave refl IsEncodeText c.answer_encode.result (rw c.as_slice.ensures.value at c.answer_encode.ensures.text))
-
-pub returns-in_ok-bytes-in-Encode-clause-refused : goal.returns-in_ok-bytes-in-Encode-clause-refused
-returns-in_ok-bytes-in-Encode-clause-refused g c =
-    let first : Giving = giving_of g.S.Source.answered g.S.Source.failed g.S.Source.failures c.args.first.now c.read_or_refuse.new.input in
-    let second : Giving = giving_of g.T.Source.answered g.T.Source.failed g.T.Source.failures c.args.second.now c.args.second.now in
-    let bytes = c.in_ok-bytes-in-Encode.bytes.items in
-    let gave = c.in_ok-bytes-in-Encode.ensures.read in
-    rw c.in-Encode.is (told_first (λ text. text.items) first second bytes gave refl Only IsEncodeLine c.answer_encode.result (inr (bytes, gave)) (rw c.as_slice.ensures.value at c.answer_encode.ensures.line))
+    rw c.in-Encode.is (told_by (λ text. text.items) first second refl Only IsEncodeLine c.encode_input.result c.encode_input.ensures.refused)
 
 pub returns-in-Migrate-clause-text : goal.returns-in-Migrate-clause-text
 returns-in-Migrate-clause-text g c =

@@ -1,7 +1,7 @@
 use Rattle.std.proofs.Common.{ap, sym, ◌∙◌}
 use Rattle.std.specs.Str.Lines.{lines}
 use Rattle.spp_text.proofs.PlainLines.{behind_is_boundary, what_is_behind, shorter_behind}
-use Rattle.spp_text.proofs.parse.add_first.Goals as goal
+use Rattle.spp_text.proofs.text_draft.add_first.Goals as goal
 
 pub range_from-requires : goal.range_from-requires
 range_from-requires c some =

@@ -2,7 +2,7 @@ use Rattle.std.proofs.Common.{◌≡◌, ◌+◌, ◌-◌, ℕ, List, length, ta
 use lib.Seq.{paste}
 use Rattle.std.proofs.lemmas.List.{drop-take, length-drop}
 use Rattle.std.proofs.lemmas.List.Edits.{take-paste}
-use Rattle.spp_shell.proofs.record_stream.move_to_front.Goals as goal
+use Rattle.spp_shell.proofs.reading.move_to_front.Goals as goal
 
 pub returns-clause-kept : goal.returns-clause-kept
 returns-clause-kept c =
