@@ -76,15 +76,15 @@ fn an_output_that_fails_has_the_first_bytes(rt: HostRuntime) {
 /// A text of 12,000 events, each on a line of 15 bytes, behind a comment of so many: more than two blocks of 65,536 bytes.
 fn long_text(alloc: Global, comment: usize) -> Result<Vec<u8>, AllocError> {
     let mut text = b"func main\n#".as_slice().to_vec(alloc)?;
-    text.resize(text.len() + comment, b' ')?;
+    text.resize(text.len().saturating_add(comment), b' ')?;
     text.push(b'\n')?;
-    for pair in 0..6000 {
-        let lines = format!(in alloc;
-            "\tstrand {}\r\nstrand  {} \n",
-            10000 + 2 * pair,
-            10001 + 2 * pair
-        )?;
-        text.extend_from_slice(lines.as_bytes())?;
+    for event in 10000..22000u32 {
+        let line = if event % 2 == 0 {
+            format!(in alloc; "\tstrand {event}\r\n")?
+        } else {
+            format!(in alloc; "strand  {event} \n")?
+        };
+        text.extend_from_slice(line.as_bytes())?;
     }
     Ok(text)
 }
@@ -94,9 +94,9 @@ fn long_trace(alloc: Global) -> Result<Vec<u8>, AllocError> {
     let mut trace = b"SPTRACE1\0\0\0\x01\0\0\0\0\0\0\0\0\0\0\x2e\xe0\0\x04main"
         .as_slice()
         .to_vec(alloc)?;
-    for event in 0..12000u64 {
+    for event in 10000..22000u64 {
         trace.extend_from_slice(&[0; 8])?;
-        trace.extend_from_slice(&(10000 + event).to_be_bytes())?;
+        trace.extend_from_slice(&event.to_be_bytes())?;
     }
     Ok(trace)
 }
