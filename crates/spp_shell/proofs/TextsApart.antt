@@ -76,10 +76,6 @@ line_behind before bytes number is =
     let more : end_line (before ++ bytes) ≡ end_line before + count_by is_feed bytes = let e = sum_by-append (λ b. cond (is_feed b) 1 0) before bytes in omega (arith, e) in
     omega (arith, is, more)
 
-pub ends_behind : (before bytes : List ℕ) → AreWholeLines before → AreWholeLines bytes → AreWholeLines (before ++ bytes)
-ends_behind before bytes ends (inl none) = subst AreWholeLines (sym (ap (λ (l : List ℕ). before ++ l) none ∙ append-nil before)) ends
-ends_behind before bytes ends (inr (front, is)) = inr (before ++ front, ap (λ (l : List ℕ). before ++ l) is ∙ sym (append_assoc before front (10 ∷ [])))
-
 -- what came behind the text, cut in two
 pub cut_behind : (before came more : List ℕ) (n : ℕ) → (before ++ take n came) ++ (drop n came ++ more) ≡ (before ++ came) ++ more
 cut_behind before came more n =

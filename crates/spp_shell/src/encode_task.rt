@@ -1,5 +1,5 @@
 //! The task `encode`: the bytes of the trace that a text names, or its first fault.
-ghost use Rattle.std.specs.Prelude.{◌≡◌, ◌-◌, ◌≤◌, ◌∷◌, ◌++◌, [], List, ℕ, length, take, drop, IfOk, IfErr};
+ghost use Rattle.std.specs.Prelude.{◌≡◌, ◌≢◌, ◌-◌, ◌≤◌, ◌∷◌, ◌++◌, [], List, ℕ, All, length, take, drop, IfOk, IfErr};
 ghost use Rattle.spp_text.specs.TextDrafts.{AreWholeLines};
 ghost use Rattle.spp_shell.specs.Devices.{giving_of};
 ghost use Rattle.spp_shell.specs.Encode.{IsEncodeText, IsOneEncodeLine};
@@ -23,6 +23,7 @@ use std::alloc::Global;
 fn whole_len(bytes: &[u8]) -> usize
     ensures within { result ≤ length bytes.now }
     ensures ends { AreWholeLines (take result bytes.now) }
+    ensures last { All (λ b. b ≢ 10) (drop result bytes.now) }
 {
     match memrchr(b'\n', bytes) {
         Some(at) => at + 1,

@@ -1,5 +1,5 @@
 -- The lines of a text that is cut behind a line feed.
-use Rattle.std.proofs.Common.{◌≡◌, ℕ, ◌<◌, Bool, true, false, List, [], ◌∷◌, ◌++◌, length, map, refl, sym, ap, ◌∙◌, append_assoc, append-nil, arith, inl, inr}
+use Rattle.std.proofs.Common.{◌≡◌, ℕ, ◌<◌, Bool, true, false, List, [], ◌∷◌, ◌++◌, length, map, refl, sym, ap, subst, ◌∙◌, append_assoc, append-nil, arith, inl, inr}
 use Rattle.std.specs.Prelude.{count_by}
 use Rattle.std.specs.List.{slice_split, onto_first}
 use Rattle.std.specs.Str.Lines.{lines, lines_of_parts, strip_carriage_return}
@@ -55,3 +55,8 @@ lines_counted xs (inr (front, is)) =
     ∙ length-map (slice_split is_feed front) strip_carriage_return
     ∙ length-slice_split is_feed front
     ∙ (omega (arith, length-slice_split is_feed (front ++ 10 ∷ []), ap length (split_there front []), length-append (slice_split is_feed front) ([] ∷ []), length-slice_split is_feed front)))
+
+-- whole lines, and whole lines behind them
+pub ends_behind : (before bytes : List ℕ) → AreWholeLines before → AreWholeLines bytes → AreWholeLines (before ++ bytes)
+ends_behind before bytes ends (inl none) = subst AreWholeLines (sym (ap (λ (l : List ℕ). before ++ l) none ∙ append-nil before)) ends
+ends_behind before bytes ends (inr (front, is)) = inr (before ++ front, ap (λ (l : List ℕ). before ++ l) is ∙ sym (append_assoc before front (10 ∷ [])))

@@ -5,7 +5,8 @@ use Rattle.spp_shell.specs.Encode.{IsOneEncodeLine}
 use Rattle.spp_shell.specs.TextSoFar.{IsTextSoFar, IsForeseenLine}
 use Rattle.spp_shell.proofs.Inputs.{err_again}
 use Rattle.spp_shell.proofs.Refusals.{line_then}
-use Rattle.spp_shell.proofs.TextsApart.{ends_behind, cut_behind}
+use Rattle.spp_text.proofs.LinesApart.{ends_behind}
+use Rattle.spp_shell.proofs.TextsApart.{cut_behind}
 use Rattle.spp_shell.proofs.encode_task.go_over_block.Goals as goal
 
 pub returns-in_err-so_far-clause-refused : goal.returns-in_err-so_far-clause-refused
