@@ -101,37 +101,31 @@ fn long_trace(alloc: Global) -> Result<Vec<u8>, AllocError> {
     Ok(trace)
 }
 
+/// Whether `encode` ends so over a long text in pieces of all sizes, and as an input does that can't be read where one of the
+/// reads `failing` fails.
+fn encodes_so<R: Threads + Wait + Sync + RandomSource + AllocGlobal>(
+    rt: &R,
+    text: &[u8],
+    failing: &[usize],
+    wanted: (u8, &[u8], &[u8]),
+) -> bool {
+    ends_so(rt, Command::Encode, text, LARGE, failing, wanted)
+}
+
 #[test]
 fn a_text_is_read_in_pieces_of_any_size(rt: HostRuntime) -> Result<(), Fail> {
     let trace = long_trace(rt.alloc())?;
-    let none = b"".as_slice();
+    let good = (0, trace.as_slice(), b"".as_slice());
     for comment in [0, 1, 2, 3, 4, 5, 6, 7, 8, 9, 10, 65500, 65524, 70000] {
         let text = long_text(rt.alloc(), comment)?;
-        let good = (0, trace.as_slice(), none);
         assert!(rt;
-            ends_so(
-                &rt,
-                Command::Encode,
-                text.as_slice(),
-                LARGE,
-                &[0, 1, 2],
-                good
-            ),
+            encodes_so(&rt, text.as_slice(), &[0, 1, 2], good),
             "{comment}"
         );
     }
     let text = long_text(rt.alloc(), 0)?;
-    let good = (0, trace.as_slice(), none);
-    assert!(rt;
-        ends_so(
-            &rt,
-            Command::Encode,
-            text.as_slice(),
-            &[&[1], &[16], &[15, 0, 17]],
-            &[],
-            good
-        )
-    );
+    let small: &[&[usize]] = &[&[1], &[16], &[15, 0, 17]];
+    assert!(rt; ends_so(&rt, Command::Encode, text.as_slice(), small, &[], good));
     Ok(())
 }
 
@@ -141,30 +135,12 @@ fn a_fault_behind_many_lines_is_told(rt: HostRuntime) -> Result<(), Fail> {
     let mut text = long_text(rt.alloc(), 5)?;
     text.extend_from_slice(b"site A\n")?;
     let late = (1, none, b"bad text line 12003: late\n".as_slice());
-    assert!(rt; ends_so(&rt, Command::Encode, text.as_slice(), LARGE, &[0, 3], late));
+    assert!(rt; encodes_so(&rt, text.as_slice(), &[0, 3], late));
     let more = long_text(rt.alloc(), 7)?;
     text.extend_from_slice(more.as_slice())?;
-    assert!(rt;
-        ends_so(
-            &rt,
-            Command::Encode,
-            text.as_slice(),
-            LARGE,
-            &[0, 3, 5],
-            late
-        )
-    );
+    assert!(rt; encodes_so(&rt, text.as_slice(), &[0, 3, 5], late));
     text.push(0xff)?;
     let no_text = (1, none, b"bad text line 24006: word\n".as_slice());
-    assert!(rt;
-        ends_so(
-            &rt,
-            Command::Encode,
-            text.as_slice(),
-            LARGE,
-            &[0, 3, 5],
-            no_text
-        )
-    );
+    assert!(rt; encodes_so(&rt, text.as_slice(), &[0, 3, 5], no_text));
     Ok(())
 }
