@@ -29,7 +29,7 @@ impl Promise<Result<RowsAside, AllocError>> for SameRows {
 type Adder = PromisedHandle<Result<RowsAside, AllocError>, SameRows>;
 
 /// The profile of a run so far. Where the run has many call sites, threads add rows up, in tables of their own, while the next
-/// blocks are read and joined: the rows of a block's long stretches, for which what encloses them was copied.
+/// blocks are read and joined: the rows of a block, with a copy of what encloses each of its long stretches.
 #[derive(Drop)]
 pub(crate) struct SharedProfile {
     so_far: ProfileSoFar,
@@ -211,7 +211,7 @@ impl SharedProfile {
         }
     }
 
-    /// Goes on by a part, and has a thread add up the rows of its long stretches. Two take turns, so that no join waits for the one
+    /// Goes on by a part, and has a thread add its rows up. Two take turns, so that no join waits for the one
     /// that was started last.
     ///
     /// # Errors

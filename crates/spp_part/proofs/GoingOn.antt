@@ -23,6 +23,7 @@ use Rattle.spp_ways.specs.Stretches as stretches
 use Rattle.spp_ways.specs.Stretches.{AreEnclosed, IsBase, FitOwn, FitLast, outer_row, strand_outer_frame, joined_way, joined_list, stretch_frames}
 use Rattle.spp_ways.proofs.Bases.{base_of}
 use Rattle.spp_ways.proofs.Steps.{strand_fits}
+use Rattle.spp_pass.specs.CallFrames.{stretch_calls}
 use Rattle.spp_pass.specs.declared.counted_frame.CountedFrame.{CountedFrame}
 use Rattle.spp_pass.specs.declared.calls.CallRow.{CallRow}
 use Rattle.spp_pass.specs.declared.counting.Counting.{Counting}
@@ -109,7 +110,7 @@ on_top_map : (P Q : CountedFrame → Type 0) → ((g : CountedFrame) → P g →
 on_top_map P Q f [] h = h
 on_top_map P Q f (g ∷ gs) h = f g h
 
-plus_turn : (a b : Row) → plus a b ≡ plus b a
+pub plus_turn : (a b : Row) → plus a b ≡ plus b a
 plus_turn a b = ap (λ (r : Row). plus a r) (sym (plus-zero b)) ∙ plus-over a b zero_row ∙ ap (λ (r : Row). plus b r) (plus-zero a)
 
 last_two_fit : (a b c : Row) → Fits (plus (plus a b) c) → Fits (plus b c)
@@ -302,7 +303,7 @@ module _ {rest : Rows} (trace : Recording) (burdens : Burdens) (first i j : ℕ)
   outer_is = outer_last x.counted.outer all.frames last
 
   -- it can be joined
-  pub can : CanJoin first all.frames x.counted.outer x.counted.work x.calls.items (seen_with c no_notes)
+  pub can : CanJoin first all.frames x.counted.outer x.counted.work (stretch_calls x.calls) (seen_with c no_notes)
   can = can_join_it trace burdens first i j settled c o all st go x.counted.outer last
 
   -- without the rows of its frames
@@ -314,7 +315,7 @@ module _ {rest : Rows} (trace : Recording) (burdens : Burdens) (first i j : ℕ)
             (λ g q. (
               q.0,
               λ key. subst Fits (sym (plus-zero (key_row now.table key)))
-                  (let z : Fits (key_row now.table key) = row_fits (key_row now.table key) (calls_row (enclosure g now) x.calls.items key) _ refl (q.1 key) in z),
+                  (let z : Fits (key_row now.table key) = row_fits (key_row now.table key) (calls_row (enclosure g now) (stretch_calls x.calls) key) _ refl (q.1 key) in z),
             ))
             now.frames can.top;
         work = can.work;
@@ -324,12 +325,12 @@ module _ {rest : Rows} (trace : Recording) (burdens : Burdens) (first i j : ℕ)
 
   -- which are kept aside
   pub aside_fits : (a lent : Rows) → ((key : Option ℕ) → rest key ≡ plus (a key) (lent key))
-      → OnTop (λ g. (key : Option ℕ) → Fits (plus (a key) (calls_row (enclosure g (seen_with c no_notes)) x.calls.items key))) (seen_with c no_notes).frames
+      → OnTop (λ g. (key : Option ℕ) → Fits (plus (a key) (calls_row (enclosure g (seen_with c no_notes)) (stretch_calls x.calls) key))) (seen_with c no_notes).frames
   aside_fits a lent split =
       let now : Seen = seen_with c no_notes in
-      on_top_map _ (λ g. (key : Option ℕ) → Fits (plus (a key) (calls_row (enclosure g now) x.calls.items key)))
-      (λ g q. λ key. first_fits (a key) (lent key) (calls_row (enclosure g now) x.calls.items key)
-      (subst (λ (r : Row). Fits (plus r (calls_row (enclosure g now) x.calls.items key))) (split key) (q key)))
+      on_top_map _ (λ g. (key : Option ℕ) → Fits (plus (a key) (calls_row (enclosure g now) (stretch_calls x.calls) key)))
+      (λ g q. λ key. first_fits (a key) (lent key) (calls_row (enclosure g now) (stretch_calls x.calls) key)
+      (subst (λ (r : Row). Fits (plus r (calls_row (enclosure g now) (stretch_calls x.calls) key))) (split key) (q key)))
       now.frames (rest_fits trace burdens first i j settled c o all st go x.counted.outer last)
 
   pub fits : OnTop (FitsJoin x.counted.outer) (seen_with c no_notes).frames

@@ -3,6 +3,7 @@ use Rattle.std.proofs.Common.{◌≡◌, ℕ, suc, ◌+◌, ◌*◌, ◌≤◌, 
 use Rattle.std.proofs.lemmas.List.{length-reverse}
 use Rattle.spp_event.specs.Recordings.{Recording}
 use Rattle.spp_maxplus.specs.declared.state.Burdens.{Burdens}
+use Rattle.spp_pass.specs.CallFrames.{stretch_calls}
 use Rattle.spp_pass.specs.declared.counted_frame.CountedFrame.{CountedFrame}
 use Rattle.spp_pass.specs.declared.calls.CallRow.{CallRow}
 use Rattle.spp_ways.specs.declared.open_ways.OpenWays.{OpenWays}
@@ -34,7 +35,7 @@ lead_more trace burdens first from settled [] to then x h takes at = (
 lead_more trace burdens first from settled (y ∷ xs) to then x h takes at = (h.0, h.1, lead_more trace burdens first (suc y.at) (settles y.end) xs to then x h.2 takes at)
 
 -- what is told of a stretch is what has been read
-pub told_stretch : (a : Seen) (calls : List CallRow) (o : OpenWays) (x : Stretch) → frames_of x.counted ≡ a.frames → x.counted.work ≡ a.work → x.calls.items ≡ calls
+pub told_stretch : (a : Seen) (calls : List CallRow) (o : OpenWays) (x : Stretch) → frames_of x.counted ≡ a.frames → x.counted.work ≡ a.work → stretch_calls x.calls ≡ calls
     → stretch_rows x.logged ≡ o.log.rows.items → stretch_frames x.logged ≡ o.frames.items → as_stretch a calls o ≡ stretch_of x
 told_stretch a calls o x frames work same rows ways = λ j. record { frames = sym frames j; work = sym work j; calls = sym same j; rows = sym rows j; ways = sym ways j }
 

@@ -20,6 +20,7 @@ use Rattle.spp_pass.specs.declared.counted_frame.CountedFrame.{CountedFrame}
 use Rattle.spp_pass.specs.declared.calls.CallRow.{CallRow}
 use Rattle.spp_pass.specs.declared.counting.Counting.{Counting}
 use Rattle.spp_pass.specs.Passes.{Seen, strand_frame, no_notes, seen_with}
+use Rattle.spp_pass.specs.CallFrames.{stretch_calls}
 use Rattle.spp_pass.specs.CallRows.{AreCallsBelow}
 use Rattle.spp_pass.specs.AsideRows.{aside_row}
 use Rattle.spp_pass.specs.Stretches.{stretch_frame, enclosure, frames_of, child_wins, IsJoined}
@@ -92,7 +93,7 @@ abbrev pub stretch_of : Stretch → StretchOf
 stretch_of x = record {
   frames = frames_of x.counted;
   work = x.counted.work;
-  calls = x.calls.items;
+  calls = stretch_calls x.calls;
   rows = stretch_rows x.logged;
   ways = stretch_frames x.logged;
 }

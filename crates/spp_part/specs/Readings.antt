@@ -13,6 +13,7 @@ use Rattle.spp_ways.specs.Ways.{Ways}
 use Rattle.spp_ways.specs.Enclosures.{Enclosure}
 use Rattle.spp_ways.specs.Stretches.{AreStretchWays}
 use Rattle.spp_pass.specs.declared.calls.CallRow.{CallRow}
+use Rattle.spp_pass.specs.CallFrames.{calls_so_far}
 use Rattle.spp_pass.specs.CallRows.{AreLight}
 use Rattle.spp_pass.specs.Passes.{Seen, Notes, seen_with}
 use Rattle.spp_pass.proofs.Alone.{Alone}
@@ -68,7 +69,7 @@ pub record IsReading (trace : Recording) (burdens : Burdens) (first k : ℕ) (r 
   pub to : ℕ
   pub notes : Notes
   pub ended : Lead trace burdens first 0 false r.ended.items to r.settled
-  pub going : IsGoing trace burdens first to k r.settled (seen_with r.counting notes) r.calls.rows.items r.ways
+  pub going : IsGoing trace burdens first to k r.settled (seen_with r.counting notes) (calls_so_far r.calls) r.ways
 
 -- and that event is this one
 pub record IsAhead (trace : Recording) (burdens : Burdens) (first k : ℕ) (event : Event) (r : Reading) : Type 0 where

@@ -14,7 +14,7 @@ use spp_cut::Part;
 use spp_dag::FrameKind;
 use spp_event::{Event, EventFault, Events, Reader};
 use spp_maxplus::Burdens;
-use spp_pass::{Calls, Counting, Popped};
+use spp_pass::{CallsSoFar, Counting, Popped};
 use spp_ways::OpenWays;
 use std::alloc::{AllocError, Global};
 
@@ -37,7 +37,7 @@ pub(crate) struct Reading {
     ended: Vec<EndedStretch>,
     counting: Counting,
     ways: OpenWays,
-    calls: Calls,
+    calls: CallsSoFar,
     /// Whether it is known that no child that returned before the stretch waits in its outer frame.
     settled: bool,
 }
@@ -51,7 +51,7 @@ impl Reading {
             ended: Vec::new(alloc),
             counting: Counting::stretch(alloc)?,
             ways: OpenWays::stretch(alloc)?,
-            calls: Calls::new(alloc),
+            calls: CallsSoFar::new(alloc),
             settled: false,
         })
     }
@@ -171,7 +171,7 @@ impl Reading {
             ended,
             last: Stretch {
                 counted: counting.into_stretch(),
-                calls: calls.into_rows(),
+                calls: calls.into_calls(),
                 logged: ways.into_stretch(),
             },
             good,
@@ -203,8 +203,8 @@ impl PartProfile {
         frames >= DEEP_FRAMES && frames >= self.good as usize / EVENTS_OF_A_FRAME
     }
 
-    /// Whether to join the part takes about as long as to read its events: it is deep, or its last stretch has one row for two
-    /// events, as where a frame calls by many sites in turn. No clause says when: answers don't depend on it.
+    /// Whether to join the part takes about as long as to read its events: it is deep, or its last stretch has one row, or frame of
+    /// its own, for two events, as where a frame calls by many sites in turn. No clause says when: answers don't depend on it.
     pub fn joins_slowly(&self) -> bool {
         let rows = self
             .last
@@ -251,12 +251,13 @@ impl PartProfile {
     /// the root frame shows where the part is joined. It takes constant time for each event, amortized, besides a step for each
     /// number of a site and of a function up to the greatest in the part.
     ///
-    /// For each of its stretches it takes 128 bytes for each pair of a call site and a function that calls by it, and at worst,
-    /// where there are thousands of pairs, for each frame that closes in the part and was opened there; and 112 for each of these
-    /// frames that was on a greatest way, on either path, as it returned. A stretch ends at each return of a frame that was open
-    /// before, and at the first sync of such a frame: each takes 24 bytes, and 350 to 470 more if it isn't strands alone. Each
-    /// frame that the part leaves open takes 224. All that is up to twice as much with spare room, and more where stretches
-    /// have few rows. While the part is read, some 50 bytes more are taken for each pair, and 32 KB at most.
+    /// For each of its stretches it takes 128 bytes for each pair of a call site and a function that calls by it. Where these are
+    /// thousands, each frame that closes in the part, was opened there and is in no row takes 40 instead, or 128 where a number
+    /// needs more than 64 bits. It takes 112 for each of these frames that was on a greatest way, on either path, as it returned. A
+    /// stretch ends at each return of a frame that was open before, and at the first sync of such a frame: each takes 24 bytes,
+    /// and 370 to 490 more if it isn't strands alone. Each frame that the part leaves open takes 224. All that is up to twice as
+    /// much with spare room, and more where stretches have few rows. While the part is read, some 50 bytes more are taken for each
+    /// pair, and 32 KB at most.
     ///
     /// # Errors
     ///

@@ -1,6 +1,6 @@
 //! The profile of a run so far.
 
-ghost use Rattle.std.specs.Prelude.{◌≡◌, suc, ◌+◌, ◌≤◌, ◌<◌, ◌^◌, ℕ, Bool, true, false, length, Err, OnOk, IfOk, IfErr, OnErr};
+ghost use Rattle.std.specs.Prelude.{◌≡◌, suc, ◌+◌, ◌≤◌, ◌<◌, ◌^◌, ℕ, Bool, true, false, length, Option, Err, OnOk, IfOk, IfErr, OnErr};
 ghost use Rattle.spp_event.specs.Recordings.{Recording, InLimits, AreEventsOf, record_at};
 ghost use Rattle.spp_maxplus.specs.declared.state.Burdens.{Burdens as BurdensValue};
 ghost use Rattle.spp_maxplus.specs.State.{unburdened};
@@ -29,8 +29,8 @@ use spp_ways::OpenWays;
 use std::alloc::{AllocError, Global};
 use std::mem;
 
-/// Rows of a stretch that are so many take longer to add to a table than it takes to copy what encloses the stretch.
-const MANY_CALLS: usize = 4096;
+/// A table of more call sites doesn't fit into the processor's caches, so rows are kept aside and added to it many at a time.
+const UNCACHED_SITES: u32 = 8192;
 
 /// The profile of a run so far: what the events up to a position have come to.
 #[derive(Drop)]
@@ -41,6 +41,8 @@ pub struct ProfileSoFar {
     events: u32,
     /// Rows of frames that have closed, which aren't in the table of `counting`.
     aside: RowsAside,
+    /// Whether those of frames that return in events which are read one by one are kept there. The answer doesn't depend on it.
+    returns_aside: bool,
 }
 
 /// A bad event as what is wrong with a run.
@@ -65,6 +67,7 @@ impl ProfileSoFar {
             ways: OpenWays::new(alloc, sites)?,
             events: 0,
             aside: RowsAside::new(alloc),
+            returns_aside: sites > UNCACHED_SITES,
         })
     }
 
@@ -94,7 +97,8 @@ impl ProfileSoFar {
         let wins = self.counting.wins_by(&stretch.counted);
         self.ways
             .join(alloc, &stretch.logged, wins, &self.counting.enclosing())?;
-        self.counting.join(&stretch.counted, &stretch.calls, first)?;
+        self.counting
+            .join_stretch(&stretch.counted, &stretch.calls, first)?;
         Ok(())
     }
 
@@ -132,7 +136,7 @@ impl ProfileSoFar {
         Ok(())
     }
 
-    /// The same, where the rows of the stretch are kept aside if they are many.
+    /// The same, where the rows of the stretch are kept aside.
     ///
     /// # Errors
     ///
@@ -142,10 +146,6 @@ impl ProfileSoFar {
         ensures stands { OnOk result ((lent : Rows) (trace : Recording) (burdens : BurdensValue) (i j : ℕ) (settled : Bool) → Stands (rest_of self.old lent) trace burdens i settled self.old.counting self.old.ways → GoesOn trace burdens first i j settled (stretch_of stretch) → Stands (rest_of self.new lent) trace burdens j false self.new.counting self.new.ways) }
         ensures events { self.new.events ≡ self.old.events }
     {
-        if stretch.calls.len() < MANY_CALLS {
-            self.go_on(alloc, &stretch, first)?;
-            return Ok(());
-        }
         let Stretch {
             counted,
             calls,
@@ -155,7 +155,7 @@ impl ProfileSoFar {
         self.ways
             .join(alloc, &logged, wins, &self.counting.enclosing())?;
         let aside = mem::replace(&mut self.aside, RowsAside::new(alloc));
-        self.aside = self.counting.put_aside(alloc, calls, aside)?;
+        self.aside = self.counting.put_stretch_aside(alloc, calls, aside)?;
         self.counting.join(&counted, &[], first)?;
         Ok(())
     }
@@ -197,13 +197,32 @@ impl ProfileSoFar {
         self.ways.wait(takes);
     }
 
-    /// The innermost frame returns, if it isn't the root; gives whether it does.
+    /// Adds the rows up that are kept aside, if they are many. No clause says when: answers don't depend on it.
     ///
     /// # Errors
     ///
     /// Where an allocation failed.
     #[inline(always)]
-    fn ret(&mut self, alloc: Global, burdens: Burdens) -> Result<bool, AllocError>
+    fn add_many_up(&mut self, alloc: Global) -> Result<(), AllocError>
+        ensures rows { OnOk result ((key : Option ℕ) → aside_row self.new.aside key ≡ aside_row self.old.aside key) }
+        ensures counting { self.new.counting ≡ self.old.counting }
+        ensures ways { self.new.ways ≡ self.old.ways }
+        ensures events { self.new.events ≡ self.old.events }
+    {
+        if self.aside.should_add_up() {
+            let aside = mem::replace(&mut self.aside, RowsAside::new(alloc));
+            self.aside = aside.added_up(alloc)?;
+        }
+        Ok(())
+    }
+
+    /// The innermost frame returns, if it isn't the root, and its row is added to the table; gives whether it does.
+    ///
+    /// # Errors
+    ///
+    /// Where an allocation failed.
+    #[inline(always)]
+    fn ret_counted(&mut self, alloc: Global, burdens: Burdens) -> Result<bool, AllocError>
         requires { (rest : Rows) × (trace : Recording) × (at : ℕ) × Stands rest trace burdens at false self.old.counting self.old.ways × IsEventAt trace at RetEvent × (at < length trace.records) }
         ensures stands { IfOk result (λ returns. returns ≡ true → (rest : Rows) (trace : Recording) (at : ℕ) → Stands rest trace burdens at false self.old.counting self.old.ways → IsEventAt trace at RetEvent → at < length trace.records → Stands rest trace burdens (suc at) false self.new.counting self.new.ways) }
         ensures fault { IfOk result (λ returns. returns ≡ false → (rest : Rows) (trace : Recording) (at : ℕ) → Stands rest trace burdens at false self.old.counting self.old.ways → IsEventAt trace at RetEvent → at < length trace.records → IsFaultOf trace.records (Bad (record { at = at; why = RootReturn }))) }
@@ -222,6 +241,54 @@ impl ProfileSoFar {
             &closing.closed,
         )?;
         Ok(true)
+    }
+
+    /// The same, where the row of the frame is kept aside.
+    ///
+    /// # Errors
+    ///
+    /// Where an allocation failed.
+    #[inline(never)]
+    fn ret_aside(&mut self, alloc: Global, burdens: Burdens) -> Result<bool, AllocError>
+        requires { (lent : Rows) × (trace : Recording) × (at : ℕ) × Stands (rest_of self.old lent) trace burdens at false self.old.counting self.old.ways × IsEventAt trace at RetEvent × (at < length trace.records) }
+        ensures stands { IfOk result (λ returns. returns ≡ true → (lent : Rows) (trace : Recording) (at : ℕ) → Stands (rest_of self.old lent) trace burdens at false self.old.counting self.old.ways → IsEventAt trace at RetEvent → at < length trace.records → Stands (rest_of self.new lent) trace burdens (suc at) false self.new.counting self.new.ways) }
+        ensures fault { IfOk result (λ returns. returns ≡ false → (lent : Rows) (trace : Recording) (at : ℕ) → Stands (rest_of self.old lent) trace burdens at false self.old.counting self.old.ways → IsEventAt trace at RetEvent → at < length trace.records → IsFaultOf trace.records (Bad (record { at = at; why = RootReturn }))) }
+        ensures events { self.new.events ≡ self.old.events }
+    {
+        let Some(popped) = self.counting.pop(burdens) else {
+            return Ok(false);
+        };
+        let closing = popped.closing;
+        self.ways.ret(
+            alloc,
+            closing.kind,
+            closing.takes,
+            closing.wins,
+            closing.site,
+            &closing.closed,
+        )?;
+        self.aside.close(closing.site, &closing.closed)?;
+        self.add_many_up(alloc)?;
+        Ok(true)
+    }
+
+    /// The innermost frame returns, if it isn't the root, and its row is added to the table or kept aside; gives whether it does.
+    ///
+    /// # Errors
+    ///
+    /// Where an allocation failed.
+    #[inline(always)]
+    fn ret(&mut self, alloc: Global, burdens: Burdens) -> Result<bool, AllocError>
+        requires { (lent : Rows) × (trace : Recording) × (at : ℕ) × Stands (rest_of self.old lent) trace burdens at false self.old.counting self.old.ways × IsEventAt trace at RetEvent × (at < length trace.records) }
+        ensures stands { IfOk result (λ returns. returns ≡ true → (lent : Rows) (trace : Recording) (at : ℕ) → Stands (rest_of self.old lent) trace burdens at false self.old.counting self.old.ways → IsEventAt trace at RetEvent → at < length trace.records → Stands (rest_of self.new lent) trace burdens (suc at) false self.new.counting self.new.ways) }
+        ensures fault { IfOk result (λ returns. returns ≡ false → (lent : Rows) (trace : Recording) (at : ℕ) → Stands (rest_of self.old lent) trace burdens at false self.old.counting self.old.ways → IsEventAt trace at RetEvent → at < length trace.records → IsFaultOf trace.records (Bad (record { at = at; why = RootReturn }))) }
+        ensures events { self.new.events ≡ self.old.events }
+    {
+        if self.returns_aside {
+            return self.ret_aside(alloc, burdens);
+        }
+        let returns = self.ret_counted(alloc, burdens)?;
+        Ok(returns)
     }
 
     /// The innermost frame returns, or waits, at `at`.
@@ -245,7 +312,7 @@ impl ProfileSoFar {
         match end {
             End::Sync => self.sync(),
             End::Return => {
-                if !self.ret(alloc, burdens)? {
+                if !self.ret_counted(alloc, burdens)? {
                     return Err(bad(at, Why::RootReturn));
                 }
             }
@@ -276,7 +343,7 @@ impl ProfileSoFar {
             }
             Event::Call { site, func } => self.open(FrameKind::Called, site, func)?,
             Event::Spawn { site, func } => self.open(FrameKind::Spawned, site, func)?,
-            // Not by `end`: with that in it twice this would grow too large to be inlined.
+            // Not by `end`, which keeps no row aside, and with which twice in it this would grow too large to be inlined.
             Event::Ret => {
                 let returns = self.ret(alloc, burdens)?;
                 if !returns {
@@ -345,7 +412,7 @@ impl ProfileSoFar {
         Ok(())
     }
 
-    /// Joins a part as [`ProfileSoFar::join`] does, and keeps the rows of its long stretches aside.
+    /// Joins a part as [`ProfileSoFar::join`] does, and keeps the rows of its stretches aside.
     ///
     /// # Errors
     ///
@@ -395,8 +462,8 @@ impl ProfileSoFar {
         mem::replace(&mut self.aside, RowsAside::new(alloc))
     }
 
-    /// Takes rows back that were lent, or their like. It takes constant time, besides that for each row that is kept aside: these
-    /// are added to the table.
+    /// Takes rows back that were lent, or their like. It takes constant time, besides that for each row that is kept aside, and for
+    /// each site number: these are added to the table.
     ///
     /// # Errors
     ///
@@ -431,6 +498,7 @@ impl ProfileSoFar {
             ways,
             events,
             aside,
+            ..
         } = self;
         counting.add_aside(aside)?;
         let depth = counting.depth();

@@ -3,7 +3,7 @@
 ghost use Rattle.std.specs.Prelude.{◌≡◌, IfOk, IfSome};
 ghost use Rattle.spp_part.specs.Parts.{stretch_of, strands_alone, stored_of};
 
-use spp_pass::{CallRow, CountedStretch};
+use spp_pass::{CountedStretch, StretchCalls};
 use spp_ways::LoggedStretch;
 use std::alloc::{AllocError, Global};
 
@@ -13,8 +13,8 @@ use std::alloc::{AllocError, Global};
 pub(crate) struct Stretch {
     /// Its frames.
     pub(crate) counted: CountedStretch,
-    /// The rows of the frames that have closed in it.
-    pub(crate) calls: Vec<CallRow>,
+    /// The frames that have closed in it.
+    pub(crate) calls: StretchCalls,
     /// Its ways.
     pub(crate) logged: LoggedStretch,
 }

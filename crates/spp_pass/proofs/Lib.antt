@@ -15,6 +15,8 @@ pub mod Taking
 pub mod Joining
 pub mod Alone
 pub mod CallRows
+pub mod CallFrames
+pub mod NarrowRows
 pub mod PlacedFrames
 pub mod ChildWins
 pub mod RunReturns

@@ -22,10 +22,14 @@ enclosed_sums e site caller r = record {
   caller_span = cond (is_top_caller e caller) r.caller_span 0;
 }
 
+-- what a row of a site adds to that of a key
+abbrev pub at_site : ℕ → Row → Option ℕ → Row
+at_site site r key = cond (same_key (Some site) key) r zero_row
+
 -- what rows add to that of a key
 abbrev pub calls_row : Enclosure → List CallRow → Option ℕ → Row
 calls_row e [] key = zero_row
-calls_row e (c ∷ cs) key = plus (calls_row e cs key) (cond (same_key (Some c.site) key) (enclosed_sums e c.site c.caller c.row) zero_row)
+calls_row e (c ∷ cs) key = plus (calls_row e cs key) (at_site c.site (enclosed_sums e c.site c.caller c.row) key)
 
 -- each is of a site below that
 abbrev pub AreCallsBelow : ℕ → List CallRow → Type 0
@@ -40,9 +44,13 @@ no_calls = record { row = zero_row; site = 0; caller = 0 }
 abbrev pub EachBelow : ℕ → List CallRow → Type 0
 EachBelow n cs = (k : ℕ) → k < length cs → (get_or cs k no_calls).site < n
 
+-- a row for one frame
+abbrev pub lone_row : ℕ → ℕ → ClosedFrame → CallRow
+lone_row site caller f = record { row = frame_row f; site = site; caller = caller }
+
 -- what a frame that closes adds to it
 abbrev pub call_row : Enclosure → ℕ → ℕ → ClosedFrame → Option ℕ → Row
-call_row e site caller f key = cond (same_key (Some site) key) (frame_row (enclosed e site caller f)) zero_row
+call_row e site caller f key = at_site site (frame_row (enclosed e site caller f)) key
 
 -- a frame that closes has been added, whatever encloses the stretch
 pub record AreAdded (site caller : ℕ) (f : ClosedFrame) (old new : List CallRow) : Type 0 where

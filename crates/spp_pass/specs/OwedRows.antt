@@ -6,6 +6,7 @@ use Rattle.spp_site.specs.Marks.{is_marked}
 use Rattle.spp_ways.specs.Enclosures.{Enclosure}
 use Rattle.spp_pass.specs.declared.owed.OwedCalls.{OwedCalls}
 use Rattle.spp_pass.specs.CallRows.{calls_row}
+use Rattle.spp_pass.specs.CallFrames.{stretch_calls}
 
 -- what encloses the stretch whose rows are owed
 abbrev pub owed_enclosure : OwedCalls → Enclosure
@@ -13,7 +14,7 @@ owed_enclosure o = record { sites = is_marked o.sites; funcs = is_marked o.funcs
 
 -- what they add to the row of a key
 abbrev pub owed_row : OwedCalls → Option ℕ → Row
-owed_row o key = calls_row (owed_enclosure o) o.calls.items key
+owed_row o key = calls_row (owed_enclosure o) (stretch_calls o.calls) key
 
 abbrev pub owed_rows : List OwedCalls → Option ℕ → Row
 owed_rows [] key = zero_row

@@ -1,6 +1,6 @@
 //! The frames that close in a stretch of events.
 
-ghost use Rattle.std.specs.Prelude.{◌≡◌, ◌+◌, ◌*◌, ◌<◌, ◌≤◌, ◌^◌, ◌++◌, ◌∷◌, [], ℕ, length, get_or, Option, IfSome, OnOk};
+ghost use Rattle.std.specs.Prelude.{◌≡◌, ◌+◌, ◌*◌, ◌<◌, ◌≤◌, ◌^◌, ◌++◌, ◌∷◌, [], ℕ, length, get_or, Option, true, false, IfSome, OnOk};
 ghost use Rattle.spp_dag.specs.Shares.{plus};
 ghost use Rattle.spp_site.specs.Rows.{Fits, frame_row};
 ghost use Rattle.spp_site.specs.Profiles.{key_row};
@@ -84,7 +84,7 @@ const NO_CALLER: u32 = u32::MAX;
 /// The fewest places, where there are any.
 const FEWEST_PLACES: usize = 64;
 
-/// The most places: so many fit into the processor's nearest cache. Of more rows some aren't found again, and frames get new ones.
+/// The most places: so many fit into the processor's nearest cache. Of more rows some aren't found again.
 const MOST_PLACES: usize = 2048;
 
 /// How many neighbouring places are looked at for a row.
@@ -104,8 +104,7 @@ pub struct Calls {
     /// The rows.
     rows: Vec<CallRow>,
     /// Places of rows, found by site and caller: none, or a power of two. At least half of them are free, unless there are the
-    /// most. A place says which row to look at, and no more: where it was given to another row, the next frame of that site and
-    /// caller gets a new row.
+    /// most. A place says which row to look at, and no more: where it was given to another row, the first isn't found again.
     places: Vec<Place>,
 }
 
@@ -157,6 +156,38 @@ impl Calls {
         frame.add_to(&mut self.rows[k].row);
     }
 
+    /// Adds a frame to the row that is at the first of its places, if there is one; tells whether it did.
+    #[inline(always)]
+    pub(crate) fn add_first(&mut self, site: u32, caller: u32, frame: &ClosedFrame) -> bool
+        requires { (n : ℕ) × (n < 2 ^ 32) × AreLight n self.old.rows.items × IsLightFrame frame.now }
+        ensures added { result ≡ true → AreAdded site caller frame.now self.old.rows.items self.new.rows.items }
+        ensures light { result ≡ true → (n : ℕ) → AreLight n self.old.rows.items → IsLightFrame frame.now → AreLight (n + 1) self.new.rows.items }
+        ensures stays { result ≡ false → self.new ≡ self.old }
+    {
+        let Some(k) = self.at(first_place(site, caller, self.places.len()), site, caller) else {
+            return false;
+        };
+        self.add_at(k, frame);
+        true
+    }
+
+    /// The same of its other places.
+    pub(crate) fn add_next(&mut self, site: u32, caller: u32, frame: &ClosedFrame) -> bool
+        requires { (n : ℕ) × (n < 2 ^ 32) × AreLight n self.old.rows.items × IsLightFrame frame.now }
+        ensures added { result ≡ true → AreAdded site caller frame.now self.old.rows.items self.new.rows.items }
+        ensures light { result ≡ true → (n : ℕ) → AreLight n self.old.rows.items → IsLightFrame frame.now → AreLight (n + 1) self.new.rows.items }
+        ensures stays { result ≡ false → self.new ≡ self.old }
+    {
+        let first = first_place(site, caller, self.places.len());
+        for step in 1..PROBES {
+            if let Some(k) = self.at(self.next(first, step), site, caller) {
+                self.add_at(k, frame);
+                return true;
+            }
+        }
+        false
+    }
+
     /// Adds a frame that has closed, which was entered by that site from a caller that runs that function, or is the
     /// outermost frame of the stretch (`OUTER_CALLER`). It takes constant time, amortized.
     ///
@@ -169,35 +200,18 @@ impl Calls {
         ensures added { OnOk result (AreAdded site caller frame.now self.old.rows.items self.new.rows.items) }
         ensures light { OnOk result ((n : ℕ) → AreLight n self.old.rows.items → IsLightFrame frame.now → AreLight (n + 1) self.new.rows.items) }
     {
-        let place = first_place(site, caller, self.places.len());
-        if let Some(k) = self.at(place, site, caller) {
-            self.add_at(k, frame);
+        if self.add_first(site, caller, frame) {
             return Ok(());
         }
-        self.add_elsewhere(place, site, caller, *frame)
+        if self.add_next(site, caller, frame) {
+            return Ok(());
+        }
+        self.push(site, caller, frame)
     }
 
-    /// The same, where no row is at that place. It takes the frame by its value, so that the caller has no need to keep one in
-    /// memory.
-    #[inline(never)]
-    fn add_elsewhere(
-        &mut self,
-        place: usize,
-        site: u32,
-        caller: u32,
-        frame: ClosedFrame,
-    ) -> Result<(), AllocError>
-        requires { (n : ℕ) × (n < 2 ^ 32) × AreLight n self.old.rows.items × IsLightFrame frame }
-        ensures added { OnOk result (AreAdded site caller frame self.old.rows.items self.new.rows.items) }
-        ensures light { OnOk result ((n : ℕ) → AreLight n self.old.rows.items → IsLightFrame frame → AreLight (n + 1) self.new.rows.items) }
-    {
-        for step in 1..PROBES {
-            if let Some(k) = self.at(self.next(place, step), site, caller) {
-                self.add_at(k, &frame);
-                return Ok(());
-            }
-        }
-        self.push(site, caller, &frame)
+    /// Whether there are over so many rows besides one for each of the most places.
+    pub(crate) fn has_rows_beyond(&self, more: usize) -> bool {
+        self.rows.len() > MOST_PLACES.saturating_add(more)
     }
 
     /// The place so many steps behind.
@@ -211,7 +225,12 @@ impl Calls {
     /// # Errors
     ///
     /// Where an allocation failed.
-    fn push(&mut self, site: u32, caller: u32, frame: &ClosedFrame) -> Result<(), AllocError>
+    pub(crate) fn push(
+        &mut self,
+        site: u32,
+        caller: u32,
+        frame: &ClosedFrame,
+    ) -> Result<(), AllocError>
         ensures added { OnOk result (AreAdded site caller frame.now self.old.rows.items self.new.rows.items) }
         ensures light { OnOk result ((n : ℕ) → AreLight n self.old.rows.items → IsLightFrame frame.now → AreLight (n + 1) self.new.rows.items) }
     {

@@ -45,6 +45,7 @@ ghost use Rattle.spp_pass.specs.Stretches.{
 ghost use Rattle.spp_dag.specs.Shares.{plus};
 ghost use Rattle.spp_site.specs.Rows.{Fits};
 ghost use Rattle.spp_site.specs.Profiles.{key_row};
+ghost use Rattle.spp_pass.specs.CallFrames.{stretch_calls};
 ghost use Rattle.spp_pass.specs.CallRows.{calls_row, AreCallsBelow};
 ghost use Rattle.spp_pass.specs.AsideRows.{aside_row, HasAside};
 ghost use Rattle.spp_pass.specs.Outside.{
@@ -59,13 +60,18 @@ ghost use Rattle.spp_pass.specs.Outside.{
 use crate::aside::RowsAside;
 use crate::calls::{CallRow, add_calls};
 use crate::counted_frame::CountedFrame;
+use crate::narrow_frame::add_frames;
 use crate::owed::OwedCalls;
+use crate::stretch_calls::StretchCalls;
 use spp_dag::{Figures, FrameKind};
 use spp_maxplus::{Burdens, Weights};
 use spp_site::{ClosedFrame, Marks, Share, Table};
 use spp_stack::Entry;
 use spp_ways::{Enclosing, OUTER_CALLER, OnPaths};
 use std::alloc::{AllocError, Global};
+
+/// To find out of so many frames of a stretch which are top takes longer than to copy what encloses it.
+const MANY_CALLS: usize = 4096;
 
 /// A frame that returns, and what that tells of the ways through it.
 #[derive(Clone, Copy)]
@@ -495,8 +501,32 @@ impl Counting {
         Ok(())
     }
 
+    /// Joins a stretch as [`Counting::join`] does, with all frames that have closed in it.
+    ///
+    /// # Errors
+    ///
+    /// Where an allocation failed.
+    pub fn join_stretch(
+        &mut self,
+        stretch: &CountedStretch,
+        calls: &StretchCalls,
+        first: u32,
+    ) -> Result<(), AllocError>
+        requires { CanJoin first (frames_of stretch.now) stretch.now.outer stretch.now.work (stretch_calls calls.now) (seen_with self.old no_notes) }
+        ensures { OnOk result ((g : CountedFrameValue) (gs : List CountedFrameValue) → (seen_with self.old no_notes).frames ≡ g ∷ gs → (m n : Notes) → IsJoined first (frames_of stretch.now) stretch.now.work (stretch_calls calls.now) g gs (seen_with self.old m) (seen_with self.new n)) }
+    {
+        let last = self.frames.len() - 1;
+        let enclosing = Enclosing {
+            sites: &self.open_sites,
+            funcs: &self.open_funcs,
+            direct: self.frames[last].top_func,
+        };
+        add_frames(&mut self.table, &calls.frames, &enclosing)?;
+        self.join(stretch, &calls.rows, first)
+    }
+
     /// Keeps rows of frames aside that have closed in a stretch which begins here, with those that are there. It takes time linear
-    /// in the greatest number of a site and of a function that the open frames have had.
+    /// in the greatest number of a site and of a function that the open frames have had, or where rows are few in their number.
     ///
     /// # Errors
     ///
@@ -511,11 +541,38 @@ impl Counting {
         requires fits { OnTop (λ g. (key : Option ℕ) → Fits (plus (aside_row aside key) (calls_row (enclosure g (seen_with self.now no_notes)) calls.items key))) (seen_with self.now no_notes).frames }
         ensures { IfOk result (λ r. (g : CountedFrameValue) (gs : List CountedFrameValue) → (seen_with self.now no_notes).frames ≡ g ∷ gs → (key : Option ℕ) → aside_row r key ≡ plus (aside_row aside key) (calls_row (enclosure g (seen_with self.now no_notes)) calls.items key)) }
     {
-        let owed = OwedCalls::of(alloc, calls, &self.enclosing())?;
+        self.put_stretch_aside(alloc, StretchCalls::of_rows(alloc, calls), aside)
+    }
+
+    /// Keeps all frames aside that have closed in a stretch which begins here, as [`Counting::put_aside`] does with rows.
+    ///
+    /// # Errors
+    ///
+    /// Where an allocation failed.
+    pub fn put_stretch_aside(
+        &self,
+        alloc: Global,
+        calls: StretchCalls,
+        aside: RowsAside,
+    ) -> Result<RowsAside, AllocError>
+        requires below { AreCallsBelow 65536 (stretch_calls calls) }
+        requires fits { OnTop (λ g. (key : Option ℕ) → Fits (plus (aside_row aside key) (calls_row (enclosure g (seen_with self.now no_notes)) (stretch_calls calls) key))) (seen_with self.now no_notes).frames }
+        ensures { IfOk result (λ r. (g : CountedFrameValue) (gs : List CountedFrameValue) → (seen_with self.now no_notes).frames ≡ g ∷ gs → (key : Option ℕ) → aside_row r key ≡ plus (aside_row aside key) (calls_row (enclosure g (seen_with self.now no_notes)) (stretch_calls calls) key)) }
+    {
+        if calls.is_empty() {
+            return Ok(aside);
+        }
+        let enclosing = self.enclosing();
+        if calls.len() < MANY_CALLS {
+            let mut aside = aside;
+            aside.put_stretch(&calls, &enclosing)?;
+            return Ok(aside);
+        }
+        let owed = OwedCalls::of(alloc, calls, &enclosing)?;
         aside.with(owed)
     }
 
-    /// Adds rows to the table that were kept aside. It takes constant time for each.
+    /// Adds rows to the table that were kept aside. It takes constant time for each, and for each site number up to the greatest.
     ///
     /// # Errors
     ///

@@ -3,23 +3,25 @@
 ghost use Rattle.std.specs.Prelude.{◌≡◌, ℕ, Option, OnOk, IfOk};
 ghost use Rattle.spp_dag.specs.Shares.{plus};
 ghost use Rattle.spp_site.specs.Rows.{Fits};
-ghost use Rattle.spp_site.specs.Profiles.{key_row};
 ghost use Rattle.spp_ways.specs.Enclosures.{enclosure_of};
 ghost use Rattle.spp_pass.specs.CallRows.{calls_row, EachBelow};
+ghost use Rattle.spp_pass.specs.CallFrames.{stretch_calls};
+ghost use Rattle.spp_pass.specs.NarrowTables.{narrow_key};
 
-use crate::calls::{CallRow, add_calls};
-use spp_site::{Marks, Table};
+use crate::narrow_table::NarrowTable;
+use crate::stretch_calls::StretchCalls;
+use spp_site::Marks;
 use spp_ways::Enclosing;
 use std::alloc::{AllocError, Global};
 
 /// Rows of frames that have closed in a stretch, which no table has yet, with what encloses the stretch.
 #[derive(Drop)]
 pub struct OwedCalls {
-    calls: Vec<CallRow>,
+    calls: StretchCalls,
     sites: Marks,
     funcs: Marks,
     direct: bool,
-    ghost below: { EachBelow 65536 calls.items },
+    ghost below: { EachBelow 65536 calls.rows.items },
 }
 
 impl OwedCalls {
@@ -33,11 +35,11 @@ impl OwedCalls {
     /// Where an allocation failed.
     pub(crate) fn of(
         alloc: Global,
-        calls: Vec<CallRow>,
+        calls: StretchCalls,
         enclosing: &Enclosing<'_>,
     ) -> Result<Self, AllocError>
-        requires { EachBelow 65536 calls.items }
-        ensures { IfOk result (λ o. (key : Option ℕ) → owed_row o key ≡ calls_row (enclosure_of enclosing.now) calls.items key) }
+        requires { EachBelow 65536 calls.rows.items }
+        ensures { IfOk result (λ o. (key : Option ℕ) → owed_row o key ≡ calls_row (enclosure_of enclosing.now) (stretch_calls calls) key) }
     {
         let sites = Marks::copy(alloc, enclosing.sites)?;
         let funcs = Marks::copy(alloc, enclosing.funcs)?;
@@ -54,16 +56,16 @@ impl OwedCalls {
     /// # Errors
     ///
     /// Where an allocation failed.
-    fn add_to(&self, table: &mut Table) -> Result<(), AllocError>
-        requires { (key : Option ℕ) → Fits (plus (key_row table.old key) (owed_row self.now key)) }
-        ensures { OnOk result ((key : Option ℕ) → key_row table.new key ≡ plus (key_row table.old key) (owed_row self.now key)) }
+    fn add_to(&self, table: &mut NarrowTable) -> Result<(), AllocError>
+        requires { (key : Option ℕ) → Fits (plus (narrow_key table.old key) (owed_row self.now key)) }
+        ensures { OnOk result ((key : Option ℕ) → narrow_key table.new key ≡ plus (narrow_key table.old key) (owed_row self.now key)) }
     {
         let enclosing = Enclosing {
             sites: &self.sites,
             funcs: &self.funcs,
             direct: self.direct,
         };
-        add_calls(table, &self.calls, &enclosing)
+        table.add_stretch(&self.calls, &enclosing)
     }
 
     /// Adds all these rows to a table.
@@ -71,9 +73,9 @@ impl OwedCalls {
     /// # Errors
     ///
     /// Where an allocation failed.
-    pub(crate) fn add_all(table: &mut Table, owed: &[OwedCalls]) -> Result<(), AllocError>
-        requires { (key : Option ℕ) → Fits (plus (key_row table.old key) (owed_rows owed.now key)) }
-        ensures { OnOk result ((key : Option ℕ) → key_row table.new key ≡ plus (key_row table.old key) (owed_rows owed.now key)) }
+    pub(crate) fn add_all(table: &mut NarrowTable, owed: &[OwedCalls]) -> Result<(), AllocError>
+        requires { (key : Option ℕ) → Fits (plus (narrow_key table.old key) (owed_rows owed.now key)) }
+        ensures { OnOk result ((key : Option ℕ) → narrow_key table.new key ≡ plus (narrow_key table.old key) (owed_rows owed.now key)) }
     {
         for calls in owed {
             calls.add_to(table)?;

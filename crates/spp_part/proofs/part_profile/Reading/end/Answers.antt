@@ -1,4 +1,5 @@
 use Rattle.std.proofs.Common.{◌≡◌, ℕ, suc, ◌+◌, ◌≤◌, Bool, false, List, [], ◌∷◌, ◌++◌, length, sym, ap, subst, ◌∙◌, arith}
+use Rattle.spp_pass.specs.CallFrames.{calls_so_far}
 use Rattle.spp_pass.specs.declared.calls.CallRow.{CallRow}
 use Rattle.spp_pass.specs.Passes.{Seen, seen_with}
 use Rattle.spp_pass.specs.Stretches.{next_seen, next_frames, IsStretchOf}
@@ -26,7 +27,7 @@ returns c trace burdens first ahead =
     let told : IsStretchOf a c.next_stretch-counted.result = c.next_stretch-counted.ensures.ended one.0 one.1 in
     let ways = c.in_ok-logged.ensures in
     let x : Stretch = record { counted = c.next_stretch-counted.result; calls = c.take-calls.result; logged = c.in_ok-logged.logged } in
-    let same = told_stretch a r.calls.rows.items r.ways x told.0 told.1 c.take-calls.ensures.rows ways.rows ways.frames in
+    let same = told_stretch a (calls_so_far r.calls) r.ways x told.0 told.1 c.take-calls.ensures.calls ways.rows ways.frames in
     let e : EndedStretch = record { stored = c.in_ok-stored.stored; at = at; end = c.args.end } in
     let settled : settles c.args.end ≡ c.match-end.self = elim c.match-end.branch [ in-Return w ↦ ap settles w.in-Return.is ∙ sym w.self-is | in-Sync w ↦ ap settles w.in-Sync.is ∙ sym w.self-is ] in
     let pushed : c.push.new.self.items ≡ r.ended.items ++ e ∷ [] = c.in_ok-push.ensures.items in

@@ -1,3 +1,4 @@
+use Rattle.spp_pass.specs.CallFrames.{calls_so_far}
 use Rattle.spp_pass.specs.Passes.{seen_with}
 use Rattle.spp_part.specs.declared.part_profile.Reading.{Reading}
 use Rattle.spp_part.proofs.Going.{open_goes}
@@ -13,6 +14,6 @@ returns c trace burdens first event opens ahead =
       to = is.to;
       notes = is.notes;
       ended = is.ended;
-      going = open_goes trace burdens is.bounds first is.to c.args.at ahead.within r.settled (seen_with r.counting is.notes) r.calls.rows.items r.ways is.going
+      going = open_goes trace burdens is.bounds first is.to c.args.at ahead.within r.settled (seen_with r.counting is.notes) (calls_so_far r.calls) r.ways is.going
           (seen_with c.open.new.self is.notes) c.open-2.new.self c.args.kind c.args.site c.args.func event opens ahead.at (c.in_ok-open.ensures is.notes) (w.stretch is.going.last.laid) w.rows w.enclosed;
     }

@@ -1,6 +1,7 @@
 use Rattle.std.proofs.Common.{ℕ, ◌+◌, subst}
 use Rattle.spp_event.specs.declared.records.Event.TheVariants.{Strand}
 use Rattle.spp_event.specs.Recordings.{Recording}
+use Rattle.spp_pass.specs.CallFrames.{calls_so_far}
 use Rattle.spp_pass.specs.Passes.{seen_with}
 use Rattle.spp_part.specs.declared.part_profile.Reading.{Reading}
 use Rattle.spp_part.specs.States.{IsEventAt}
@@ -27,6 +28,6 @@ returns-in-Strand c trace first ahead =
       to = is.to;
       notes = is.notes;
       ended = is.ended;
-      going = strand_goes trace c.args.burdens is.bounds first is.to c.args.at ahead.within r.settled (seen_with r.counting is.notes) r.calls.rows.items r.ways is.going
+      going = strand_goes trace c.args.burdens is.bounds first is.to c.args.at ahead.within r.settled (seen_with r.counting is.notes) (calls_so_far r.calls) r.ways is.going
           (seen_with c.strand.new.self is.notes) c.strand-in-Strand.new.self c.in-Strand.count at (c.strand.ensures is.notes) (w.stretch is.going.last.laid) w.rows w.enclosed;
     }

@@ -1,4 +1,5 @@
 use Rattle.std.proofs.Common.{◌≡◌, ℕ, suc, ◌+◌, ◌≤◌, ◌<◌, length, arith, List, ◌∷◌, is_some, Option, Result, Ok, Err, OnOk, refl, sym, subst}
+use Rattle.spp_pass.specs.CallFrames.{calls_so_far}
 use Rattle.spp_pass.specs.declared.counted_frame.CountedFrame.{CountedFrame}
 use Rattle.spp_pass.specs.declared.counting.Popped.{Popped}
 use Rattle.spp_pass.specs.CallRows.{AreAdded, AreLight, IsLightFrame}
@@ -39,8 +40,8 @@ returns c trace first ahead =
     let w = c.in_ok-pop.ensures in
     let closes : IsLightFrame (closed_of out.frame a.work) = closed_light at a out.frame (out.parent ∷ out.below) is.going.alone out.frames (let short = is.bounds.short in let within : first + at < length trace.records = ahead.within in omega arith) in
     let same : told ≡ record { closing = closing_of c.args.burdens a.work out.frame out.parent; caller = caller_in (out.parent ∷ out.below) } = out.popped in
-    let added = subst (λ (t : Popped). AreAdded t.closing.site t.caller t.closing.closed r.calls.rows.items c.add.new.self.rows.items) same c.in_ok-add.ensures.added in
-    let light : AreLight (suc at) c.add.new.self.rows.items = subst (λ n. AreLight n c.add.new.self.rows.items) (let z : at + 1 ≡ suc at = omega arith in z)
+    let added = subst (λ (t : Popped). AreAdded t.closing.site t.caller t.closing.closed (calls_so_far r.calls) (calls_so_far c.add.new.self)) same c.in_ok-add.ensures.added in
+    let light : AreLight (suc at) (calls_so_far c.add.new.self) = subst (λ n. AreLight n (calls_so_far c.add.new.self)) (let z : at + 1 ≡ suc at = omega arith in z)
     (c.in_ok-add.ensures.light at is.going.light (subst (λ (t : Popped). IsLightFrame t.closing.closed) (sym same) closes)) in
     record {
       bounds = is.bounds;
@@ -48,8 +49,8 @@ returns c trace first ahead =
       notes = m;
       ended = is.ended;
       going =
-          pop_goes trace c.args.burdens is.bounds first is.to at ahead.within r.settled a r.calls.rows.items r.ways is.going b c.pop-2.new.self
-          at out.frame out.parent out.below out.frames ahead.at went.1 told out.popped c.add.new.self.rows.items added light w.stretch w.rows w.ways;
+          pop_goes trace c.args.burdens is.bounds first is.to at ahead.within r.settled a (calls_so_far r.calls) r.ways is.going b c.pop-2.new.self
+          at out.frame out.parent out.below out.frames ahead.at went.1 told out.popped (calls_so_far c.add.new.self) added light w.stretch w.rows w.ways;
     }
 
 -- what holds where it went well

@@ -1,4 +1,5 @@
 use Rattle.std.proofs.Common.{◌≡◌, true, length, arith}
+use Rattle.spp_pass.specs.CallFrames.{calls_so_far}
 use Rattle.spp_pass.specs.Passes.{Notes, noted_sync, seen_with}
 use Rattle.spp_part.specs.declared.part_profile.Reading.{Reading}
 use Rattle.spp_part.proofs.Going.{sync_goes}
@@ -18,6 +19,6 @@ returns c trace burdens first ahead =
       to = is.to;
       notes = m;
       ended = is.ended;
-      going = sync_goes trace burdens is.bounds first is.to c.args.at ahead.within r.settled (seen_with r.counting is.notes) r.calls.rows.items r.ways is.going
+      going = sync_goes trace burdens is.bounds first is.to c.args.at ahead.within r.settled (seen_with r.counting is.notes) (calls_so_far r.calls) r.ways is.going
           (seen_with c.sync.new.self m) c.wait.new.self c.args.at c.takes-takes.result c.takes-takes.ensures outer ahead.at (c.sync.ensures c.args.at is.notes) (w.stretch is.going.last.laid) w.rows w.enclosed;
     }

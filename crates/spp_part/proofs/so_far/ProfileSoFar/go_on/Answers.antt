@@ -1,6 +1,5 @@
-use Rattle.std.proofs.Common.{◌∙◌, sym, subst}
+use Rattle.std.proofs.Common.{◌∙◌}
 use Rattle.spp_ways.specs.Enclosures.{enclosure_of}
-use Rattle.spp_pass.specs.Stretches.{frames_of, CanJoin, IsJoined}
 use Rattle.spp_pass.specs.Passes.{no_notes, seen_with}
 use Rattle.spp_part.specs.Parts.{stretch_of}
 use Rattle.spp_part.proofs.Standing.{same_enclosure}
@@ -17,11 +16,8 @@ join-requires-clause-can c on =
     can_ways q.1 q.2 c.args.first q.3 q.4 q.5 c.args.self.now.counting c.args.self.now.ways c.args.stretch.now q.6 q.7 c.wins_by-wins.result (enclosure_of c.enclosing.result)
     (c.wins_by-wins.ensures o.top o.below o.is) (c.enclosing.ensures o.top o.below o.is ∙ same_enclosure o.top (seen_with c.args.self.now.counting no_notes) q.6.state q.6.counted) on
 
-pub join-requires-2 : goal.join-requires-2
-join-requires-2 c =
-    let q = c.requires in
-    subst (λ (calls : _). CanJoin c.args.first (frames_of c.args.stretch.now.counted) c.args.stretch.now.counted.outer c.args.stretch.now.counted.work calls (seen_with c.args.self.now.counting no_notes)) (sym c.deref.ensures.value)
-    (can q.1 q.2 c.args.first q.3 q.4 q.5 c.args.self.now.counting c.args.self.now.ways c.args.stretch.now q.6 q.7)
+pub join_stretch-requires : goal.join_stretch-requires
+join_stretch-requires c = let q = c.requires in can q.1 q.2 c.args.first q.3 q.4 q.5 c.args.self.now.counting c.args.self.now.ways c.args.stretch.now q.6 q.7
 
 pub returns-clause-stands : goal.returns-clause-stands
 returns-clause-stands c rest trace burdens i j settled st go =
@@ -30,7 +26,6 @@ returns-clause-stands c rest trace burdens i j settled st go =
     stands trace burdens c.args.first i j settled c.args.self.now.counting c.args.self.now.ways (stretch_of c.args.stretch.now) st go c.wins_by-wins.result (enclosure_of c.enclosing.result)
     (wins_of_outer trace burdens c.args.first i j settled c.args.self.now.counting c.args.self.now.ways c.args.stretch.now st go c.wins_by-wins.result (enclosure_of c.enclosing.result) (c.wins_by-wins.ensures o.top o.below o.is) encloses)
     encloses
-    c.join-2.new.self c.join.new.self
-    (subst (λ (calls : _). IsJoined c.args.first (frames_of c.args.stretch.now.counted) c.args.stretch.now.counted.work calls o.top o.below (seen_with c.args.self.now.counting no_notes) (seen_with c.join-2.new.self no_notes)) c.deref.ensures.value
-    (c.in_ok-join-2.ensures o.top o.below o.is no_notes no_notes))
+    c.join_stretch.new.self c.join.new.self
+    (c.in_ok-join_stretch.ensures o.top o.below o.is no_notes no_notes)
     c.in_ok-join.ensures.laid (λ on base w ws us a b d. c.in_ok-join.ensures.ways on base w ws us a b d) c.in_ok-join.ensures.rows

@@ -47,7 +47,7 @@ returns-clause-so_far c trace i so at lt =
           (f.stands trace b i (Spawn w.in-Spawn.site w.in-Spawn.func) refl so (is (Spawn w.in-Spawn.site w.in-Spawn.func) w.in-Spawn.is) lt, f.events ∙ so.1)
       | in-Ret+in_ok-returns-in-Ret+else-not-returns w ↦
           let f = w.in_ok-returns-in-Ret.ensures in
-          subst Now (sym w.self-is) (same w.ret.new.self w.ret.ensures.aside (f.stands w.if-not-returns.false rest trace i so.0 (is Ret w.in-Ret.is) lt), w.ret.ensures.events ∙ so.1)
+          subst Now (sym w.self-is) (f.stands w.if-not-returns.false no_rows trace i so.0 (is Ret w.in-Ret.is) lt, w.ret.ensures.events ∙ so.1)
       | in-Sync w ↦
           let f = w.sync.ensures in
           subst Now (sym w.self-is) (
@@ -61,4 +61,4 @@ pub returns-then-not-returns-clause-fault : goal.returns-then-not-returns-clause
 returns-then-not-returns-clause-fault c trace i so at lt =
     subst (λ (f : ProfileFault). IsFaultOf trace.records f) (sym c.bad.ensures)
     (subst (λ k. IsFaultOf trace.records (Bad (record { at = k; why = RootReturn }))) (sym (c.ret.ensures.events ∙ so.1))
-    (c.in_ok-returns-in-Ret.ensures.fault c.if-not-returns.true (rest_of c.args.self.now no_rows) trace i so.0 (subst (IsEventAt trace i) c.in-Ret.is at) lt))
+    (c.in_ok-returns-in-Ret.ensures.fault c.if-not-returns.true no_rows trace i so.0 (subst (IsEventAt trace i) c.in-Ret.is at) lt))

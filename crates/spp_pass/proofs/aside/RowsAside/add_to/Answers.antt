@@ -1,17 +1,41 @@
-use Rattle.std.proofs.Common.{sym, subst, None, Some}
+use Rattle.std.proofs.Common.{◌≡◌, List, ap, sym, subst, ◌∙◌}
 use Rattle.spp_dag.specs.Shares.{plus}
 use Rattle.spp_site.specs.Rows.{Fits}
-use Rattle.spp_site.specs.Table.{Sums, row_at}
-use Rattle.spp_pass.proofs.AsideRows.{first_two_fit}
+use Rattle.spp_site.specs.Profiles.{key_row}
+use Rattle.spp_pass.specs.declared.narrow_row.KnownRow.{KnownRow}
+use Rattle.spp_pass.specs.declared.owed.OwedCalls.{OwedCalls}
+use Rattle.spp_pass.specs.NarrowRows.{known_rows}
+use Rattle.spp_pass.specs.NarrowTables.{narrow_key}
 use Rattle.spp_pass.specs.OwedRows.{owed_rows}
+use Rattle.spp_pass.specs.AsideRows.{aside_row}
+use Rattle.spp_pass.proofs.AsideRows.{left_fits}
+use Rattle.spp_pass.proofs.CallFrames.{ok_more}
 use Rattle.spp_pass.proofs.aside.RowsAside.add_to.Goals as goal
 
-pub absorb-requires-clause-root_fits : goal.absorb-requires-clause-root_fits
-absorb-requires-clause-root_fits c =
-    subst (λ (t : Sums). Fits (plus c.args.table.now.root t.root)) (sym c.into_share.ensures)
-    (first_two_fit c.args.table.now.root c.args.self.table.root (owed_rows c.args.self.owed.items None) (c.requires None))
+pub add_known-requires : goal.add_known-requires
+add_known-requires c key =
+    subst (λ (l : List KnownRow). Fits (plus (narrow_key c.args.self.table key) (known_rows l key))) (sym c.deref.ensures.value)
+    (left_fits (plus (narrow_key c.args.self.table key) (known_rows c.args.self.known.items key)) (owed_rows c.args.self.owed.items key) (c.args.self.fits key))
 
-pub absorb-requires-clause-sites_fit : goal.absorb-requires-clause-sites_fit
-absorb-requires-clause-sites_fit c s =
-    subst (λ (t : Sums). Fits (plus (row_at c.args.table.now s) (row_at t s))) (sym c.into_share.ensures)
-    (first_two_fit (row_at c.args.table.now s) (row_at c.args.self.table s) (owed_rows c.args.self.owed.items (Some s)) (c.requires (Some s)))
+pub add_all-requires : goal.add_all-requires
+add_all-requires c key =
+    let added = c.in_ok-add_known.ensures key ∙ ap (λ (l : List KnownRow). plus (narrow_key c.args.self.table key) (known_rows l key)) c.deref.ensures.value in
+    subst (λ (l : List OwedCalls). Fits (plus (narrow_key c.add_known.new.self key) (owed_rows l key))) (sym c.deref-2.ensures.value)
+    (subst (λ r. Fits (plus r (owed_rows c.args.self.owed.items key))) (sym added) (c.args.self.fits key))
+
+pub add_to-requires : goal.add_to-requires
+add_to-requires c key =
+    let added = c.in_ok-add_known.ensures key ∙ ap (λ (l : List KnownRow). plus (narrow_key c.args.self.table key) (known_rows l key)) c.deref.ensures.value in
+    let all : narrow_key c.add_all.new.table key ≡ aside_row c.args.self key = c.in_ok-add_all.ensures key ∙ ap (λ (l : List OwedCalls). plus (narrow_key c.add_known.new.self key) (owed_rows l key)) c.deref-2.ensures.value
+    ∙ ap (λ r. plus r (owed_rows c.args.self.owed.items key)) added in
+    subst (λ r. Fits (plus (key_row c.args.table.now key) r)) (sym all) (c.requires key)
+
+pub returns : goal.returns
+returns c =
+    ok_more _ _
+    (λ told key.
+    let added = c.in_ok-add_known.ensures key ∙ ap (λ (l : List KnownRow). plus (narrow_key c.args.self.table key) (known_rows l key)) c.deref.ensures.value in
+    let all : narrow_key c.add_all.new.table key ≡ aside_row c.args.self key = c.in_ok-add_all.ensures key ∙ ap (λ (l : List OwedCalls). plus (narrow_key c.add_known.new.self key) (owed_rows l key)) c.deref-2.ensures.value
+    ∙ ap (λ r. plus r (owed_rows c.args.self.owed.items key)) added in
+    told key ∙ ap (plus (key_row c.args.table.now key)) all)
+    c.add_to.result c.add_to.ensures

@@ -1,5 +1,5 @@
 use Rattle.std.proofs.Common.{◌≡◌}
-use Rattle.spp_pass.proofs.calls.Calls.add_elsewhere.Given as goal
+use Rattle.spp_pass.proofs.calls.Calls.add_next.Given as goal
 
 -- nothing has changed
 abbrev pub invariant-loop-step : goal.invariant-loop-step
