@@ -149,6 +149,12 @@ each_refused 'profile over blocks, version 2' 0 3 'name,count*' '' "$folder/bloc
     for (n = 0; n < 40000; n++) print "call", n % 5000, "0\nreturn" }' | "$spprof" encode; } > "$folder/adders"
 printf '\0\x50\0\0' | dd of="$folder/adders" bs=1 seek=20 conv=notrunc 2> /dev/null
 each_refused 'profile by threads that add rows up' 1 11 '' 'bad event 407844: truncated' "$folder/adders" "$spprof" profile --workers 2
+# Of over 8,192 call sites the rows of frames that return are kept aside, and added up hundreds at a time; one frame takes more
+# than 64 bits.
+{ awk 'BEGIN { print "func f"; for (n = 0; n < 8200; n++) print "site s" n
+    print "call 7 0\nstrand 18446744073709551615\nstrand 1\nreturn"
+    for (n = 0; n < 1600; n++) print "spawn", n * 5, "0\nstrand 1\nreturn" }' | "$spprof" encode; } > "$folder/aside"
+each_refused 'profile, rows kept aside' 0 0 'work 18446744073709553216*' '' "$folder/aside" "$spprof" profile --workers 1
 each_refused 'profile by one worker' 0 0 'work 32744*' '' "$examples/nqueens.sptrace" "$spprof" profile --workers 1
 each_refused 'compare by one worker' 0 0 'work 10 17*' '' /dev/null "$spprof" compare --workers 1 "$folder/two" "$examples/small.sptrace"
 each_refused 'marks by workers' 0 3 '111100011' '' "$folder/two" "$printer" marks 9 2

@@ -426,14 +426,16 @@ for many in many many.compact; do
     expect "tables of many call sites in blocks, $many" 0 "$wanted$lf" '' /dev/null profile --csv --workers 1 "$folder/$many"
 done
 # Of so many events blocks are read by several workers. By turns other threads add their rows up, they have no rows, and they are
-# slow to join. Frames around the rows, one of which ends half way, decide which are top.
-awk 'BEGIN { print "func f\nfunc g"; for (n = 0; n < 6000; n++) print "site s" n
+# slow to join. Frames around the rows, one of which ends half way, decide which are top. Some frames, and the sums of some sites
+# whose frames are smaller, take more than 64 bits.
+awk 'BEGIN { print "func f\nfunc g"; for (n = 0; n < 9000; n++) print "site s" n
     print "call 5 1\ncall 6 0"
     for (n = 0; n < 2000000; n++) {
         turn = int(n / 130000) % 4
+        strand = n % 1009 ? n % 11 : n % 2 ? "9223372036854775808" : "18446744073709551615\nstrand 9"
         if (turn == 2) print "strand", n % 11
-        else if (turn == 3) print "call", n % 6000, n % 2 "\nreturn"
-        else print (n % 6 ? "spawn" : "call"), n * 7 % 6000, n % 2 "\nstrand", n % 11 "\nreturn" (n % 5 ? "" : "\nsync")
+        else if (turn == 3) print "call", n % 9000, n % 2 "\nreturn"
+        else print (n % 6 ? "spawn" : "call"), n * 7 % 9000, n % 2 "\nstrand", strand "\nreturn" (n % 5 ? "" : "\nsync")
         if (n == 1000000) print "return"
     }
     print "return" }' | "$spprof" encode > "$folder/many"
