@@ -92,6 +92,13 @@ more_table t u known owed r is = ap (λ x. plus (plus x known) owed) is ∙ ap (
 pub table_fits : (t known owed r : Row) → Fits (plus (plus (plus t known) owed) r) → Fits (plus t r)
 table_fits t known owed r f = left_fits (plus t r) known (left_fits (plus (plus t r) known) owed (subst Fits (sym (more_table t (plus t r) known owed r refl)) f))
 
+-- all but the known ones
+pub all_but_known : (t n known owed : Row) → plus (plus t (plus n owed)) known ≡ plus t (plus (plus n known) owed)
+all_but_known t n known owed = plus-assoc t (plus n owed) known ∙ ap (plus t) (plus-swap n owed known)
+
+pub but_known : (t n known owed : Row) → Fits (plus t (plus (plus n known) owed)) → Fits (plus t (plus n owed))
+but_known t n known owed f = row_fits (plus t (plus n owed)) known (plus t (plus (plus n known) owed)) (all_but_known t n known owed) f
+
 -- whether a row was pushed or not
 pub either_known : (P : List KnownRow → Type 0) (b : Bool) (ks new : List KnownRow) (k : KnownRow) → new ≡ cond b (ks ++ k ∷ []) ks → P (ks ++ k ∷ []) → P ks → P new
 either_known P true ks new k is more same = subst P (sym is) more

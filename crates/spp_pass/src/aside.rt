@@ -51,9 +51,10 @@ impl RowsAside {
         }
     }
 
-    /// Whether there are rows that no table has yet.
+    /// Whether there are so many rows that no table has yet that another thread should add them up. No clause says when: answers
+    /// don't depend on it.
     pub fn owes(&self) -> bool {
-        !self.known.is_empty() || !self.owed.is_empty()
+        self.should_add_up() || !self.owed.is_empty()
     }
 
     /// Whether so many rows wait that they should be added up. No clause says when: answers don't depend on it.
@@ -183,7 +184,8 @@ impl RowsAside {
         })
     }
 
-    /// Adds the rows to another table. It takes constant time for each, and for each site number up to the greatest.
+    /// Adds the rows to another table. It takes constant time for each, and for each site number up to the greatest of those that
+    /// were added up.
     ///
     /// # Errors
     ///
@@ -197,8 +199,12 @@ impl RowsAside {
             known,
             owed,
         } = self;
-        own.add_known(&known)?;
         OwedCalls::add_all(&mut own, &owed)?;
-        own.add_to(table)
+        own.add_to(table)?;
+        // Not to the own table, which would need memory for each site number.
+        for one in &known {
+            table.add(u32::from(one.site), &one.row.widened())?;
+        }
+        Ok(())
     }
 }
