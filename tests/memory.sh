@@ -27,14 +27,16 @@ fails() { # WHAT: a case that failed
 }
 
 # Runs a program, of whose requests and starts those of these numbers are refused, and notes in $requests and $starts how
-# many there were.
+# many there were. An input that begins with | is a file that comes through a pipe.
 run() { # REQUEST START INPUT PROGRAM WORDS..
     local request=$1 start=$2 input=$3
     shift 3
     rm -f "$folder/count"
+    if [[ $input == '|'* ]]; then exec 3< <(cat "${input#|}"); else exec 3< "$input"; fi
     timeout 60 env LD_PRELOAD="$folder/refuse.so" REFUSE_COUNT="$folder/count" REFUSE_AT="$request" REFUSE_START="$start" \
-        "$@" < "$input" > "$folder/out" 2> "$folder/err"
+        "$@" <&3 > "$folder/out" 2> "$folder/err"
     status=$?
+    exec 3<&-
     od -An -t d8 "$folder/count" > "$folder/counts" 2> "$folder/uncounted"
     read -r requests starts < "$folder/counts" || requests=0 starts=0
 }
@@ -137,6 +139,9 @@ awk 'BEGIN { print "func main\nsite A"; for (n = 0; n < 50; n++) print "spawn 0 
     > "$folder/blocks"
 each_refused 'figures over blocks' 0 3 'work 140150*' '' "$folder/blocks" "$spprof" figures
 each_refused 'profile over blocks' 0 3 'name,count*' '' "$folder/blocks" "$spprof" profile --csv --workers 2
+# Blocks that come in many short reads: another thread reads the next one meanwhile.
+each_refused 'figures over blocks through a pipe' 0 5 'work 140150*' '' "|$folder/blocks" "$spprof" figures
+each_refused 'profile over blocks through a pipe' 0 5 'name,count*' '' "|$folder/blocks" "$spprof" profile --csv --workers 2
 # Two blocks of 131,072 bytes, and one that is less.
 "$spprof" migrate < "$folder/blocks" > "$folder/blocks.compact"
 each_refused 'profile over blocks, version 2' 0 3 'name,count*' '' "$folder/blocks.compact" "$spprof" profile --csv --workers 2

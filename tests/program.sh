@@ -442,6 +442,8 @@ awk 'BEGIN { print "func f\nfunc g"; for (n = 0; n < 9000; n++) print "site s" n
 wanted=$("$spprof" profile --csv --workers 1 "$folder/many")
 for workers in 2 4 64; do
     expect "tables of many call sites by $workers workers" 0 "$wanted$lf" '' /dev/null profile --csv --workers $workers "$folder/many"
+    # Blocks that come in many short reads: another thread reads the next one meanwhile.
+    expect "the same through a pipe" 0 "$wanted$lf" '' <(cat "$folder/many") profile --csv --workers $workers
 done
 # Two towers, each deeper than many blocks, and leaves behind each: where a run is deep one thread reads most of the blocks,
 # and behind it several do.
@@ -472,6 +474,9 @@ for workers in 1 2 4; do
     expect "figures with trailing bytes, by $workers workers" 1 '' "bad header: trailing$lf" "$folder/trailing" figures --workers $workers
     expect "figures of a bad event behind blocks, by $workers workers" 1 '' "bad event 1249998: *$lf" "$folder/tagged" figures --workers $workers
     expect "figures of a root that returns, by $workers workers" 1 '' "bad event 200000: root return$lf" "$folder/returns" figures --workers $workers
+    expect "a trace cut off in a pipe, by $workers workers" 1 '' "bad event 1249998: truncated$lf" <(cat "$folder/open") profile --workers $workers
+    expect "trailing bytes in a pipe, by $workers workers" 1 '' "bad header: trailing$lf" <(cat "$folder/trailing") profile --workers $workers
+    expect "a bad event in a pipe, by $workers workers" 1 '' "bad event 1249998: *$lf" <(cat "$folder/tagged") figures --workers $workers
 done
 
 # Numbers above 64 bits, in each form of a report.

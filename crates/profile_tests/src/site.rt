@@ -1,4 +1,4 @@
-use spp_site::{ClosedFrame, Marks, Row, Table};
+use spp_site::{ClosedFrame, EmptySums, KnownRow, Marks, NarrowRow, NarrowTable, Row, Table};
 use std::test::Fail;
 
 /// The row `1 10 | 1 10 10 | 1 10 10`.
@@ -129,6 +129,69 @@ fn a_frame_that_closes_adds_to_its_site(rt: HostRuntime) -> Result<(), Fail> {
             ..Row::default()
         }
     );
+    assert_eq!(rt; table.row(1), Row::default());
+    Ok(())
+}
+
+/// A frame whose numbers fit a narrow row.
+const NARROW_FRAME: ClosedFrame = ClosedFrame {
+    local: 1,
+    work: 5,
+    span: 3,
+    top_site: true,
+    top_caller: false,
+};
+
+/// And one whose work doesn't.
+const WIDE_FRAME: ClosedFrame = ClosedFrame {
+    local: 2,
+    work: 1 << 64,
+    span: 7,
+    top_site: true,
+    top_caller: true,
+};
+
+/// Each of both twice.
+const BOTH_TWICE: Row = Row {
+    count: 4,
+    local: 6,
+    site_count: 4,
+    site_work: (2 << 64) + 10,
+    site_span: 20,
+    caller_count: 2,
+    caller_work: 2 << 64,
+    caller_span: 14,
+};
+
+#[test]
+fn narrow_sums_add_up(rt: HostRuntime) -> Result<(), Fail> {
+    let mut sums = EmptySums::new(rt.alloc()).into_sums();
+    sums.close(2000, &NARROW_FRAME)?;
+    sums.close(2000, &WIDE_FRAME)?;
+    let once = sums.into_list(rt.alloc())?;
+    let mut twice = once.1.into_sums();
+    twice.absorb(&once.0)?;
+    twice.absorb(&once.0)?;
+    let both = twice.into_list(rt.alloc())?;
+    let mut table = Table::new(rt.alloc());
+    both.0.add_to(&mut table)?;
+    assert_eq!(rt; table.row(2000), BOTH_TWICE);
+    assert_eq!(rt; table.row(1999), Row::default());
+    assert_eq!(rt; table.root_row(), Row::default());
+    Ok(())
+}
+
+#[test]
+fn narrow_rows_add_up_by_site(rt: HostRuntime) -> Result<(), Fail> {
+    let mut narrow = NarrowTable::new(rt.alloc());
+    let row = NarrowRow::of_numbers(10, 10, 10, true, true);
+    narrow.add(0, &row)?;
+    narrow.add_row(65535, &MIXED)?;
+    narrow.add_known(&[KnownRow { row, site: 0 }])?;
+    let mut table = Table::new(rt.alloc());
+    narrow.add_to(&mut table)?;
+    assert_eq!(rt; table.row(0), TWENTY);
+    assert_eq!(rt; table.row(65535), MIXED);
     assert_eq!(rt; table.row(1), Row::default());
     Ok(())
 }

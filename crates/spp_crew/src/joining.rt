@@ -106,6 +106,14 @@ impl<A: SoFar> Joining<A> {
         Joining::read_by(alloc, so_far, Readers::All)
     }
 
+    /// Whether this thread goes over the next block's events itself, behind blocks that were slow to join.
+    pub(crate) fn reads_here(&self) -> bool {
+        match self.readers {
+            Readers::All => false,
+            Readers::Here { left, .. } => left > 0,
+        }
+    }
+
     /// Waits for the threads, and lets go of all.
     pub(crate) fn let_go<R: Threads>(self, rt: &R) {
         let_go::<A, R>(rt, self.waiting);

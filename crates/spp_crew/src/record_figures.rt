@@ -154,6 +154,12 @@ impl RecordFigures {
         Ok((figures, room))
     }
 
+    /// Whether the calling thread will go over the next block's events itself, since blocks before it were slow to join. No clause
+    /// says when: answers don't depend on it.
+    pub fn reads_here(&self) -> bool {
+        self.shown.reads_here()
+    }
+
     /// Waits for the threads that still read events, and lets go of all.
     pub fn let_go<R: Threads>(self, rt: &R) {
         self.shown.let_go(rt);

@@ -61,6 +61,14 @@ impl<A: SoFar> Shown<A> {
         }
     }
 
+    /// Whether this thread goes over the next block's events itself, behind blocks that were slow to join.
+    pub(crate) fn reads_here(&self) -> bool {
+        match self {
+            Shown::Good(joining) => joining.reads_here(),
+            Shown::Bad(_) => false,
+        }
+    }
+
     /// Waits for the threads that still read events, and lets go of all.
     pub(crate) fn let_go<R: Threads>(self, rt: &R) {
         match self {

@@ -19,13 +19,13 @@ use Rattle.spp_ways.specs.declared.open_ways.OpenWays.{OpenWays}
 use Rattle.spp_ways.specs.Ways.{Ways}
 use Rattle.spp_ways.specs.OpenWays.{AreWays, IsLaid, FitTop, HasOne, on_path, bare_row, returned_list, waited_list}
 use Rattle.spp_ways.proofs.Steps.{some_frame, two_frames}
-use Rattle.spp_ways.proofs.Summing.{added_key}
+use Rattle.spp_site.proofs.Keys.{added_key}
 use Rattle.spp_pass.specs.declared.counted_frame.CountedFrame.{CountedFrame}
 use Rattle.spp_pass.specs.declared.counting.Counting.{Counting}
 use Rattle.spp_pass.specs.declared.counting.Closing.{Closing}
 use Rattle.spp_pass.specs.declared.counting.Popped.{Popped}
 use Rattle.spp_pass.specs.Passes.{Seen, popped_seen, IsPopped, caller_in, Pops, CanPop, Notes, no_notes, seen_with, noted_sync, noted_return, sync_seen, sync_frame, on_top, row_of, closing_of, OnTop, HasOpen, AreTakes, CanReturn, Returns, IsClosing, IsReturned}
-use Rattle.spp_pass.specs.CallRows.{at_site}
+use Rattle.spp_site.specs.NarrowRows.{at_site}
 use Rattle.spp_pass.proofs.Keeping.{kept_return}
 use Rattle.spp_pass.proofs.Passed.{has_open, ready_return, root_stays, leans}
 use Rattle.spp_pass.proofs.RunReturns.{returned_seen, run_returns, with_row, is_added}

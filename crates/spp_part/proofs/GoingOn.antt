@@ -30,7 +30,7 @@ use Rattle.spp_pass.specs.declared.counting.Counting.{Counting}
 use Rattle.spp_pass.specs.Passes.{Seen, no_notes, seen_with, strand_frame, strand_seen, OnTop, CanAdd, FitsStrand}
 use Rattle.spp_pass.specs.CallRows.{calls_row}
 use Rattle.spp_pass.specs.Stretches.{stretch_frame, stretch_seen, enclosure, child_wins, FitsJoin, CanJoin, IsJoined}
-use Rattle.spp_pass.proofs.Suspending.{row_fits}
+use Rattle.spp_site.proofs.Keys.{row_fits}
 use Rattle.spp_pass.proofs.Joinable.{IsLastOf, last_of_reverse, can_join}
 use Rattle.spp_pass.proofs.Alone.{alone_start}
 use Rattle.spp_pass.proofs.Stretching.{joined_as, follows_start, follows_strand}

@@ -1,54 +1,42 @@
 -- Rows that are kept aside, and those of a table to which they are added.
-use Rattle.std.proofs.Common.{◌≡◌, ℕ, suc, ◌+◌, ◌<◌, ◌≤◌, List, [], ◌∷◌, ◌++◌, length, drop, get_or, Option, Some, None, Result, Ok, Err, OnOk, OnErr, Bool, true, false, cond, refl, sym, ap, ap₂, subst, ◌∙◌, arith}
+use Rattle.std.proofs.Common.{◌≡◌, ℕ, suc, ◌+◌, ◌<◌, ◌≤◌, List, [], ◌∷◌, ◌++◌, length, drop, get_or, Option, Result, Ok, Err, OnOk, OnErr, Bool, true, false, cond, refl, sym, ap, ap₂, subst, ◌∙◌, arith}
 use Rattle.std.proofs.lemmas.List.{drop_all}
 use Rattle.std.proofs.Math.Seq.{drop-cons}
 use Rattle.spp_dag.specs.declared.row.Row.{Row}
 use Rattle.spp_dag.specs.Shares.{plus, zero_row}
 use Rattle.spp_site.specs.Rows.{Fits}
-use Rattle.spp_site.specs.Table.{Sums, IsSum}
+use Rattle.spp_site.specs.Table.{Sums}
 use Rattle.spp_site.specs.Profiles.{key_row}
 use Rattle.spp_site.proofs.Rows.{plus-zero, zero-plus, plus-assoc, plus-swap}
 use Rattle.spp_pass.specs.declared.owed.OwedCalls.{OwedCalls}
-use Rattle.spp_pass.specs.declared.narrow_table.NarrowTable.{NarrowTable}
-use Rattle.spp_pass.specs.declared.narrow_row.KnownRow.{KnownRow}
-use Rattle.spp_pass.specs.CallRows.{at_site}
-use Rattle.spp_pass.specs.NarrowRows.{narrow_row, known_rows}
-use Rattle.spp_pass.specs.NarrowTables.{narrow_key}
-use Rattle.spp_pass.proofs.NarrowRows.{known_more}
+use Rattle.spp_site.specs.declared.narrow_row.KnownRow.{KnownRow}
+use Rattle.spp_site.specs.NarrowRows.{at_site, narrow_row, known_rows}
+use Rattle.spp_site.proofs.NarrowRows.{known_more}
 use Rattle.spp_pass.specs.OwedRows.{owed_row, owed_rows}
-use Rattle.spp_pass.proofs.Suspending.{row_fits}
-
--- a part of what fits fits
-pub left_fits : (a b : Row) → Fits (plus a b) → Fits a
-left_fits a b f = row_fits a b (plus a b) refl f
+use Rattle.spp_site.proofs.Keys.{row_fits, left_fits}
 
 -- the rows of a table, with those that it lacks
-abbrev pub Rest : NarrowTable → List OwedCalls → (Option ℕ → Row) → Type 0
-Rest t os whole = (key : Option ℕ) → plus (narrow_key t key) (owed_rows os key) ≡ whole key
+abbrev pub Rest : Sums → List OwedCalls → (Option ℕ → Row) → Type 0
+Rest t os whole = (key : Option ℕ) → plus (key_row t key) (owed_rows os key) ≡ whole key
 
-pub rest_at : (t : NarrowTable) (os : List OwedCalls) (k : ℕ) (d : OwedCalls) (whole : Option ℕ → Row) → k < length os → Rest t (drop k os) whole → Rest t (get_or os k d ∷ drop (k + 1) os) whole
+pub rest_at : (t : Sums) (os : List OwedCalls) (k : ℕ) (d : OwedCalls) (whole : Option ℕ → Row) → k < length os → Rest t (drop k os) whole → Rest t (get_or os k d ∷ drop (k + 1) os) whole
 rest_at t os k d whole lt h =
     let next : suc k ≡ k + 1 = omega arith in
     subst (λ l. Rest t l whole) (drop-cons os k d lt ∙ ap (λ n. get_or os k d ∷ drop n os) next) h
 
-pub next_fits : (t : NarrowTable) (o : OwedCalls) (os : List OwedCalls) (whole : Option ℕ → Row) → Rest t (o ∷ os) whole → ((key : Option ℕ) → Fits (whole key)) → (key : Option ℕ) → Fits (plus (narrow_key t key) (owed_row o key))
-next_fits t o os whole h fits key = row_fits (plus (narrow_key t key) (owed_row o key)) (owed_rows os key) (whole key) (plus-assoc (narrow_key t key) (owed_row o key) (owed_rows os key) ∙ h key) (fits key)
+pub next_fits : (t : Sums) (o : OwedCalls) (os : List OwedCalls) (whole : Option ℕ → Row) → Rest t (o ∷ os) whole → ((key : Option ℕ) → Fits (whole key)) → (key : Option ℕ) → Fits (plus (key_row t key) (owed_row o key))
+next_fits t o os whole h fits key = row_fits (plus (key_row t key) (owed_row o key)) (owed_rows os key) (whole key) (plus-assoc (key_row t key) (owed_row o key) (owed_rows os key) ∙ h key) (fits key)
 
-pub next_added : (t u : NarrowTable) (o : OwedCalls) (os : List OwedCalls) (whole : Option ℕ → Row) → Rest t (o ∷ os) whole → ((key : Option ℕ) → narrow_key u key ≡ plus (narrow_key t key) (owed_row o key)) → Rest u os whole
-next_added t u o os whole h added key = ap (λ r. plus r (owed_rows os key)) (added key) ∙ plus-assoc (narrow_key t key) (owed_row o key) (owed_rows os key) ∙ h key
+pub next_added : (t u : Sums) (o : OwedCalls) (os : List OwedCalls) (whole : Option ℕ → Row) → Rest t (o ∷ os) whole → ((key : Option ℕ) → key_row u key ≡ plus (key_row t key) (owed_row o key)) → Rest u os whole
+next_added t u o os whole h added key = ap (λ r. plus r (owed_rows os key)) (added key) ∙ plus-assoc (key_row t key) (owed_row o key) (owed_rows os key) ∙ h key
 
-pub rest_none : (t : NarrowTable) (os : List OwedCalls) (k : ℕ) (whole : Option ℕ → Row) → length os ≤ k → Rest t (drop k os) whole → (key : Option ℕ) → narrow_key t key ≡ whole key
-rest_none t os k whole le h key = sym (plus-zero (narrow_key t key)) ∙ ap (λ l. plus (narrow_key t key) (owed_rows l key)) (sym (drop_all k os le)) ∙ h key
+pub rest_none : (t : Sums) (os : List OwedCalls) (k : ℕ) (whole : Option ℕ → Row) → length os ≤ k → Rest t (drop k os) whole → (key : Option ℕ) → key_row t key ≡ whole key
+rest_none t os k whole le h key = sym (plus-zero (key_row t key)) ∙ ap (λ l. plus (key_row t key) (owed_rows l key)) (sym (drop_all k os le)) ∙ h key
 
 -- one more is owed
 pub owed_more : (os : List OwedCalls) (o : OwedCalls) (key : Option ℕ) → owed_rows (os ++ o ∷ []) key ≡ plus (owed_rows os key) (owed_row o key)
 owed_more [] o key = plus-zero (owed_row o key) ∙ sym (zero-plus (owed_row o key))
 owed_more (x ∷ xs) o key = ap (λ r. plus (owed_row x key) r) (owed_more xs o key) ∙ sym (plus-assoc (owed_row x key) (owed_rows xs key) (owed_row o key))
-
--- a table to which another's rows were added
-pub sum_key : (a b t : Sums) → IsSum a b t → (key : Option ℕ) → key_row t key ≡ plus (key_row a key) (key_row b key)
-sum_key a b t h None = h.root
-sum_key a b t h (Some s) = h.sites s
 
 -- ---- none
 
@@ -65,12 +53,12 @@ zero_fits = record {
 }
 
 -- all in the table
-pub in_table : (t : NarrowTable) (ks : List KnownRow) (os : List OwedCalls) (whole : Row) (key : Option ℕ) → ks ≡ [] → os ≡ [] → narrow_key t key ≡ whole → plus (plus (narrow_key t key) (known_rows ks key)) (owed_rows os key) ≡ whole
+pub in_table : (t : Sums) (ks : List KnownRow) (os : List OwedCalls) (whole : Row) (key : Option ℕ) → ks ≡ [] → os ≡ [] → key_row t key ≡ whole → plus (plus (key_row t key) (known_rows ks key)) (owed_rows os key) ≡ whole
 in_table t ks os whole key nothing none is =
-    ap₂ (λ (m : List KnownRow) (l : List OwedCalls). plus (plus (narrow_key t key) (known_rows m key)) (owed_rows l key)) nothing none ∙ plus-zero (plus (narrow_key t key) zero_row) ∙ plus-zero (narrow_key t key) ∙ is
+    ap₂ (λ (m : List KnownRow) (l : List OwedCalls). plus (plus (key_row t key) (known_rows m key)) (owed_rows l key)) nothing none ∙ plus-zero (plus (key_row t key) zero_row) ∙ plus-zero (key_row t key) ∙ is
 
-pub none_aside : (t : NarrowTable) (ks : List KnownRow) (os : List OwedCalls) → ((key : Option ℕ) → narrow_key t key ≡ zero_row) → ks ≡ [] → os ≡ [] → (key : Option ℕ)
-    → plus (plus (narrow_key t key) (known_rows ks key)) (owed_rows os key) ≡ zero_row
+pub none_aside : (t : Sums) (ks : List KnownRow) (os : List OwedCalls) → ((key : Option ℕ) → key_row t key ≡ zero_row) → ks ≡ [] → os ≡ [] → (key : Option ℕ)
+    → plus (plus (key_row t key) (known_rows ks key)) (owed_rows os key) ≡ zero_row
 none_aside t ks os zero nothing none key =
     in_table t ks os zero_row key nothing none (zero key)
 
@@ -108,8 +96,3 @@ either_known P false ks new k is more same = subst P (sym is) same
 pub either : {X E : Type 0} (P Q G : Type 0) → (r : Result X E) → OnOk r P → OnErr r Q → (P → G) → (Q → G) → G
 either P Q G (Ok x) p q f g = f p
 either P Q G (Err e) p q f g = g q
-
--- ---- two of three
-
-pub first_two_fit : (a b c : Row) → Fits (plus a (plus b c)) → Fits (plus a b)
-first_two_fit a b c f = left_fits (plus a b) c (subst Fits (sym (plus-assoc a b c)) f)

@@ -1,6 +1,5 @@
 -- The frames that close in a stretch, in rows and one by one.
-use Rattle.std.proofs.Common.{◌≡◌, ℕ, suc, ◌+◌, ◌<◌, ◌≤◌, Bool, true, false, nat_eq, List, [], ◌∷◌, ◌++◌, length, drop, get_or, cond, Option, Some, None, Result, Ok, Err, OnOk, refl, sym, ap, ap₂, subst, ◌∙◌, arith}
-use Rattle.std.proofs.lemmas.Bool.{eq-eqb}
+use Rattle.std.proofs.Common.{◌≡◌, ℕ, suc, ◌+◌, ◌<◌, ◌≤◌, false, List, [], ◌∷◌, ◌++◌, length, drop, get_or, cond, Option, Some, refl, sym, ap, ap₂, subst, ◌∙◌, arith}
 use Rattle.std.proofs.lemmas.List.{map-append, drop_all}
 use Rattle.std.proofs.Math.Seq.{drop-cons}
 use Rattle.spp_dag.specs.declared.row.Row.{Row}
@@ -14,19 +13,14 @@ use Rattle.spp_site.proofs.Rows.{plus-zero, zero-plus, plus-assoc, plus-swap}
 use Rattle.spp_ways.specs.Enclosures.{Enclosure, enclosed}
 use Rattle.spp_pass.specs.declared.calls.CallRow.{CallRow}
 use Rattle.spp_pass.specs.declared.narrow_frame.NarrowFrame.{NarrowFrame}
-use Rattle.spp_pass.specs.CallRows.{enclosed_sums, at_site, calls_row, call_row, lone_row, AreCallsBelow, AreAdded, AreLight, IsLightFrame}
+use Rattle.spp_pass.specs.CallRows.{enclosed_sums, calls_row, call_row, lone_row, AreCallsBelow, AreAdded, AreLight, IsLightFrame}
+use Rattle.spp_site.specs.NarrowRows.{at_site}
 use Rattle.spp_pass.specs.CallFrames.{frame_of, call_of, calls_of}
 use Rattle.spp_pass.specs.declared.counted_frame.CountedFrame.{CountedFrame}
 use Rattle.spp_pass.specs.Passes.{Seen, OnTop}
 use Rattle.spp_pass.specs.Stretches.{enclosure, FitsJoin, CanJoin, IsJoined}
-use Rattle.spp_pass.proofs.Bounded.{turned}
 use Rattle.spp_pass.proofs.CallRows.{frame_within, more_added, push_light, all_light_as}
-use Rattle.spp_pass.proofs.Suspending.{row_fits}
-
--- what holds where it went well
-pub ok_more : {X E : Type 0} (P Q : Type 0) → (P → Q) → (r : Result X E) → OnOk r P → OnOk r Q
-ok_more P Q f (Ok x) h = f h
-ok_more P Q f (Err e) h = h
+use Rattle.spp_site.proofs.Keys.{own_row, added_key, row_fits}
 
 -- ---- two lists of rows
 
@@ -175,19 +169,6 @@ begun now then e frames rows added key =
     let f : Row = calls_row e frames key in
     let r : Row = calls_row e rows key in
     ap (λ x. plus x f) (added key) ∙ plus-swap (now key) r f ∙ plus-assoc (now key) f r ∙ ap (plus (now key)) (sym (calls_append e frames rows key))
-
--- what a frame adds to the row of its own site
-pub own_row : (site : ℕ) (r : Row) → cond (same_key (Some site) (Some site)) r zero_row ≡ r
-own_row site r = ap (λ b. cond b r zero_row) (eq-eqb site site refl)
-
--- and to any
-pub added_key : (t u : Sums) (site : ℕ) (r : Row) → IsAdded t u site r → (key : Option ℕ) → key_row u key ≡ plus (key_row t key) (cond (same_key (Some site) key) r zero_row)
-added_key t u site r h None = h.root ∙ sym (plus-zero t.root)
-added_key t u site r h (Some s) = h.sites s ∙ ap (λ b. cond b (plus (row_at t s) r) (row_at t s)) (turned s site) ∙ by (nat_eq site s)
-  where
-    by : (b : Bool) → cond b (plus (row_at t s) r) (row_at t s) ≡ plus (row_at t s) (cond b r zero_row)
-    by true = refl
-    by false = sym (plus-zero (row_at t s))
 
 -- a frame that is added to a table, within what encloses it
 pub own_fits : (t : Sums) (e : Enclosure) (f : NarrowFrame) (site : ℕ) (closed : ClosedFrame) → site ≡ f.site → closed ≡ enclosed e f.site f.caller (frame_of f)

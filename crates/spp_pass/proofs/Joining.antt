@@ -21,7 +21,7 @@ use Rattle.spp_pass.specs.Passes.{OnTop, caller_in}
 use Rattle.spp_pass.specs.Stretches.{stretch_frame, next_frames, placed, placed_frames, with_frames, FitsPlace, FitPlaces}
 use Rattle.spp_pass.specs.CallRows.{enclosed_sums, calls_row, AreCallsBelow}
 use Rattle.spp_pass.proofs.Bounded.{turned}
-use Rattle.spp_pass.proofs.Suspending.{row_fits}
+use Rattle.spp_site.proofs.Keys.{row_fits}
 
 -- ---- the next stretch
 

@@ -16,7 +16,6 @@ pub mod Joining
 pub mod Alone
 pub mod CallRows
 pub mod CallFrames
-pub mod NarrowRows
 pub mod PlacedFrames
 pub mod ChildWins
 pub mod RunReturns

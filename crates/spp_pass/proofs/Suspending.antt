@@ -9,6 +9,7 @@ use Rattle.spp_dag.specs.Shares.{plus, zero_row}
 use Rattle.spp_dag.specs.Steps.{same_key, strand_row}
 use Rattle.spp_site.specs.Rows.{Fits}
 use Rattle.spp_site.specs.Table.{Sums}
+use Rattle.spp_site.proofs.Keys.{row_fits}
 use Rattle.spp_site.proofs.Rows.{plus-zero, zero-plus, plus-assoc}
 use Rattle.spp_dag.proofs.Shares.{same_rows}
 use Rattle.spp_site.specs.Profiles.{key_row}
@@ -45,36 +46,6 @@ one_below n items read k d same lt h =
 -- the rows of a table, with the strands that it lacks
 abbrev pub Whole : Sums → List CountedFrame → (Option ℕ → Row) → Type 0
 Whole t fs whole = (key : Option ℕ) → plus (key_row t key) (local_rows fs key) ≡ whole key
-
--- a part of what fits fits
-pub row_fits : (r s q : Row) → plus r s ≡ q → Fits q → Fits r
-row_fits r s q e f =
-    let a : r.count + s.count ≡ q.count = ap (λ x. x.count) e in
-    let b : r.local + s.local ≡ q.local = ap (λ x. x.local) e in
-    let c : r.site_count + s.site_count ≡ q.site_count = ap (λ x. x.site_count) e in
-    let d : r.site_work + s.site_work ≡ q.site_work = ap (λ x. x.site_work) e in
-    let g : r.site_span + s.site_span ≡ q.site_span = ap (λ x. x.site_span) e in
-    let h : r.caller_count + s.caller_count ≡ q.caller_count = ap (λ x. x.caller_count) e in
-    let i : r.caller_work + s.caller_work ≡ q.caller_work = ap (λ x. x.caller_work) e in
-    let j : r.caller_span + s.caller_span ≡ q.caller_span = ap (λ x. x.caller_span) e in
-    let p1 = f.count in
-    let p2 = f.local in
-    let p3 = f.site_count in
-    let p4 = f.site_work in
-    let p5 = f.site_span in
-    let p6 = f.caller_count in
-    let p7 = f.caller_work in
-    let p8 = f.caller_span in
-    record {
-      count = omega arith;
-      local = omega arith;
-      site_count = omega arith;
-      site_work = omega arith;
-      site_span = omega arith;
-      caller_count = omega arith;
-      caller_work = omega arith;
-      caller_span = omega arith;
-    }
 
 -- the next frame's strands fit its row
 pub next_fits : (t : Sums) (f : CountedFrame) (fs : List CountedFrame) (whole : Option ℕ → Row) → Whole t (f ∷ fs) whole → ((key : Option ℕ) → Fits (whole key))

@@ -4,14 +4,13 @@ use Rattle.spp_dag.specs.declared.row.Row.{Row}
 use Rattle.spp_dag.specs.Shares.{plus}
 use Rattle.spp_site.specs.Profiles.{key_row}
 use Rattle.spp_pass.specs.declared.aside.RowsAside.{RowsAside}
-use Rattle.spp_pass.specs.NarrowRows.{known_rows}
-use Rattle.spp_pass.specs.NarrowTables.{narrow_key}
+use Rattle.spp_site.specs.NarrowRows.{known_rows}
 use Rattle.spp_pass.specs.OwedRows.{owed_rows}
 use Rattle.spp_pass.specs.Passes.{Seen}
 
 -- what rows that are kept aside add to it
 abbrev pub aside_row : RowsAside → Option ℕ → Row
-aside_row r key = plus (plus (narrow_key r.table key) (known_rows r.known.items key)) (owed_rows r.owed.items key)
+aside_row r key = plus (plus (key_row r.table key) (known_rows r.known.items key)) (owed_rows r.owed.items key)
 
 -- those rows have been added to what was counted
 pub record HasAside (aside : RowsAside) (old new : Seen) : Type 0 where

@@ -1,9 +1,9 @@
 -- What the frames come to that close in a stretch of events.
-use Rattle.std.specs.Prelude.{◌≡◌, ℕ, ◌*◌, ◌<◌, ◌≤◌, cond, not, List, [], ◌∷◌, length, get_or, Option, Some}
+use Rattle.std.specs.Prelude.{◌≡◌, ℕ, ◌*◌, ◌<◌, ◌≤◌, cond, not, List, [], ◌∷◌, length, get_or, Option}
 use Rattle.spp_dag.specs.declared.row.Row.{Row}
 use Rattle.spp_dag.specs.Shares.{plus, zero_row}
-use Rattle.spp_dag.specs.Steps.{same_key}
 use Rattle.spp_site.specs.Rows.{frame_row}
+use Rattle.spp_site.specs.NarrowRows.{at_site}
 use Rattle.spp_site.specs.declared.closed_frame.ClosedFrame.{ClosedFrame}
 use Rattle.spp_ways.specs.Enclosures.{Enclosure, is_top_caller, enclosed}
 use Rattle.spp_pass.specs.declared.calls.CallRow.{CallRow}
@@ -21,10 +21,6 @@ enclosed_sums e site caller r = record {
   caller_work = cond (is_top_caller e caller) r.caller_work 0;
   caller_span = cond (is_top_caller e caller) r.caller_span 0;
 }
-
--- what a row of a site adds to that of a key
-abbrev pub at_site : ℕ → Row → Option ℕ → Row
-at_site site r key = cond (same_key (Some site) key) r zero_row
 
 -- what rows add to that of a key
 abbrev pub calls_row : Enclosure → List CallRow → Option ℕ → Row

@@ -4,8 +4,6 @@ pub mod Shares
 pub mod Outside
 pub mod CallRows
 pub mod CallFrames
-pub mod NarrowRows
-pub mod NarrowTables
 pub mod Stretches
 pub mod OwedRows
 pub mod AsideRows

@@ -4,19 +4,16 @@ ghost use Rattle.std.specs.Prelude.{◌≡◌, ◌<◌, [], ℕ, Option, OnOk, O
 ghost use Rattle.spp_dag.specs.Shares.{plus, zero_row};
 ghost use Rattle.spp_site.specs.Rows.{Fits, frame_row};
 ghost use Rattle.spp_site.specs.Profiles.{key_row};
+ghost use Rattle.spp_site.specs.NarrowRows.{narrow_row, at_site, known_rows};
 ghost use Rattle.spp_ways.specs.Enclosures.{enclosure_of};
-ghost use Rattle.spp_pass.specs.CallRows.{at_site, calls_row, EachBelow};
+ghost use Rattle.spp_pass.specs.CallRows.{calls_row, EachBelow};
 ghost use Rattle.spp_pass.specs.CallFrames.{stretch_calls};
-ghost use Rattle.spp_pass.specs.NarrowRows.{narrow_row, known_rows};
-ghost use Rattle.spp_pass.specs.NarrowTables.{narrow_key};
 ghost use Rattle.spp_pass.specs.OwedRows.{owed_rows};
 
-use crate::narrow_row::{KnownRow, NarrowRow};
-use crate::narrow_table::NarrowTable;
 use crate::owed::OwedCalls;
 use crate::stretch_calls::StretchCalls;
 use spp_dag::Row;
-use spp_site::{ClosedFrame, Table};
+use spp_site::{ClosedFrame, KnownRow, NarrowRow, NarrowTable, Table};
 use spp_ways::Enclosing;
 use std::alloc::{AllocError, Global};
 
@@ -33,7 +30,7 @@ pub struct RowsAside {
     known: Vec<KnownRow>,
     /// Rows of stretches, with what encloses these.
     owed: Vec<OwedCalls>,
-    ghost fits: { (key : Option ℕ) → Fits (plus (plus (narrow_key table key) (known_rows known.items key)) (owed_rows owed.items key)) },
+    ghost fits: { (key : Option ℕ) → Fits (plus (plus (key_row table key) (known_rows known.items key)) (owed_rows owed.items key)) },
 }
 
 impl RowsAside {

@@ -17,8 +17,6 @@ mod calls;
 mod counted_frame;
 mod counting;
 mod narrow_frame;
-mod narrow_row;
-mod narrow_table;
 mod owed;
 mod part;
 mod stretch_calls;

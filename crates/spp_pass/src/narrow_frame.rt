@@ -7,10 +7,9 @@ ghost use Rattle.spp_site.specs.Profiles.{key_row};
 ghost use Rattle.spp_ways.specs.Enclosures.{enclosed, enclosure_of};
 ghost use Rattle.spp_pass.specs.CallRows.{calls_row, lone_row};
 ghost use Rattle.spp_pass.specs.CallFrames.{frame_of, call_of, calls_of};
-ghost use Rattle.spp_pass.specs.NarrowRows.{narrow_row};
+ghost use Rattle.spp_site.specs.NarrowRows.{narrow_row};
 
-use crate::narrow_row::NarrowRow;
-use spp_site::{ClosedFrame, Table};
+use spp_site::{ClosedFrame, NarrowRow, Table};
 use spp_ways::Enclosing;
 use std::alloc::AllocError;
 

@@ -3,16 +3,38 @@
 ghost use Rattle.std.specs.Prelude.{◌≡◌, ℕ, Option, OnOk, IfOk};
 ghost use Rattle.spp_dag.specs.Shares.{plus};
 ghost use Rattle.spp_site.specs.Rows.{Fits};
+ghost use Rattle.spp_site.specs.Profiles.{key_row};
 ghost use Rattle.spp_ways.specs.Enclosures.{enclosure_of};
 ghost use Rattle.spp_pass.specs.CallRows.{calls_row, EachBelow};
 ghost use Rattle.spp_pass.specs.CallFrames.{stretch_calls};
-ghost use Rattle.spp_pass.specs.NarrowTables.{narrow_key};
 
-use crate::narrow_table::NarrowTable;
 use crate::stretch_calls::StretchCalls;
-use spp_site::Marks;
+use spp_site::{Marks, NarrowTable};
 use spp_ways::Enclosing;
 use std::alloc::{AllocError, Global};
+
+/// Adds the frames of a stretch that this encloses to a table.
+///
+/// # Errors
+///
+/// Where an allocation failed.
+fn add_stretch(
+    table: &mut NarrowTable,
+    calls: &StretchCalls,
+    enclosing: &Enclosing<'_>,
+) -> Result<(), AllocError>
+    requires below { EachBelow 65536 calls.now.rows.items }
+    requires fits { (key : Option ℕ) → Fits (plus (key_row table.old key) (calls_row (enclosure_of enclosing.now) (stretch_calls calls.now) key)) }
+    ensures { OnOk result ((key : Option ℕ) → key_row table.new key ≡ plus (key_row table.old key) (calls_row (enclosure_of enclosing.now) (stretch_calls calls.now) key)) }
+{
+    for call in &calls.rows {
+        table.add_row(call.site, &call.within(enclosing))?;
+    }
+    for frame in &calls.frames {
+        table.add(frame.site, &frame.within(enclosing))?;
+    }
+    Ok(())
+}
 
 /// Rows of frames that have closed in a stretch, which no table has yet, with what encloses the stretch.
 #[derive(Drop)]
@@ -57,15 +79,15 @@ impl OwedCalls {
     ///
     /// Where an allocation failed.
     fn add_to(&self, table: &mut NarrowTable) -> Result<(), AllocError>
-        requires { (key : Option ℕ) → Fits (plus (narrow_key table.old key) (owed_row self.now key)) }
-        ensures { OnOk result ((key : Option ℕ) → narrow_key table.new key ≡ plus (narrow_key table.old key) (owed_row self.now key)) }
+        requires { (key : Option ℕ) → Fits (plus (key_row table.old key) (owed_row self.now key)) }
+        ensures { OnOk result ((key : Option ℕ) → key_row table.new key ≡ plus (key_row table.old key) (owed_row self.now key)) }
     {
         let enclosing = Enclosing {
             sites: &self.sites,
             funcs: &self.funcs,
             direct: self.direct,
         };
-        table.add_stretch(&self.calls, &enclosing)
+        add_stretch(table, &self.calls, &enclosing)
     }
 
     /// Adds all these rows to a table.
@@ -74,8 +96,8 @@ impl OwedCalls {
     ///
     /// Where an allocation failed.
     pub(crate) fn add_all(table: &mut NarrowTable, owed: &[OwedCalls]) -> Result<(), AllocError>
-        requires { (key : Option ℕ) → Fits (plus (narrow_key table.old key) (owed_rows owed.now key)) }
-        ensures { OnOk result ((key : Option ℕ) → narrow_key table.new key ≡ plus (narrow_key table.old key) (owed_rows owed.now key)) }
+        requires { (key : Option ℕ) → Fits (plus (key_row table.old key) (owed_rows owed.now key)) }
+        ensures { OnOk result ((key : Option ℕ) → key_row table.new key ≡ plus (key_row table.old key) (owed_rows owed.now key)) }
     {
         for calls in owed {
             calls.add_to(table)?;

@@ -2,6 +2,7 @@ pub mod Places
 pub mod Troubles
 pub mod Reading
 pub mod Streams
+pub mod BlockReads
 pub mod Refusals
 pub mod InSources
 pub mod Check

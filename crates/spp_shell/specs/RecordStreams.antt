@@ -1,5 +1,5 @@
 -- The bytes that a stream of records has taken.
-use Rattle.std.specs.Prelude.{◌≡◌, ◌⊎◌, ℕ, ◌+◌, ◌<◌, ◌≤◌, List, length, ◌++◌}
+use Rattle.std.specs.Prelude.{◌≡◌, ◌⊎◌, ℕ, ◌+◌, ◌<◌, ◌≤◌, ◌^◌, List, length, ◌++◌}
 use Rattle.spp_event.specs.declared.version.Version.{Version}
 use Rattle.spp_event.specs.Recordings.{count_in, filled, room}
 use Rattle.spp_event.specs.Heads.{IsHeadOf}
@@ -42,3 +42,15 @@ module _ {V : Type 0} (seen_by : V → ℕ) (has_seen : Version → V → V → 
     pub count : behind ≤ head.count → seen_by now ≡ behind
     pub seen : behind ≤ head.count → (first : V) (xs : List ℕ) → AreWhole head.version events xs → IsJoint head.version xs bytes
         → has_seen head.version first records xs → has_seen head.version first now (xs ++ gone)
+
+  -- they can go over these bytes, which are so many whole events
+  pub record CanFollow (version : Version) (records : V) (count : ℕ) (bytes : List ℕ) : Type 0 where
+    pub counted : count ≡ count_in version bytes
+    pub room : seen_by records + count ≤ 2 ^ 28
+    pub seen : (first : V) × (xs : List ℕ) × AreWhole version (seen_by records) xs × IsJoint version xs bytes × has_seen version first records xs
+
+  -- they have gone over these bytes
+  pub record HasFollowed (version : Version) (records : V) (count : ℕ) (bytes : List ℕ) (now : V) : Type 0 where
+    pub counted : seen_by now ≡ seen_by records + count
+    pub seen : (first : V) (xs : List ℕ) → AreWhole version (seen_by records) xs → IsJoint version xs bytes → has_seen version first records xs
+        → has_seen version first now (xs ++ bytes)

@@ -66,7 +66,7 @@ fn answer_stream(alloc: Global, stream: RecordStream<CheckedRecords>) -> Result<
 }
 
 /// The same of an input that begins with that header, and of which that came.
-fn check_records<R: Threads + Wait + Sync, S: Source>(
+fn check_records<R: Threads + Wait + Sync, S: Source + Send>(
     rt: &R,
     alloc: Global,
     source: &mut S,
@@ -78,17 +78,14 @@ fn check_records<R: Threads + Wait + Sync, S: Source>(
     ensures text { (s : S) → HasRead S.answered S.failed S.failures came.reads s (take came.filled came.bytes.items) source.old → IfOk result (λ text. (bytes : List ℕ) × (giving_of S.answered S.failed S.failures s source.new).Gave bytes × IsCheckText (bytes ∷ []) text.items) }
     ensures refused { (s : S) → HasRead S.answered S.failed S.failures came.reads s (take came.filled came.bytes.items) source.old → IfErr result (IsInputRefused (giving_of S.answered S.failed S.failures s source.new) Only IsOneCheckLine) }
 {
-    let reads = came.reads;
     let records = CheckedRecords {
         check: RecordCheck::new(),
         sites: head.sites,
         funcs: head.funcs,
     };
     let stream = RecordStream::start(head, came, records);
-    match stream.read_rest(rt, alloc, source, reads, PIECE) {
-        Ok(stream) => answer_stream(alloc, stream.end(rt, alloc)?),
-        Err(fault) => Err(refusal_of_read(fault, Place::Only)),
-    }
+    let stream = stream.read_rest(rt, source, Place::Only, PIECE)?;
+    answer_stream(alloc, stream.end(rt, alloc)?)
 }
 
 /// The same of any input of which that came, with what the source told of its length: it is read whole first.
@@ -108,10 +105,10 @@ fn check_whole<S: Source>(
 /// The work of the trace that an input is, as a text, or why there is none.
 ///
 /// The events of a trace are checked as they come: the memory is that of its header, with room up to a quarter more but within
-/// the source's hint, that of 65,536 bytes, or a few times the longest item, and, until the header is opened, that for its
+/// the source's hint, that of twice 65,536 bytes, or a few times the longest item, and, until the header is opened, that for its
 /// names, linear in their number. An input of which [`Head::of`] finds no header is read whole; where no trace begins as it
 /// does, it is refused without reading on where [`Head::of`] shows that.
-pub(crate) fn check_input<R: Threads + Wait + Sync, S: Source>(
+pub(crate) fn check_input<R: Threads + Wait + Sync, S: Source + Send>(
     rt: &R,
     alloc: Global,
     source: &mut S,

@@ -65,6 +65,10 @@ impl Records for CheckedRecords {
         Ok((records, bytes))
     }
 
+    fn reads_beside(&self, _piecemeal: bool) -> bool {
+        false
+    }
+
     /// It starts none.
     fn let_go<R: Threads + Wait + Sync>(self, _rt: &R) {}
 }

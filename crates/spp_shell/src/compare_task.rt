@@ -38,7 +38,7 @@ impl<H: BuildHasher + Copy + Drop> Telling for Comparing<H> {
 }
 
 /// What is compared of the run whose trace an input gives, or why there is nothing. The bytes are let go.
-fn run_of<R: Threads + Wait + Sync, H: BuildHasher + Copy + Drop, S: Source>(
+fn run_of<R: Threads + Wait + Sync, H: BuildHasher + Copy + Drop, S: Source + Send>(
     rt: &R,
     alloc: Global,
     hasher: H,
@@ -58,7 +58,12 @@ fn run_of<R: Threads + Wait + Sync, H: BuildHasher + Copy + Drop, S: Source>(
 
 /// Two runs beside each other as text, or why there is none, with names hashed so. The first run is read and profiled
 /// first, and its bytes are let go before the second is read.
-fn compare_by<R: Threads + Wait + Sync, H: BuildHasher + Copy + Drop, S: Source, T: Source>(
+fn compare_by<
+    R: Threads + Wait + Sync,
+    H: BuildHasher + Copy + Drop,
+    S: Source + Send,
+    T: Source + Send,
+>(
     rt: &R,
     alloc: Global,
     hasher: H,
@@ -76,7 +81,11 @@ fn compare_by<R: Threads + Wait + Sync, H: BuildHasher + Copy + Drop, S: Source,
 
 /// Two runs beside each other as text, or why there is none. Names are hashed with keys that the system draws at random, so
 /// that no trace can choose names that collide; where it has none to give, by fixed ones, which changes no answer.
-pub(crate) fn answer_compare<R: Threads + Wait + Sync + RandomSource, S: Source, T: Source>(
+pub(crate) fn answer_compare<
+    R: Threads + Wait + Sync + RandomSource,
+    S: Source + Send,
+    T: Source + Send,
+>(
     rt: &R,
     alloc: Global,
     request: &Request,

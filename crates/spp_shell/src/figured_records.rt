@@ -46,6 +46,10 @@ impl Records for FiguredRecords {
         Ok((records, room))
     }
 
+    fn reads_beside(&self, piecemeal: bool) -> bool {
+        self.workers > 1 && (piecemeal || self.figures.reads_here())
+    }
+
     fn let_go<R: Threads + Wait + Sync>(self, rt: &R) {
         self.figures.let_go(rt);
     }

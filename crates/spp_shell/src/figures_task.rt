@@ -111,7 +111,7 @@ fn records_behind(
 }
 
 /// The figures of the run whose trace an input gives, which begins with that header, and of which that came.
-fn figure_records<R: Threads + Wait + Sync, S: Source>(
+fn figure_records<R: Threads + Wait + Sync, S: Source + Send>(
     rt: &R,
     alloc: Global,
     burdens: Burdens,
@@ -126,12 +126,9 @@ fn figure_records<R: Threads + Wait + Sync, S: Source>(
     ensures text { (s : S) → HasRead S.answered S.failed S.failures came.reads s (take came.filled came.bytes.items) source.old → IfOk result (λ text. (bytes : List ℕ) × (giving_of S.answered S.failed S.failures s source.new).Gave bytes × IsFiguresText burdens (bytes ∷ []) text.items) }
     ensures refused { (s : S) → HasRead S.answered S.failed S.failures came.reads s (take came.filled came.bytes.items) source.old → IfErr result (IsInputRefused (giving_of S.answered S.failed S.failures s source.new) Only IsOneCheckLine) }
 {
-    let reads = came.reads;
     let stream = RecordStream::start(head, came, records);
-    match stream.read_rest(rt, alloc, source, reads, head.block_len()) {
-        Ok(stream) => answer_stream(rt, alloc, stream.end(rt, alloc)?),
-        Err(fault) => Err(refusal_of_read(fault, Place::Only)),
-    }
+    let stream = stream.read_rest(rt, source, Place::Only, head.block_len())?;
+    answer_stream(rt, alloc, stream.end(rt, alloc)?)
 }
 
 /// The figures of the run whose trace any input gives, of which that came, with what the source told of its length: it is read
@@ -156,7 +153,7 @@ fn figure_whole<R: Threads + Wait + Sync, S: Source>(
 /// The events of a trace are read in blocks as they come, and let go; by two workers or more each block is read by a thread of
 /// its own, while the next ones come. An input of which [`Head::of`] finds no header is read whole, and cut into parts; where no
 /// trace begins as it does, it is refused without reading on where [`Head::of`] shows that.
-pub(crate) fn figures_input<R: Threads + Wait + Sync, S: Source>(
+pub(crate) fn figures_input<R: Threads + Wait + Sync, S: Source + Send>(
     rt: &R,
     alloc: Global,
     request: &Request,

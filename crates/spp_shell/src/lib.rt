@@ -3,6 +3,8 @@
 
 mod advise_task;
 mod advising;
+mod beside;
+mod block_read;
 mod came;
 mod check_task;
 mod checked_records;

@@ -76,7 +76,7 @@ fn answer_stream(alloc: Global, stream: RecordStream<MigratedRecords>) -> Result
 }
 
 /// The same of an input that begins with that header, and of which that came; `records` has seen none.
-fn migrate_records<R: Threads + Wait + Sync, S: Source>(
+fn migrate_records<R: Threads + Wait + Sync, S: Source + Send>(
     rt: &R,
     alloc: Global,
     source: &mut S,
@@ -90,12 +90,9 @@ fn migrate_records<R: Threads + Wait + Sync, S: Source>(
     ensures text { (s : S) → HasRead S.answered S.failed S.failures came.reads s (take came.filled came.bytes.items) source.old → IfOk result (λ text. (bytes : List ℕ) × (giving_of S.answered S.failed S.failures s source.new).Gave bytes × IsMigrateText (bytes ∷ []) text.items) }
     ensures refused { (s : S) → HasRead S.answered S.failed S.failures came.reads s (take came.filled came.bytes.items) source.old → IfErr result (IsInputRefused (giving_of S.answered S.failed S.failures s source.new) Only IsOneMigrateLine) }
 {
-    let reads = came.reads;
     let stream = RecordStream::start(head, came, records);
-    match stream.read_rest(rt, alloc, source, reads, PIECE) {
-        Ok(stream) => answer_stream(alloc, stream.end(rt, alloc)?),
-        Err(fault) => Err(refusal_of_read(fault, Place::Only)),
-    }
+    let stream = stream.read_rest(rt, source, Place::Only, PIECE)?;
+    answer_stream(alloc, stream.end(rt, alloc)?)
 }
 
 /// The same of any input of which that came, with what the source told of its length: it is read whole first.
@@ -138,7 +135,7 @@ fn begin(alloc: Global, bytes: &[u8]) -> Result<Option<(Head, MigratedRecords)>,
 /// The events of a trace are migrated as they come: the memory is that of its bytes in version 2, with room for as many more, and that
 /// of [`check_input`](crate::check_task::check_input). An input of which [`begin`] finds no header is read whole; where no trace begins
 /// as it does, it is refused without reading on where [`begin`] shows that.
-pub(crate) fn migrate_input<R: Threads + Wait + Sync, S: Source>(
+pub(crate) fn migrate_input<R: Threads + Wait + Sync, S: Source + Send>(
     rt: &R,
     alloc: Global,
     source: &mut S,

@@ -53,6 +53,10 @@ impl Records for MigratedRecords {
         Ok((MigratedRecords { migration }, bytes))
     }
 
+    fn reads_beside(&self, _piecemeal: bool) -> bool {
+        false
+    }
+
     /// It starts none.
     fn let_go<R: Threads + Wait + Sync>(self, _rt: &R) {}
 }

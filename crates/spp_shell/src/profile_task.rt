@@ -91,7 +91,7 @@ pub(crate) fn profile_or_refuse<R: Threads + Wait + Sync>(
 }
 
 /// The report of the run whose trace an input gives, or why there is none.
-pub(crate) fn answer_profile<R: Threads + Wait + Sync, S: Source>(
+pub(crate) fn answer_profile<R: Threads + Wait + Sync, S: Source + Send>(
     rt: &R,
     alloc: Global,
     request: &Request,

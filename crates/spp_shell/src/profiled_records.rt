@@ -46,6 +46,10 @@ impl Records for ProfiledRecords {
         Ok((records, room))
     }
 
+    fn reads_beside(&self, piecemeal: bool) -> bool {
+        self.workers > 1 && (piecemeal || self.profile.reads_here())
+    }
+
     fn let_go<R: Threads + Wait + Sync>(self, rt: &R) {
         self.profile.let_go(rt);
     }

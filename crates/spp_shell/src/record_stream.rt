@@ -1,5 +1,5 @@
 //! A trace whose records are gone over as they come.
-ghost use Rattle.std.specs.Prelude.{◌≡◌, ◌+◌, ◌-◌, ◌*◌, ◌^◌, ◌<◌, ◌≤◌, ◌++◌, ℕ, List, Bool, true, false, [], length, take, drop, slice_range, IfOk, OnOk, IfSome, IfErr};
+ghost use Rattle.std.specs.Prelude.{◌≡◌, ◌⊎◌, ◌+◌, ◌-◌, ◌*◌, ◌^◌, ◌<◌, ◌≤◌, ◌++◌, ℕ, List, Bool, true, false, [], length, take, drop, slice_range, IfOk, OnOk, IfSome, IfErr};
 ghost use Rattle.spp_event.specs.Header.{IsTraceOf, header_spelling};
 ghost use Rattle.spp_event.specs.Heads.{IsHeadOf};
 ghost use Rattle.spp_event.specs.Places.{IsJoint};
@@ -9,11 +9,14 @@ ghost use Rattle.spp_shell.specs.Check.{TellsHeader};
 ghost use Rattle.spp_shell.specs.RecordStreams.{AreWhole, HasGoneOver};
 ghost use Rattle.spp_shell.specs.Tasks.{IfLine};
 
+use crate::beside::{Followed, WholeEvents, follow};
+use crate::block_read::{NextBlock, read_block};
 use crate::came::Came;
 use crate::header_end::front_len;
+use crate::input::refusal_of_read;
 use crate::opening::open_front;
-use crate::reading::{INPUT_LIMIT, PIECE, ReadFault, make_room, move_to_front};
-use crate::reading_on::read_more;
+use crate::place::Place;
+use crate::reading::{PIECE, move_to_front};
 use crate::records::Records;
 use crate::refusal::Refusal;
 use crate::source::Source;
@@ -115,6 +118,18 @@ fn copy_of(alloc: Global, bytes: &[u8]) -> Result<Vec<u8>, AllocError>
     bytes.to_vec(alloc)
 }
 
+/// These bytes, or others that are as many as those: a copy takes less time than room that grows bit by bit.
+///
+/// # Errors
+///
+/// Where an allocation failed.
+fn as_long_as(bytes: Vec<u8>, others: &Vec<u8>) -> Result<Vec<u8>, AllocError> {
+    if bytes.len() >= others.len() {
+        return Ok(bytes);
+    }
+    others.to_vec(*others.allocator())
+}
+
 /// Copies these bytes to the front of others, which have room for them then.
 ///
 /// # Errors
@@ -145,6 +160,19 @@ fn whole_len(version: Version, bytes: &[u8], ends: bool) -> usize
     }
 }
 
+/// As [`whole_len`] where other bytes follow; 0 where there are fewer than `block` bytes.
+fn whole_in_block(version: Version, bytes: &[u8], block: usize) -> usize
+    ensures within { result ≤ length bytes.now }
+    ensures whole { AreWhole version (count_in version (take result bytes.now)) (take result bytes.now) }
+    ensures joint { IsJoint version (take result bytes.now) (drop result bytes.now) }
+    ensures opens { version ≡ Two → 0 < length bytes.now → result < length bytes.now }
+{
+    if bytes.len() < block {
+        return 0;
+    }
+    whole_len(version, bytes, false)
+}
+
 /// How many events these bytes are.
 fn events_in(version: Version, bytes: &[u8]) -> u64
     ensures is { result ≡ count_in version bytes.now }
@@ -156,9 +184,9 @@ fn events_in(version: Version, bytes: &[u8]) -> u64
     }
 }
 
-/// Goes over the whole events of the first `filled` of these bytes, behind so many others; `ends`: no bytes come behind them. Gives
+/// Goes over the whole events of the first `filled` of these bytes, behind so many others, where no bytes come behind them. Gives
 /// `records` behind them, how many events that makes in all, and a list that begins with so many bytes that are left: those of
-/// less than a record, or of the last item, which may go on. From the events on that pass the header's number none is read.
+/// less than a record. From the events on that pass the header's number none is read.
 ///
 /// # Errors
 ///
@@ -171,7 +199,6 @@ fn go_over<V: Records, R: Threads + Wait + Sync>(
     events: u64,
     bytes: Vec<u8>,
     filled: usize,
-    ends: bool,
 ) -> Result<(V, u64, Vec<u8>, usize), AllocError>
     requires end { filled ≤ length bytes.items }
     requires few { events + filled < 2 ^ 35 }
@@ -182,11 +209,10 @@ fn go_over<V: Records, R: Threads + Wait + Sync>(
     ensures within { IfOk result (λ r. r.3 ≤ filled) }
     ensures held { IfOk result (λ r. r.3 ≤ length r.2.items) }
     ensures few { IfOk result (λ r. r.1 + r.3 ≤ events + filled) }
-    ensures cut { ends ≡ true → IfOk result (λ r. count_in head.version (take r.3 r.2.items) ≡ 0) }
-    ensures opens { head.version ≡ Two → ends ≡ false → 0 < filled → IfOk result (λ r. 0 < r.3) }
+    ensures cut { IfOk result (λ r. count_in head.version (take r.3 r.2.items) ≡ 0) }
 {
     let came = &bytes[..filled];
-    let whole = whole_len(head.version, came, ends);
+    let whole = whole_len(head.version, came, true);
     let left = filled - whole;
     let count = events_in(head.version, &came[..whole]);
     let behind = events + count;
@@ -210,38 +236,6 @@ fn go_over<V: Records, R: Threads + Wait + Sync>(
     Ok((records, behind, room, left))
 }
 
-/// Goes over them as [`go_over`] where they are `due` bytes or more; else all of them are left. Others come behind them.
-///
-/// # Errors
-///
-/// Where an allocation failed.
-fn go_over_block<V: Records, R: Threads + Wait + Sync>(
-    rt: &R,
-    alloc: Global,
-    head: Head,
-    records: V,
-    events: u64,
-    bytes: Vec<u8>,
-    filled: usize,
-    due: usize,
-) -> Result<(V, u64, Vec<u8>, usize), AllocError>
-    requires end { filled ≤ length bytes.items }
-    requires few { events + filled < 2 ^ 35 }
-    requires limit { head.count ≤ 2 ^ 28 }
-    requires count { events ≤ head.count → V.seen_by records ≡ events }
-    requires seen { events ≤ head.count → (first : V) × (xs : List ℕ) × AreWhole head.version events xs × IsJoint head.version xs (take filled bytes.items) × V.has_seen head.version first records xs }
-    ensures gone { IfOk result (λ r. HasGoneOver V.seen_by V.has_seen records r.0 head events r.1 (take filled bytes.items) (take r.3 r.2.items)) }
-    ensures within { IfOk result (λ r. r.3 ≤ filled) }
-    ensures held { IfOk result (λ r. r.3 ≤ length r.2.items) }
-    ensures few { IfOk result (λ r. r.1 + r.3 ≤ events + filled) }
-    ensures opens { head.version ≡ Two → 0 < filled → IfOk result (λ r. 0 < r.3) }
-{
-    if filled < due {
-        return Ok((records, events, bytes, filled));
-    }
-    go_over(rt, alloc, head, records, events, bytes, filled, false)
-}
-
 /// A trace that is being read.
 #[derive(Drop)]
 pub(crate) struct RecordStream<V: Records> {
@@ -256,15 +250,24 @@ pub(crate) struct RecordStream<V: Records> {
     pub(crate) filled: usize,
     /// How many bytes of the input came before them, the header among these.
     pub(crate) before: u64,
+    /// In how many reads all came.
+    pub(crate) reads: u64,
+    /// The last block that was read came piecemeal: see [`NextBlock`].
+    pub(crate) piecemeal: bool,
+    /// Room for the bytes of another block.
+    pub(crate) spare: Vec<u8>,
     ghost held: { filled ≤ length bytes.items },
     ghost within: { before + filled ≤ 2 ^ 33 },
     ghost few: { events ≤ before },
+    ghost turns: { reads < 2 ^ 33 },
 }
 
 impl<V: Records> RecordStream<V> {
     ghost use Rattle.spp_shell.specs.RecordStreams.{AreMore, AreNoMore, HasStreamed};
-    ghost use Rattle.spp_shell.specs.Streams.{HasRead};
+    ghost use Rattle.spp_shell.specs.BlockReads.{IsReadTo};
     ghost use Rattle.spp_shell.specs.Devices.{giving_of};
+    ghost use Rattle.spp_shell.specs.Inputs.{IsInputRefused, NoLine};
+    ghost use Rattle.spp_shell.specs.Streams.{HasRead};
 
     /// The stream of a trace of which that came, bytes that begin with that header; `records` has seen none.
     pub(crate) fn start(head: Head, came: Came, records: V) -> RecordStream<V>
@@ -274,13 +277,15 @@ impl<V: Records> RecordStream<V> {
         requires seen { V.has_seen head.version records records [] }
         ensures head { result.head ≡ head }
         ensures front { result.before ≡ head.len }
+        ensures reads { result.reads ≡ came.reads }
         ensures streamed { HasStreamed V.seen_by V.has_seen records result.records result.head result.events result.before (take head.len (take came.filled came.bytes.items)) (take result.filled result.bytes.items) (take came.filled came.bytes.items) }
     {
         let Came {
             mut bytes,
             filled,
-            ..
+            reads,
         } = came;
+        let spare = Vec::new(*bytes.allocator());
         move_to_front(&mut bytes, head.len, filled);
         let left = filled - head.len;
         bytes.truncate(left.max(PIECE));
@@ -291,79 +296,174 @@ impl<V: Records> RecordStream<V> {
             bytes,
             filled: left,
             before: head.len as u64,
+            reads,
+            piecemeal: false,
+            spare,
         }
     }
 
-    /// Reads on to the end, behind so many reads, and goes over the records in blocks of that many bytes, or some more, but for
-    /// the last block. An item that is longer than a block is looked at again when it has doubled.
+    /// The stream behind so many events and bytes, of which that came next; and whether the input ended.
+    fn behind(
+        head: Head,
+        events: u64,
+        before: u64,
+        followed: Followed<V>,
+    ) -> (RecordStream<V>, bool)
+        requires within { before + followed.next.came.filled ≤ 2 ^ 33 }
+        requires few { events ≤ before }
+        ensures head { result.0.head ≡ head }
+        ensures before { result.0.before ≡ before }
+        ensures filled { result.0.filled ≡ followed.next.came.filled }
+        ensures reads { result.0.reads ≡ followed.next.came.reads }
+        ensures ended { result.1 ≡ followed.next.ended }
+        ensures streamed { (first : V) (header xs : List ℕ) → HasStreamed V.seen_by V.has_seen first followed.records head events before header (take followed.next.came.filled followed.next.came.bytes.items) xs → HasStreamed V.seen_by V.has_seen first result.0.records result.0.head result.0.events result.0.before header (take result.0.filled result.0.bytes.items) xs }
+    {
+        let Followed {
+            records,
+            spare,
+            next: NextBlock {
+                came,
+                ended,
+                piecemeal,
+            },
+        } = followed;
+        let Came {
+            bytes,
+            filled,
+            reads,
+        } = came;
+        let stream = RecordStream {
+            head,
+            records,
+            events,
+            bytes,
+            filled,
+            before,
+            reads,
+            piecemeal,
+            spare,
+        };
+        (stream, ended)
+    }
+
+    /// Goes over the whole events that came, if they are a block, and reads the next one, which has so many bytes, or some more,
+    /// but at the end of the input; whether it ended. Where an item is longer than a block, twice as many bytes are read as came
+    /// of it. From the block on that passes the header's number, events are only counted.
     ///
     /// # Errors
     ///
-    /// Those of [`read_within`](crate::read_within).
-    pub(crate) fn read_rest<R: Threads + Wait + Sync, S: Source>(
+    /// Where the input can't be read on, or an allocation failed.
+    fn go_on<R: Threads + Wait + Sync, S: Source + Send>(
         self,
         rt: &R,
-        alloc: Global,
         source: &mut S,
-        reads: u64,
+        place: Place,
         block: usize,
-    ) -> Result<RecordStream<V>, ReadFault>
-        requires reads { reads ≤ 2 ^ 33 }
+    ) -> Result<(RecordStream<V>, bool), Refusal>
+        requires opens { self.head.version ≡ Two → (self.before ≡ self.head.len) ⊎ (0 < self.filled) }
+        requires seen { (first : V) × (header xs : List ℕ) × HasStreamed V.seen_by V.has_seen first self.records self.head self.events self.before header (take self.filled self.bytes.items) xs }
+        ensures opens { IfOk result (λ r. r.0.head.version ≡ Two → (r.0.before ≡ r.0.head.len) ⊎ (0 < r.0.filled)) }
+        ensures head { IfOk result (λ r. r.0.head ≡ self.head) }
+        ensures more { IfOk result (λ r. r.1 ≡ false → self.before + self.filled < r.0.before + r.0.filled) }
+        ensures streamed { (first : V) (header xs : List ℕ) → HasStreamed V.seen_by V.has_seen first self.records self.head self.events self.before header (take self.filled self.bytes.items) xs → IfOk result (λ r. (all : List ℕ) × HasStreamed V.seen_by V.has_seen first r.0.records r.0.head r.0.events r.0.before header (take r.0.filled r.0.bytes.items) all) }
+        ensures read { (s : S) (first : V) (header xs : List ℕ) → HasRead S.answered S.failed S.failures self.reads s xs source.old → HasStreamed V.seen_by V.has_seen first self.records self.head self.events self.before header (take self.filled self.bytes.items) xs
+            → IfOk result (λ r. (all : List ℕ) × IsReadTo S.answered S.failed S.failures r.0.reads s all source.new r.1 × HasStreamed V.seen_by V.has_seen first r.0.records r.0.head r.0.events r.0.before header (take r.0.filled r.0.bytes.items) all) }
+        ensures refused { (s : S) (first : V) (header xs : List ℕ) → HasRead S.answered S.failed S.failures self.reads s xs source.old → HasStreamed V.seen_by V.has_seen first self.records self.head self.events self.before header (take self.filled self.bytes.items) xs
+            → IfErr result (IsInputRefused (giving_of S.answered S.failed S.failures s source.new) place NoLine) }
+    {
+        let RecordStream {
+            head,
+            records,
+            events,
+            mut bytes,
+            filled,
+            before,
+            reads,
+            piecemeal,
+            spare,
+        } = self;
+        let came = &bytes[..filled];
+        let whole = whole_in_block(head.version, came, block);
+        let count = events_in(head.version, &came[..whole]);
+        let left = filled - whole;
+        let behind = events + count;
+        let before = before + whole as u64;
+        let due = block.max(2 * left + 1);
+        if whole == 0 || behind > u64::from(head.count) {
+            move_to_front(&mut bytes, whole, filled);
+            let rest = Came {
+                bytes,
+                filled: left,
+                reads,
+            };
+            return match read_block(source, rest, before, due) {
+                Ok(next) => {
+                    let followed = Followed {
+                        records,
+                        spare,
+                        next,
+                    };
+                    Ok(RecordStream::behind(head, behind, before, followed))
+                }
+                Err(fault) => {
+                    records.let_go(rt);
+                    Err(refusal_of_read(fault, place))
+                }
+            };
+        }
+        let Ok(mut rest) = as_long_as(spare, &bytes) else {
+            records.let_go(rt);
+            return Err(Refusal::Memory);
+        };
+        let Ok(()) = copy_to_front(&came[whole..], &mut rest) else {
+            records.let_go(rt);
+            return Err(Refusal::Memory);
+        };
+        let rest = Came {
+            bytes: rest,
+            filled: left,
+            reads,
+        };
+        let whole_events = WholeEvents {
+            version: head.version,
+            bytes,
+            len: whole,
+            count: count as u32,
+            piecemeal,
+        };
+        let followed = follow(rt, place, records, whole_events, source, rest, before, due)?;
+        Ok(RecordStream::behind(head, behind, before, followed))
+    }
+
+    /// Reads on to the end, and goes over the records in blocks of that many bytes, or some more, but for the last.
+    ///
+    /// # Errors
+    ///
+    /// Where the input can't be read to its end, or an allocation failed.
+    pub(crate) fn read_rest<R: Threads + Wait + Sync, S: Source + Send>(
+        self,
+        rt: &R,
+        source: &mut S,
+        place: Place,
+        block: usize,
+    ) -> Result<RecordStream<V>, Refusal>
         requires front { self.before ≡ self.head.len }
         requires seen { (first : V) × (header xs : List ℕ) × HasStreamed V.seen_by V.has_seen first self.records self.head self.events self.before header (take self.filled self.bytes.items) xs }
         ensures head { IfOk result (λ end. end.head ≡ self.head) }
         ensures streamed { (first : V) (header xs : List ℕ) → HasStreamed V.seen_by V.has_seen first self.records self.head self.events self.before header (take self.filled self.bytes.items) xs → IfOk result (λ end. (all : List ℕ) × HasStreamed V.seen_by V.has_seen first end.records end.head end.events end.before header (take end.filled end.bytes.items) all) }
-        ensures read { (s : S) (first : V) (header xs : List ℕ) → HasRead S.answered S.failed S.failures reads s xs source.old → HasStreamed V.seen_by V.has_seen first self.records self.head self.events self.before header (take self.filled self.bytes.items) xs
+        ensures read { (s : S) (first : V) (header xs : List ℕ) → HasRead S.answered S.failed S.failures self.reads s xs source.old → HasStreamed V.seen_by V.has_seen first self.records self.head self.events self.before header (take self.filled self.bytes.items) xs
             → IfOk result (λ end. (all : List ℕ) × (giving_of S.answered S.failed S.failures s source.new).Gave all × HasStreamed V.seen_by V.has_seen first end.records end.head end.events end.before header (take end.filled end.bytes.items) all) }
-        ensures refused { (s : S) (first : V) (header xs : List ℕ) → HasRead S.answered S.failed S.failures reads s xs source.old → HasStreamed V.seen_by V.has_seen first self.records self.head self.events self.before header (take self.filled self.bytes.items) xs
-            → IfErr result (λ fault. (giving_of S.answered S.failed S.failures s source.new).Refused fault) }
+        ensures refused { (s : S) (first : V) (header xs : List ℕ) → HasRead S.answered S.failed S.failures self.reads s xs source.old → HasStreamed V.seen_by V.has_seen first self.records self.head self.events self.before header (take self.filled self.bytes.items) xs
+            → IfErr result (IsInputRefused (giving_of S.answered S.failed S.failures s source.new) place NoLine) }
     {
-        let RecordStream {
-            head,
-            mut records,
-            mut events,
-            mut bytes,
-            mut filled,
-            mut before,
-        } = self;
-        let mut due = block;
-        for _ in reads..INPUT_LIMIT {
-            let went = go_over_block(rt, alloc, head, records, events, bytes, filled, due);
-            let Ok((now, behind, room, left)) = went else {
-                return Err(ReadFault::Memory);
-            };
-            if filled >= due {
-                due = block.max(2 * left);
-            }
-            records = now;
-            events = behind;
-            bytes = room;
-            before += (filled - left) as u64;
-            filled = left;
-            let Ok(()) = make_room(&mut bytes, filled, None) else {
-                records.let_go(rt);
-                return Err(ReadFault::Memory);
-            };
-            match read_more(source, &mut bytes, filled, before) {
-                Err(fault) => {
-                    records.let_go(rt);
-                    return Err(fault);
-                }
-                Ok(None) => {
-                    return Ok(RecordStream {
-                        head,
-                        records,
-                        events,
-                        bytes,
-                        filled,
-                        before,
-                    });
-                }
-                Ok(Some(more)) => filled = more,
-            }
+        let mut stream = self;
+        let mut ended = false;
+        while !ended {
+            let went = stream.go_on(rt, source, place, block)?;
+            stream = went.0;
+            ended = went.1;
         }
-        records.let_go(rt);
-        Err(ReadFault::TooLong)
+        Ok(stream)
     }
 
     /// Goes over the last block, behind which the input ended. No whole event is left then.
@@ -388,9 +488,12 @@ impl<V: Records> RecordStream<V> {
             bytes,
             filled,
             before,
+            reads,
+            piecemeal,
+            spare,
         } = self;
         let (records, events, bytes, left) = go_over(
-            rt, alloc, head, records, events, bytes, filled, true,
+            rt, alloc, head, records, events, bytes, filled,
         )?;
         Ok(RecordStream {
             head,
@@ -399,6 +502,9 @@ impl<V: Records> RecordStream<V> {
             bytes,
             filled: left,
             before: before + (filled - left) as u64,
+            reads,
+            piecemeal,
+            spare,
         })
     }
 

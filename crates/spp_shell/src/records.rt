@@ -41,6 +41,10 @@ pub(crate) trait Records: Drop {
         ensures count { IfOk result (λ r. seen_by r.0 ≡ seen_by self + count) }
         ensures seen { IfOk result (λ r. (first : Self) (xs : List ℕ) → AreWhole version (seen_by self) xs → IsJoint version xs (take len bytes.items) → has_seen version first self xs → has_seen version first r.0 (xs ++ take len bytes.items)) };
 
+    /// Whether a thread of its own should read on while these go over events; `piecemeal`: the events came in many short reads. No
+    /// clause says when: answers don't depend on it.
+    fn reads_beside(&self, piecemeal: bool) -> bool;
+
     /// Lets go of what they showed, and waits for the threads that it had started.
     fn let_go<R: Threads + Wait + Sync>(self, rt: &R);
 }

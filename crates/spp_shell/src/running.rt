@@ -26,7 +26,7 @@ use std::sync::Wait;
 use std::thread::Threads;
 
 /// The text for the bytes of the request's inputs, or why there is none.
-fn answer<R: Threads + Wait + Sync + RandomSource, S: Source, T: Source>(
+fn answer<R: Threads + Wait + Sync + RandomSource, S: Source + Send, T: Source + Send>(
     rt: &R,
     alloc: Global,
     request: &Request,
@@ -77,7 +77,13 @@ fn end<O: Sink, E: Sink>(answer: Result<Vec<u8>, Refusal>, out: &mut O, err: &mu
 /// wait for them: what is said here holds where the call returns.
 ///
 /// Nothing goes to `out` before the whole answer stands. A failure of `err` changes nothing.
-pub fn run<R: Threads + Wait + Sync + RandomSource, S: Source, T: Source, O: Sink, E: Sink>(
+pub fn run<
+    R: Threads + Wait + Sync + RandomSource,
+    S: Source + Send,
+    T: Source + Send,
+    O: Sink,
+    E: Sink,
+>(
     rt: &R,
     alloc: Global,
     request: &Request,

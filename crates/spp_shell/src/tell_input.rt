@@ -100,7 +100,7 @@ fn profile_of_stream<R: Threads + Wait + Sync>(
 
 /// What is told of an input that begins with the header of this trace, and of which that came, or why nothing is:
 /// its records are profiled as they come.
-fn tell_records<R: Threads + Wait + Sync, S: Source, T: Telling>(
+fn tell_records<R: Threads + Wait + Sync, S: Source + Send, T: Telling>(
     rt: &R,
     alloc: Global,
     request: &Request,
@@ -119,12 +119,10 @@ fn tell_records<R: Threads + Wait + Sync, S: Source, T: Telling>(
     ensures told { (s : S) → HasRead S.answered S.failed S.failures came.reads s (take came.filled came.bytes.items) source.old → IfOk result (λ told. (bytes : List ℕ) × (giving_of S.answered S.failed S.failures s source.new).Gave bytes × IsTold (T.tells telling.now) request.now.burdens bytes told) }
     ensures refused { (s : S) → HasRead S.answered S.failed S.failures came.reads s (take came.filled came.bytes.items) source.old → IfErr result (IsInputRefused (giving_of S.answered S.failed S.failures s source.new) place IsOneCheckLine) }
 {
-    let reads = came.reads;
     let stream = RecordStream::start(head, came, records);
-    let stream = match stream.read_rest(rt, alloc, source, reads, head.block_len()) {
-        Ok(stream) => stream.end(rt, alloc)?,
-        Err(fault) => return Err(refusal_of_read(fault, place)),
-    };
+    let stream = stream
+        .read_rest(rt, source, place, head.block_len())?
+        .end(rt, alloc)?;
     let profile = profile_of_stream(rt, alloc, stream)?;
     let named = Named {
         trace,
@@ -206,7 +204,7 @@ fn open_header<'a>(
 /// its own, while the next ones come, but where blocks are slow to join. Read whole first are a trace that is kept ([`is_kept`]), an
 /// input that ends within its header, and one where memory is refused for its header or for the beginning of its profile. Where no
 /// trace begins as it does, it is refused without reading on where [`open_front`] shows that, but for a kept one of many names.
-pub(crate) fn tell_input<R: Threads + Wait + Sync, S: Source, T: Telling>(
+pub(crate) fn tell_input<R: Threads + Wait + Sync, S: Source + Send, T: Telling>(
     rt: &R,
     alloc: Global,
     request: &Request,

@@ -10,3 +10,7 @@ pub mod Marked
 pub mod RowSums
 pub mod LastFirst
 pub mod WholeProfile
+pub mod Keys
+pub mod NarrowRows
+pub mod NarrowTables
+pub mod Noted

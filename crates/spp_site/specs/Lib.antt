@@ -4,3 +4,5 @@ pub mod Profiles
 pub mod Slots
 pub mod Laws
 pub mod Marks
+pub mod NarrowRows
+pub mod NarrowTables

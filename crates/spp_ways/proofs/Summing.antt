@@ -1,62 +1,14 @@
 -- The rows of a way, as they are added up.
-use Rattle.std.proofs.Common.{◌≡◌, ℕ, suc, ◌+◌, ◌*◌, ◌≤◌, ◌<◌, Bool, true, false, cond, nat_eq, List, [], ◌∷◌, ◌++◌, length, reverse, take, get_or, Option, Some, None, refl, sym, ap, ap₂, subst, ◌∙◌, arith}
+use Rattle.std.proofs.Common.{◌≡◌, ℕ, suc, ◌+◌, ◌*◌, ◌≤◌, ◌<◌, Bool, true, false, cond, nat_eq, List, [], ◌∷◌, ◌++◌, length, reverse, take, get_or, Option, refl, sym, ap, ap₂, subst, ◌∙◌, arith}
 use Rattle.std.proofs.lemmas.Bool.{ne_eqb, eq-eqb}
 use Rattle.std.proofs.lemmas.List.{length-append, reverse-append}
 use Rattle.std.proofs.Math.Seq.{take-suc}
 use Rattle.spp_dag.specs.declared.row.Row.{Row}
 use Rattle.spp_dag.specs.Shares.{plus, zero_row}
-use Rattle.spp_dag.specs.Steps.{same_key}
-use Rattle.spp_site.specs.Rows.{Fits}
-use Rattle.spp_site.specs.Table.{Sums, row_at, IsAdded, IsSum}
-use Rattle.spp_site.specs.Profiles.{key_row}
 use Rattle.spp_site.proofs.Rows.{plus-zero, zero-plus, plus-assoc, plus-over}
 use Rattle.spp_ways.specs.declared.log.LogRow.{LogRow}
 use Rattle.spp_ways.specs.Logs.{way_row, row_on, before_on, within_on, IsLinked, AreLinked}
 use Rattle.spp_ways.proofs.Staying.{rows_stay, rows_last, Cut, cut, linked_less}
-
--- ---- sums of rows
-
-pub row_fits : (r s q : Row) → plus r s ≡ q → Fits q → Fits r
-row_fits r s q e f =
-    let part : (a b c : ℕ) → a + b ≡ c → a ≤ c = λ a b c z. omega arith in
-    let f1 = ap (λ (x : Row). x.count) e in
-    let f2 = ap (λ (x : Row). x.local) e in
-    let f3 = ap (λ (x : Row). x.site_count) e in
-    let f4 = ap (λ (x : Row). x.site_work) e in
-    let f5 = ap (λ (x : Row). x.site_span) e in
-    let f6 = ap (λ (x : Row). x.caller_count) e in
-    let f7 = ap (λ (x : Row). x.caller_work) e in
-    let f8 = ap (λ (x : Row). x.caller_span) e in
-    record {
-      count = (let z = f.count in omega arith);
-      local = (let z = f.local in omega arith);
-      site_count = (let z = f.site_count in omega arith);
-      site_work = (let z = f.site_work in omega arith);
-      site_span = (let z = f.site_span in omega arith);
-      caller_count = (let z = f.caller_count in omega arith);
-      caller_work = (let z = f.caller_work in omega arith);
-      caller_span = (let z = f.caller_span in omega arith);
-    }
-
--- a row that was added to a table
-pub added_key : (old new : Sums) (site : ℕ) (row : Row) → IsAdded old new site row → (key : Option ℕ)
-    → key_row new key ≡ plus (key_row old key) (cond (same_key (Some site) key) row zero_row)
-added_key old new site row h None = h.root ∙ sym (plus-zero old.root)
-added_key old new site row h (Some s) = h.sites s ∙ by (nat_eq s site) (nat_eq site s) (nat_eq-swap s site)
-  where
-    nat_eq-swap : (a b : ℕ) → nat_eq a b ≡ nat_eq b a
-    nat_eq-swap a b = grind arith
-
-    by : (x y : Bool) → x ≡ y → cond x (plus (row_at old s) row) (row_at old s) ≡ plus (row_at old s) (cond y row zero_row)
-    by false false e = sym (plus-zero (row_at old s))
-    by true true e = refl
-    by false true e = cc
-    by true false e = cc
-
--- the sum of two tables
-pub sum_key : (a b t : Sums) → IsSum a b t → (key : Option ℕ) → key_row t key ≡ plus (key_row a key) (key_row b key)
-sum_key a b t h None = h.root
-sum_key a b t h (Some s) = h.sites s
 
 -- ---- the ways that are left
 

@@ -10,7 +10,7 @@ ghost use Rattle.spp_ways.specs.Stretches.{linked_to, outer_row, joined_row, Fit
 ghost use Rattle.spp_ways.specs.declared.log.LogRow.{LogRow as LogRowValue};
 
 use crate::enclosing::Enclosing;
-use spp_site::{ClosedFrame, Share, Table};
+use spp_site::{ClosedFrame, EmptySums, NarrowList, NarrowSums};
 use std::alloc::{AllocError, Global};
 
 /// In place of a caller's function, where a row of a stretch stands for the way into its outer frame before its first event.
@@ -63,15 +63,26 @@ pub(crate) fn linked_to(outer: u32, rows: u32, way: u32) -> u32
 }
 
 /// What the rows of ways come to: on the path without burdens, and on that under them.
-#[derive(Drop)]
 pub(crate) struct Merged {
-    plain: Share,
-    burdened: Share,
+    plain: NarrowList,
+    burdened: NarrowList,
+}
+
+impl Drop for Merged {
+    // Seldom called: inlined it would be in the way where rows of frames are cut off.
+    #[cold]
+    #[inline(never)]
+    fn drop(self) {
+        let Merged {
+            plain: _,
+            burdened: _,
+        } = self;
+    }
 }
 
 impl Merged {
     /// On that path: without burdens, or under them.
-    fn on(&self, burdened: bool) -> &Share
+    fn on(&self, burdened: bool) -> &NarrowList
         ensures { result.now ≡ merged_on burdened self.now }
     {
         if burdened {
@@ -81,7 +92,7 @@ impl Merged {
         }
     }
 
-    /// How many rows are stored.
+    /// How many rows are stored: what it takes to add them to others.
     pub(crate) fn len(&self) -> usize {
         self.plain
             .row_count()
@@ -212,19 +223,18 @@ impl LogRow {
         }
     }
 
-    /// Adds it to a table of that path.
+    /// Adds it to the sums of that path.
     ///
     /// # Errors
     ///
     /// Where an allocation failed.
-    fn add_to(&self, burdened: bool, table: &mut Table) -> Result<(), AllocError>
-        requires site { self.now.site < 65536 }
-        requires fits { (key : Option ℕ) → Fits (plus (key_row table.old key) (row_on burdened self.now key)) }
-        ensures { OnOk result ((key : Option ℕ) → key_row table.new key ≡ plus (key_row table.old key) (row_on burdened self.now key)) }
+    fn add_to(&self, burdened: bool, sums: &mut NarrowSums) -> Result<(), AllocError>
+        requires { (key : Option ℕ) → Fits (plus (key_row sums.old key) (row_on burdened self.now key)) }
+        ensures { OnOk result ((key : Option ℕ) → key_row sums.new key ≡ plus (key_row sums.old key) (row_on burdened self.now key)) }
     {
         match &self.merged {
-            None => table.close(u32::from(self.site), &self.closed(burdened)),
-            Some(merged) => table.absorb(merged.on(burdened)),
+            None => sums.close(self.site, &self.closed(burdened)),
+            Some(merged) => sums.absorb(merged.on(burdened)),
         }
     }
 
@@ -333,23 +343,22 @@ impl Log {
         Ok(())
     }
 
-    /// Adds the rows of a way to a table: without burdens, or under them. It takes constant time for each frame, time linear
-    /// in what is stored for each that was merged, and memory for as many numbers as closed frames nest.
+    /// Adds the rows of a way to sums: without burdens, or under them.
     ///
     /// # Errors
     ///
     /// Where an allocation failed.
-    pub(crate) fn add_up(
+    fn add_up(
         &self,
         alloc: Global,
         burdened: bool,
         way: u32,
-        table: &mut Table,
+        sums: &mut NarrowSums,
     ) -> Result<(), AllocError>
         requires linked { AreLinked (reverse self.now.rows.items) }
         requires way { way ≤ length self.now.rows.items }
-        requires fits { (key : Option ℕ) → Fits (plus (key_row table.old key) (row_in burdened self.now way key)) }
-        ensures { OnOk result ((key : Option ℕ) → key_row table.new key ≡ plus (key_row table.old key) (row_in burdened self.now way key)) }
+        requires fits { (key : Option ℕ) → Fits (plus (key_row sums.old key) (row_in burdened self.now way key)) }
+        ensures { OnOk result ((key : Option ℕ) → key_row sums.new key ≡ plus (key_row sums.old key) (row_in burdened self.now way key)) }
     {
         let mut left = Vec::new(alloc);
         left.push(way)?;
@@ -358,15 +367,42 @@ impl Log {
                 continue;
             }
             let row = &self.rows[count as usize - 1];
-            row.add_to(burdened, table)?;
+            row.add_to(burdened, sums)?;
             left.push(row.before(burdened))?;
             left.push(row.within(burdened))?;
         }
         Ok(())
     }
 
-    /// What the rows of two ways come to, one on the path without burdens and one on that under them. It takes time linear
-    /// in the numbers of rows and of sites.
+    /// What the rows of a way come to, without burdens or under them, and the empty sums that were passed to add them up. It
+    /// takes constant time for each frame, time linear in what is stored for each row that was merged, a step for each site number
+    /// that those sums didn't reach before, and memory for as many numbers as closed frames nest, besides that of the sums. Where
+    /// the way has no rows it takes no memory. No clause says that the memory of the sums is used again.
+    ///
+    /// # Errors
+    ///
+    /// Where an allocation failed.
+    pub(crate) fn summed(
+        &self,
+        alloc: Global,
+        room: EmptySums,
+        burdened: bool,
+        way: u32,
+    ) -> Result<(NarrowList, EmptySums), AllocError>
+        requires linked { AreLinked (reverse self.now.rows.items) }
+        requires way { way ≤ length self.now.rows.items }
+        requires fits { (key : Option ℕ) → Fits (row_in burdened self.now way key) }
+        ensures { IfOk result (λ p. (key : Option ℕ) → key_row p.0 key ≡ row_in burdened self.now way key) }
+    {
+        if way == 0 {
+            return Ok((NarrowList::none(alloc), room));
+        }
+        let mut sums = room.into_sums();
+        self.add_up(alloc, burdened, way, &mut sums)?;
+        sums.into_list(alloc)
+    }
+
+    /// What the rows of two ways come to, one on the path without burdens and one on that under them: see [`Log::summed`].
     ///
     /// # Errors
     ///
@@ -374,25 +410,25 @@ impl Log {
     pub(crate) fn merge(
         &self,
         alloc: Global,
+        room: EmptySums,
         plain: u32,
         burdened: u32,
-    ) -> Result<Merged, AllocError>
+    ) -> Result<(Merged, EmptySums), AllocError>
         requires linked { AreLinked (reverse self.now.rows.items) }
         requires plain { plain ≤ length self.now.rows.items }
         requires burdened { burdened ≤ length self.now.rows.items }
         requires plain_fits { (key : Option ℕ) → Fits (row_in false self.now plain key) }
         requires burdened_fits { (key : Option ℕ) → Fits (row_in true self.now burdened key) }
-        ensures plain { IfOk result (λ m. (key : Option ℕ) → key_row m.plain key ≡ row_in false self.now plain key) }
-        ensures burdened { IfOk result (λ m. (key : Option ℕ) → key_row m.burdened key ≡ row_in true self.now burdened key) }
+        ensures plain { IfOk result (λ p. (key : Option ℕ) → key_row p.0.plain key ≡ row_in false self.now plain key) }
+        ensures burdened { IfOk result (λ p. (key : Option ℕ) → key_row p.0.burdened key ≡ row_in true self.now burdened key) }
     {
-        let mut plain_rows = Table::new(alloc);
-        self.add_up(alloc, false, plain, &mut plain_rows)?;
-        let mut burdened_rows = Table::new(alloc);
-        self.add_up(alloc, true, burdened, &mut burdened_rows)?;
-        Ok(Merged {
-            plain: plain_rows.into_share(),
-            burdened: burdened_rows.into_share(),
-        })
+        let first = self.summed(alloc, room, false, plain)?;
+        let second = self.summed(alloc, first.1, true, burdened)?;
+        let merged = Merged {
+            plain: first.0,
+            burdened: second.0,
+        };
+        Ok((merged, second.1))
     }
 
     /// Puts what was merged behind the other rows, and gives the number of rows then.

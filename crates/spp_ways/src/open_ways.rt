@@ -46,7 +46,7 @@ use crate::enclosing::Enclosing;
 use crate::frame_ways::FrameWays;
 use crate::log::{Links, Log, LogRow};
 use spp_dag::FrameKind;
-use spp_site::{ClosedFrame, Table};
+use spp_site::{ClosedFrame, EmptySums, Table};
 use std::alloc::{AllocError, Global};
 use std::mem;
 
@@ -98,13 +98,13 @@ fn is_entered(kind: FrameKind, wins: OnPaths) -> bool
 }
 
 /// The least number of rows of a frame at which they are merged; where there are more than twice as many call sites, half of
-/// these, since merging takes a step for each.
+/// these, since merging can take a step for each.
 const LEAST_LIMIT: u32 = 256;
 
 /// No rows are merged while the log has at most so many: they lie in the processor's nearer caches.
 const LEAST_ROOM: u32 = 4096;
 
-/// Nor while it has at most so many for each call site, since merging takes up to four steps for each.
+/// Nor while it has at most so many for each call site, since what is merged can have four rows for each.
 const ROOM_OF_A_SITE: u32 = 4;
 
 /// Where more rows are stored than that, it doesn't matter how many.
@@ -116,10 +116,12 @@ const MOST_STORED: usize = u32::MAX as usize;
 ///
 /// A closed frame that a way enters takes a row of 112 bytes in a log; rows behind the last one that a way ends with are cut
 /// off. Where the log has over 4,096 rows, and over four for each of the trace's call sites, and over 256 of these are an open
-/// frame's, and over half as many as sites, those of its ways are merged: what they add to each site is stored, in some 128
-/// bytes a site for each way and path, up to four times that with spare room. What is stored counts towards the next time,
-/// which is not before twice as much. An open frame takes 96 bytes besides. Each step takes constant time, amortized. After an
-/// error the ways are of no use.
+/// frame's, and over half as many as sites, those of its ways are merged: what they add to each site is stored, for each way
+/// and path in some 128 bytes, or up to twice that, for each site that was met whose number is below 1,024 or whose sums don't
+/// fit 64 bits, and in 64 bytes for each other one; besides a table of 56 bytes for each site number up to the greatest, or up to
+/// twice that, which is used again. They are merged again where what was stored and what came behind it are more than that, and
+/// more than twice what was stored. An open frame takes 96 bytes besides. Each step takes constant time, amortized. After an error
+/// the ways are of no use.
 #[derive(Drop)]
 pub struct OpenWays {
     frames: Vec<FrameWays>,
@@ -128,6 +130,8 @@ pub struct OpenWays {
     limit: u32,
     /// How many rows the log may have before any are merged. No clause says so: the ways are the same.
     room: u32,
+    /// In which the rows of ways are added up, to be used again.
+    sums: EmptySums,
 }
 
 impl OpenWays {
@@ -150,6 +154,7 @@ impl OpenWays {
             log: Log::new(alloc),
             limit,
             room: sites.saturating_mul(ROOM_OF_A_SITE).max(LEAST_ROOM),
+            sums: EmptySums::new(alloc),
         })
     }
 
@@ -211,8 +216,8 @@ impl OpenWays {
         self.log.cut(needed);
     }
 
-    /// Merges the rows of the innermost frame. It takes time linear in the numbers of its rows, of those that are stored for
-    /// them, and of call sites.
+    /// Merges the rows of the innermost frame. It takes time linear in the numbers of its rows, of those that are stored for them,
+    /// and of call sites.
     ///
     /// # Errors
     ///
@@ -231,14 +236,21 @@ impl OpenWays {
     {
         let last = self.frames.len() - 1;
         let frame = self.frames[last];
+        let sums = mem::replace(&mut self.sums, EmptySums::new(alloc));
         let along = self
             .log
-            .merge(alloc, frame.plain_rows, frame.burdened_rows)?;
-        let through = self.log.merge(alloc, frame.plain_through_rows, frame.burdened_through_rows)?;
-        let stored = along.len().saturating_add(through.len());
+            .merge(alloc, sums, frame.plain_rows, frame.burdened_rows)?;
+        let through = self.log.merge(
+            alloc,
+            along.1,
+            frame.plain_through_rows,
+            frame.burdened_through_rows,
+        )?;
+        self.sums = through.1;
+        let stored = along.0.len().saturating_add(through.0.len());
         self.log.cut(frame.start);
-        let along = self.log.push_merged(alloc, along)?;
-        let through = self.log.push_merged(alloc, through)?;
+        let along = self.log.push_merged(alloc, along.0)?;
+        let through = self.log.push_merged(alloc, through.0)?;
         self.frames[last] = frame.merged(along, through, stored.min(MOST_STORED) as u32);
         Ok(())
     }
@@ -378,6 +390,7 @@ impl OpenWays {
             log,
             limit: 0,
             room: 0,
+            sums: EmptySums::new(alloc),
         })
     }
 
@@ -500,8 +513,11 @@ impl OpenWays {
         ensures { IfOk result (λ t. (ways : List Ways) → AreWays burdened self.now ways → (key : Option ℕ) → key_row t key ≡ rows_at (root_rows (on_path burdened takes) (bare_row closed.now) ways) key) }
     {
         let way = self.frames[self.frames.len() - 1].chosen_on(burdened, takes);
+        let rows = self
+            .log
+            .summed(alloc, EmptySums::new(alloc), burdened, way.rows)?;
         let mut table = Table::new(alloc);
-        self.log.add_up(alloc, burdened, way.rows, &mut table)?;
+        rows.0.add_to(&mut table)?;
         let root = ClosedFrame {
             local: way.own,
             ..*closed

@@ -107,6 +107,7 @@ fn open_or_refuse<R: Files + AllocGlobal, O: Sink, E: Sink>(
 fn answer_both<R, O: Sink, E: Sink>(rt: &R, asked: &Asked, out: &mut O, err: &mut E) -> Ended
 where
     R: Files + Threads + Wait + Sync + RandomSource + AllocGlobal,
+    R::File: Send,
 {
     let nothing = Seen::new(rt.alloc(), 0);
     let (request, room) = (&asked.request, room_of(asked));
@@ -147,7 +148,7 @@ where
 }
 
 /// Answers a request over one input that is open.
-fn answer_input<R, I: Read + Drop, O: Sink, E: Sink>(
+fn answer_input<R, I: Read + Send + Drop, O: Sink, E: Sink>(
     rt: &R,
     asked: &Asked,
     mut input: InSource<Watched<I>>,
@@ -176,6 +177,8 @@ where
 fn answer_one<R, O: Sink, E: Sink>(rt: &R, asked: &Asked, out: &mut O, err: &mut E) -> Ended
 where
     R: Files + Input + Threads + Wait + Sync + RandomSource + AllocGlobal,
+    R::File: Send,
+    R::Reader: Send,
 {
     let (request, room) = (&asked.request, room_of(asked));
     let Some(path) = request.files.first() else {

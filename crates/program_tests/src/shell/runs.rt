@@ -220,7 +220,7 @@ const OF_A_TRACE: &[Command] = &[
 ];
 
 /// The status and the line that a command ends with over an input.
-fn ending<R: Threads + Wait + Sync + RandomSource + AllocGlobal, S: Source>(
+fn ending<R: Threads + Wait + Sync + RandomSource + AllocGlobal, S: Source + Send>(
     rt: &R,
     command: Command,
     first: &mut S,

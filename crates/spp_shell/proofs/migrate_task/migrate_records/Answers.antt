@@ -1,54 +1,59 @@
-use Rattle.std.proofs.Common.{ℕ, List, [], ◌∷◌, take, inl, inr}
+use Rattle.std.proofs.Common.{ℕ, List, [], ◌∷◌, take, inr, sym, subst}
+use Rattle.spp_shell.specs.Streams.{HasRead}
 use Rattle.spp_shell.specs.Devices.{Giving, giving_of}
 use Rattle.spp_shell.specs.Migrate.{IsMigrateText, IsOneMigrateLine}
 use Rattle.spp_shell.specs.declared.place.Place.TheVariants.{Only}
 use Rattle.spp_shell.specs.declared.refusal.Refusal.TheVariants.{Memory}
-use Rattle.spp_shell.proofs.Checks.{read_refused}
-use Rattle.spp_shell.proofs.Inputs.{err_again}
+use Rattle.spp_shell.proofs.Inputs.{err_again, refused_unread}
 use Rattle.spp_shell.proofs.Told.{told_of_given, refused_of_given}
 use Rattle.spp_shell.proofs.migrate_task.migrate_records.Goals as goal
 
-pub returns-in_err-end-in-Ok-clause-refused : goal.returns-in_err-end-in-Ok-clause-refused
-returns-in_err-end-in-Ok-clause-refused g c = λ s h.
+pub returns-in_err-end-clause-refused : goal.returns-in_err-end-clause-refused
+returns-in_err-end-clause-refused g c = λ s h.
     let came : List ℕ = take c.args.came.filled c.args.came.bytes.items in
+    let h = subst (λ (k : ℕ). HasRead g.S.Source.answered g.S.Source.failed g.S.Source.failures k s came c.args.source.now) (sym c.start-stream.ensures.reads) h in
     let header : List ℕ = take c.args.head.len came in
-    let q = c.in-Ok.ensures.read s c.args.records header came h c.start-stream.ensures.streamed in
-    err_again _ Memory _ c.from_residual.ensures.1 (inr (q.0, q.1))
+    let q = c.in_ok-stream.ensures.read s c.args.records header came h c.start-stream.ensures.streamed in
+    err_again _ Memory _ c.from_residual-in_err-end.ensures.1 (inr (q.0, q.1))
 
-pub returns-in_ok-end-in-Ok-clause-text : goal.returns-in_ok-end-in-Ok-clause-text
-returns-in_ok-end-in-Ok-clause-text g c = λ s h.
+pub returns-clause-text : goal.returns-clause-text
+returns-clause-text g c = λ s h.
     let input : Giving = giving_of g.S.Source.answered g.S.Source.failed g.S.Source.failures s c.read_rest.new.source in
     let came : List ℕ = take c.args.came.filled c.args.came.bytes.items in
+    let h = subst (λ (k : ℕ). HasRead g.S.Source.answered g.S.Source.failed g.S.Source.failures k s came c.args.source.now) (sym c.start-stream.ensures.reads) h in
     let header : List ℕ = take c.args.head.len came in
     let first = c.args.records in
     let b = c.requires.begun in
-    let q = c.in-Ok.ensures.read s first header came h c.start-stream.ensures.streamed in
+    let q = c.in_ok-stream.ensures.read s first header came h c.start-stream.ensures.streamed in
     told_of_given input q.0 q.1 (λ bytes text. IsMigrateText (bytes ∷ []) text.items) c.answer_stream.result
-    (c.answer_stream.ensures.text first b.0 header q.0 b.2 b.1 (c.in_ok-end-in-Ok.ensures.streamed first header q.0 q.2))
+    (c.answer_stream.ensures.text first b.0 header q.0 b.2 b.1 (c.in_ok-end.ensures.streamed first header q.0 q.2))
 
-pub returns-in_ok-end-in-Ok-clause-refused : goal.returns-in_ok-end-in-Ok-clause-refused
-returns-in_ok-end-in-Ok-clause-refused g c = λ s h.
+pub returns-clause-refused : goal.returns-clause-refused
+returns-clause-refused g c = λ s h.
     let input : Giving = giving_of g.S.Source.answered g.S.Source.failed g.S.Source.failures s c.read_rest.new.source in
     let came : List ℕ = take c.args.came.filled c.args.came.bytes.items in
+    let h = subst (λ (k : ℕ). HasRead g.S.Source.answered g.S.Source.failed g.S.Source.failures k s came c.args.source.now) (sym c.start-stream.ensures.reads) h in
     let header : List ℕ = take c.args.head.len came in
     let first = c.args.records in
     let b = c.requires.begun in
-    let q = c.in-Ok.ensures.read s first header came h c.start-stream.ensures.streamed in
+    let q = c.in_ok-stream.ensures.read s first header came h c.start-stream.ensures.streamed in
     refused_of_given input q.0 q.1 (inr (q.0, q.1)) Only IsOneMigrateLine c.answer_stream.result
-    (c.answer_stream.ensures.line first b.0 header q.0 b.2 b.1 (c.in_ok-end-in-Ok.ensures.streamed first header q.0 q.2))
+    (c.answer_stream.ensures.line first b.0 header q.0 b.2 b.1 (c.in_ok-end.ensures.streamed first header q.0 q.2))
 
-pub returns-in-Err-clause-refused : goal.returns-in-Err-clause-refused
-returns-in-Err-clause-refused g c = λ s h.
+pub returns-in_err-stream-clause-refused : goal.returns-in_err-stream-clause-refused
+returns-in_err-stream-clause-refused g c = λ s h.
     let input : Giving = giving_of g.S.Source.answered g.S.Source.failed g.S.Source.failures s c.read_rest.new.source in
     let came : List ℕ = take c.args.came.filled c.args.came.bytes.items in
+    let h = subst (λ (k : ℕ). HasRead g.S.Source.answered g.S.Source.failed g.S.Source.failures k s came c.args.source.now) (sym c.start-stream.ensures.reads) h in
     let header : List ℕ = take c.args.head.len came in
-    read_refused input Only IsOneMigrateLine c.in-Err.fault c.refusal_of_read.result c.refusal_of_read.ensures (c.in-Err.ensures.refused s c.args.records header came h c.start-stream.ensures.streamed) (λ r. inl r.0)
+    let refused = c.in_err-stream.ensures.refused s c.args.records header came h c.start-stream.ensures.streamed in
+    err_again _ c.in_err-stream.field-0.0 _ c.from_residual.ensures.1 (refused_unread input Only IsOneMigrateLine c.in_err-stream.field-0.0 refused)
 
 pub end-requires-after_bounds : goal.end-requires-after_bounds
 end-requires-after_bounds g c κs within =
     let came : List ℕ = take c.args.came.filled c.args.came.bytes.items in
     let header : List ℕ = take c.args.head.len came in
-    let q = c.in-Ok.ensures.streamed c.args.records header came c.start-stream.ensures.streamed in
+    let q = c.in_ok-stream.ensures.streamed c.args.records header came c.start-stream.ensures.streamed in
     (c.args.records, header, q.0, q.1)
 
 pub answer_stream-requires-clause-some : goal.answer_stream-requires-clause-some
@@ -56,5 +61,5 @@ answer_stream-requires-clause-some g c =
     let came : List ℕ = take c.args.came.filled c.args.came.bytes.items in
     let header : List ℕ = take c.args.head.len came in
     let b = c.requires.begun in
-    let q = c.in-Ok.ensures.streamed c.args.records header came c.start-stream.ensures.streamed in
-    (c.args.records, b.0, header, q.0, b.2, b.1, c.in_ok-end-in-Ok.ensures.streamed c.args.records header q.0 q.1)
+    let q = c.in_ok-stream.ensures.streamed c.args.records header came c.start-stream.ensures.streamed in
+    (c.args.records, b.0, header, q.0, b.2, b.1, c.in_ok-end.ensures.streamed c.args.records header q.0 q.1)

@@ -10,7 +10,7 @@ use Rattle.spp_site.specs.Profiles.{key_row}
 use Rattle.spp_pass.specs.declared.counting.Counting.{Counting}
 use Rattle.spp_pass.specs.Passes.{no_notes, seen_with}
 use Rattle.spp_pass.specs.AsideRows.{aside_row, HasAside}
-use Rattle.spp_pass.proofs.AsideRows.{first_two_fit}
+use Rattle.spp_site.proofs.Keys.{first_two_fit}
 use Rattle.spp_part.specs.declared.so_far.ProfileSoFar.{ProfileSoFar}
 use Rattle.spp_part.specs.Parts.{IsSoFar, Stands, no_rows}
 use Rattle.spp_part.proofs.Standing.{all_fit, with_aside}

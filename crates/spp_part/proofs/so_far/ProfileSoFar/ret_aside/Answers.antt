@@ -7,9 +7,9 @@ use Rattle.spp_site.proofs.Rows.{plus-swap, first_fits}
 use Rattle.spp_ways.specs.declared.open_ways.OpenWays.{OpenWays}
 use Rattle.spp_pass.specs.declared.counting.Counting.{Counting}
 use Rattle.spp_pass.specs.AsideRows.{aside_row}
-use Rattle.spp_pass.specs.CallRows.{at_site}
+use Rattle.spp_site.specs.NarrowRows.{at_site}
 use Rattle.spp_pass.specs.Passes.{Seen, no_notes, seen_with, noted_return}
-use Rattle.spp_pass.proofs.Suspending.{row_fits}
+use Rattle.spp_site.proofs.Keys.{row_fits}
 use Rattle.spp_part.specs.declared.so_far.ProfileSoFar.{ProfileSoFar}
 use Rattle.spp_part.specs.Parts.{Rows, Stands, rest_of}
 use Rattle.spp_part.proofs.Ends.{can_pop, closing_in, popped_still, root_returns, two, site, fits, returns_aside}

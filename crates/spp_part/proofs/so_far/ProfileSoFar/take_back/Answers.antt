@@ -4,7 +4,7 @@ use Rattle.spp_site.specs.Rows.{Fits}
 use Rattle.spp_site.specs.Profiles.{key_row}
 use Rattle.spp_pass.specs.declared.aside.RowsAside.{RowsAside}
 use Rattle.spp_pass.specs.AsideRows.{aside_row}
-use Rattle.spp_pass.proofs.AsideRows.{first_two_fit}
+use Rattle.spp_site.proofs.Keys.{first_two_fit}
 use Rattle.spp_part.proofs.Standing.{all_fit, rest_added}
 use Rattle.spp_part.proofs.so_far.ProfileSoFar.take_back.Goals as goal
 

@@ -5,36 +5,34 @@ use Rattle.spp_site.specs.Rows.{Fits}
 use Rattle.spp_site.specs.Table.{row_at}
 use Rattle.spp_site.specs.Profiles.{key_row}
 use Rattle.spp_site.proofs.Rows.{first_fits}
-use Rattle.spp_pass.specs.declared.narrow_row.KnownRow.{KnownRow}
+use Rattle.spp_site.specs.declared.narrow_row.KnownRow.{KnownRow}
 use Rattle.spp_pass.specs.declared.owed.OwedCalls.{OwedCalls}
-use Rattle.spp_pass.specs.CallRows.{at_site}
-use Rattle.spp_pass.specs.NarrowRows.{narrow_row, known_rows}
-use Rattle.spp_pass.specs.NarrowTables.{narrow_key}
+use Rattle.spp_site.specs.NarrowRows.{at_site, narrow_row, known_rows}
 use Rattle.spp_pass.specs.OwedRows.{owed_rows}
 use Rattle.spp_pass.specs.AsideRows.{aside_row}
 use Rattle.spp_pass.proofs.AsideRows.{but_known, all_but_known}
-use Rattle.spp_pass.proofs.CallFrames.{own_row, added_key}
-use Rattle.spp_pass.proofs.NarrowRows.{no_known, LacksKnown, known_at, known_fits, known_added, known_none}
+use Rattle.spp_site.proofs.Keys.{own_row, added_key}
+use Rattle.spp_site.proofs.NarrowRows.{no_known, LacksKnown, known_at, known_fits, known_added, known_none}
 use Rattle.spp_pass.proofs.aside.RowsAside.add_to.Goals as goal
 
 pub add_all-requires : goal.add_all-requires
 add_all-requires c key =
-    subst (λ (l : List OwedCalls). Fits (plus (narrow_key c.args.self.table key) (owed_rows l key))) (sym c.deref.ensures.value)
-    (first_fits (narrow_key c.args.self.table key) (known_rows c.args.self.known.items key) (owed_rows c.args.self.owed.items key) (c.args.self.fits key))
+    subst (λ (l : List OwedCalls). Fits (plus (key_row c.args.self.table key) (owed_rows l key))) (sym c.deref.ensures.value)
+    (first_fits (key_row c.args.self.table key) (known_rows c.args.self.known.items key) (owed_rows c.args.self.owed.items key) (c.args.self.fits key))
 
 pub add_to-requires : goal.add_to-requires
 add_to-requires c key =
-    let all : narrow_key c.add_all.new.table key ≡ plus (narrow_key c.args.self.table key) (owed_rows c.args.self.owed.items key) =
-    c.in_ok-add_all.ensures key ∙ ap (λ (l : List OwedCalls). plus (narrow_key c.args.self.table key) (owed_rows l key)) c.deref.ensures.value in
+    let all : key_row c.add_all.new.table key ≡ plus (key_row c.args.self.table key) (owed_rows c.args.self.owed.items key) =
+    c.in_ok-add_all.ensures key ∙ ap (λ (l : List OwedCalls). plus (key_row c.args.self.table key) (owed_rows l key)) c.deref.ensures.value in
     subst (λ r. Fits (plus (key_row c.args.table.now key) r)) (sym all)
-    (but_known (key_row c.args.table.now key) (narrow_key c.args.self.table key) (known_rows c.args.self.known.items key) (owed_rows c.args.self.owed.items key) (c.requires key))
+    (but_known (key_row c.args.table.now key) (key_row c.args.self.table key) (known_rows c.args.self.known.items key) (owed_rows c.args.self.owed.items key) (c.requires key))
 
 pub loop-one-init : goal.loop-one-init
 loop-one-init c key =
-    let all : narrow_key c.add_all.new.table key ≡ plus (narrow_key c.args.self.table key) (owed_rows c.args.self.owed.items key) =
-    c.in_ok-add_all.ensures key ∙ ap (λ (l : List OwedCalls). plus (narrow_key c.args.self.table key) (owed_rows l key)) c.deref.ensures.value in
+    let all : key_row c.add_all.new.table key ≡ plus (key_row c.args.self.table key) (owed_rows c.args.self.owed.items key) =
+    c.in_ok-add_all.ensures key ∙ ap (λ (l : List OwedCalls). plus (key_row c.args.self.table key) (owed_rows l key)) c.deref.ensures.value in
     ap (λ r. plus r (known_rows c.args.self.known.items key)) (c.in_ok-add_to.ensures key ∙ ap (plus (key_row c.args.table.now key)) all)
-    ∙ all_but_known (key_row c.args.table.now key) (narrow_key c.args.self.table key) (known_rows c.args.self.known.items key) (owed_rows c.args.self.owed.items key)
+    ∙ all_but_known (key_row c.args.table.now key) (key_row c.args.self.table key) (known_rows c.args.self.known.items key) (owed_rows c.args.self.owed.items key)
 
 pub add-requires-clause-fits : goal.add-requires-clause-fits
 add-requires-clause-fits c =

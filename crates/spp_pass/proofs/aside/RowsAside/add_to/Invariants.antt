@@ -2,7 +2,7 @@ use Rattle.std.proofs.Common.{drop}
 use Rattle.spp_dag.specs.Shares.{plus}
 use Rattle.spp_site.specs.Profiles.{key_row}
 use Rattle.spp_pass.specs.AsideRows.{aside_row}
-use Rattle.spp_pass.proofs.NarrowRows.{LacksKnown}
+use Rattle.spp_site.proofs.NarrowRows.{LacksKnown}
 use Rattle.spp_pass.proofs.aside.RowsAside.add_to.Given as goal
 
 -- all rows are in the table, but for those known ones that aren't before the index

@@ -1,9 +1,9 @@
 use Rattle.std.proofs.Common.{ap, sym, subst, ◌∙◌}
 use Rattle.spp_dag.specs.Shares.{plus}
 use Rattle.spp_site.specs.Rows.{Fits}
-use Rattle.spp_pass.specs.CallRows.{at_site}
+use Rattle.spp_site.specs.NarrowRows.{at_site}
 use Rattle.spp_pass.specs.AsideRows.{aside_row}
-use Rattle.spp_pass.proofs.CallFrames.{ok_more}
+use Rattle.spp_site.proofs.Keys.{ok_more}
 use Rattle.spp_pass.proofs.aside.RowsAside.close.Goals as goal
 
 pub put-requires : goal.put-requires

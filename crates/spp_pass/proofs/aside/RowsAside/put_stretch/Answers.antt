@@ -6,7 +6,7 @@ use Rattle.spp_pass.specs.declared.calls.CallRow.{CallRow}
 use Rattle.spp_pass.specs.declared.narrow_frame.NarrowFrame.{NarrowFrame}
 use Rattle.spp_pass.specs.CallRows.{no_calls, calls_row, EachBelow}
 use Rattle.spp_pass.specs.CallFrames.{call_of, calls_of, stretch_calls}
-use Rattle.spp_pass.specs.NarrowRows.{narrow_row}
+use Rattle.spp_site.specs.NarrowRows.{narrow_row}
 use Rattle.spp_pass.specs.AsideRows.{aside_row}
 use Rattle.spp_pass.proofs.CallFrames.{no_frame, Lacks, lacks_at, lacks_row_at, lacks_row_fits, lacks_row_added, lacks_row_none, lacks_none, row_inside, rows_fit, begun}
 use Rattle.spp_pass.proofs.aside.RowsAside.put_stretch.Goals as goal

@@ -1,7 +1,7 @@
 use Rattle.std.proofs.Common.{refl, sym, subst, ◌∙◌}
 use Rattle.spp_pass.specs.declared.calls.Calls.{Calls}
 use Rattle.spp_pass.specs.CallRows.{AreLight}
-use Rattle.spp_pass.proofs.CallFrames.{ok_more}
+use Rattle.spp_site.proofs.Keys.{ok_more}
 use Rattle.spp_pass.proofs.calls.Calls.add.Goals as goal
 
 pub returns-then-add_first-clause-light : goal.returns-then-add_first-clause-light

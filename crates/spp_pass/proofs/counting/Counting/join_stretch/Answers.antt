@@ -10,7 +10,8 @@ use Rattle.spp_pass.specs.CallRows.{calls_row}
 use Rattle.spp_pass.specs.CallFrames.{calls_of, stretch_calls}
 use Rattle.spp_pass.specs.Stretches.{enclosure, frames_of, FitsJoin, CanJoin, IsJoined}
 use Rattle.spp_pass.proofs.Joining.{last_is, last_has}
-use Rattle.spp_pass.proofs.CallFrames.{frames_fit, HasFramesAdded, can_rest, all_joined, ok_more}
+use Rattle.spp_pass.proofs.CallFrames.{frames_fit, HasFramesAdded, can_rest, all_joined}
+use Rattle.spp_site.proofs.Keys.{ok_more}
 use Rattle.spp_pass.proofs.counting.Counting.join_stretch.Goals as goal
 
 pub add_frames-requires : goal.add_frames-requires

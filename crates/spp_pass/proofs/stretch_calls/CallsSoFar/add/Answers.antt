@@ -2,7 +2,8 @@ use Rattle.std.proofs.Common.{refl, sym, subst, ◌++◌}
 use Rattle.spp_pass.specs.declared.calls.Calls.{Calls}
 use Rattle.spp_pass.specs.CallRows.{AreLight}
 use Rattle.spp_pass.specs.CallFrames.{calls_of}
-use Rattle.spp_pass.proofs.CallFrames.{added_right, lighter_right, light_right, ok_more}
+use Rattle.spp_pass.proofs.CallFrames.{added_right, lighter_right, light_right}
+use Rattle.spp_site.proofs.Keys.{ok_more}
 use Rattle.spp_pass.proofs.stretch_calls.CallsSoFar.add.Goals as goal
 
 pub add_first-requires : goal.add_first-requires

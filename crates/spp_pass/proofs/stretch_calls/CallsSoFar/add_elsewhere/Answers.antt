@@ -2,7 +2,8 @@ use Rattle.std.proofs.Common.{refl, sym, ap, subst, List, ◌++◌}
 use Rattle.spp_pass.specs.declared.calls.CallRow.{CallRow}
 use Rattle.spp_pass.specs.CallRows.{AreAdded, AreLight}
 use Rattle.spp_pass.specs.CallFrames.{calls_of}
-use Rattle.spp_pass.proofs.CallFrames.{added_right, lighter_right, light_right, frame_added, frame_light, ok_more}
+use Rattle.spp_pass.proofs.CallFrames.{added_right, lighter_right, light_right, frame_added, frame_light}
+use Rattle.spp_site.proofs.Keys.{ok_more}
 use Rattle.spp_pass.proofs.stretch_calls.CallsSoFar.add_elsewhere.Goals as goal
 
 pub add_next-requires : goal.add_next-requires

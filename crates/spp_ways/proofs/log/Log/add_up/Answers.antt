@@ -4,11 +4,12 @@ use Rattle.spp_dag.specs.declared.row.Row.{Row}
 use Rattle.spp_dag.specs.Shares.{plus}
 use Rattle.spp_site.specs.Rows.{Fits}
 use Rattle.spp_site.specs.Profiles.{key_row}
+use Rattle.spp_site.proofs.Keys.{row_fits}
 use Rattle.spp_site.proofs.Rows.{plus-zero, plus-assoc}
 use Rattle.spp_ways.specs.declared.log.LogRow.{LogRow}
 use Rattle.spp_ways.specs.Logs.{way_row, row_on, before_on, within_on}
 use Rattle.spp_ways.proofs.Staying.{rows_none}
-use Rattle.spp_ways.proofs.Summing.{row_fits, all_rows, all_count, AllIn, all_rows-append, count-append, in-append, link, next, next_in, next_fewer, next_sums}
+use Rattle.spp_ways.proofs.Summing.{all_rows, all_count, AllIn, all_rows-append, count-append, in-append, next, next_in, next_fewer, next_sums}
 use Rattle.spp_ways.proofs.log.Log.add_up.Goals as goal
 
 pub loop-count-smaller-then-count-eq0 : goal.loop-count-smaller-then-count-eq0
@@ -41,7 +42,7 @@ loop-count-preserved-then-count-eq0 c =
     record {
       within = is_in.0;
       sums = λ (key : Option ℕ).
-          ap (plus (key_row c.loop-count.table key))
+          ap (plus (key_row c.loop-count.sums key))
           (sym (ap (λ (l : List ℕ). all_rows on log l key) popped ∙ all_rows-append on log ks k key
           ∙ ap (plus (all_rows on log ks key)) (ap (λ (n : ℕ). way_row on log n key) none ∙ rows_none on log key)
           ∙ plus-zero (all_rows on log ks key)))
@@ -62,8 +63,8 @@ index-row-requires c =
     let lt : j < length items = (let z : k ≤ length items = is_in.1 in omega arith) in
     omega (arith, c.args.self.now.rows.ok.0)
 
-pub add_to-requires-clause-site : goal.add_to-requires-clause-site
-add_to-requires-clause-site c =
+pub add_to-requires : goal.add_to-requires
+add_to-requires c key =
     let on : Bool = c.args.burdened in
     let items : List LogRow = c.args.self.now.rows.items in
     let log : List LogRow = reverse items in
@@ -79,32 +80,11 @@ add_to-requires-clause-site c =
     let is_row : d ≡ row = c.index-row.ensures in
     let old : c.loop-count.left.items ≡ ks ++ (suc j ∷ []) = popped ∙ ap (λ (n : ℕ). ks ++ (n ∷ [])) more in
     let sums = λ (key : Option ℕ).
-    ap (plus (key_row c.loop-count.table key)) (sym (next_sums on items c.requires.linked ks d j lt key) ∙ ap (λ (l : List ℕ). all_rows on log l key) (sym old)) ∙ c.loop-count.invariant.sums key in
+    ap (plus (key_row c.loop-count.sums key)) (sym (next_sums on items c.requires.linked ks d j lt key) ∙ ap (λ (l : List ℕ). all_rows on log l key) (sym old)) ∙ c.loop-count.invariant.sums key in
     let after = λ (key : Option ℕ). let x : Row = all_rows on log (next on items c.requires.linked ks d j lt) key in x in
-    subst (λ (r : LogRow). r.site < 65536) (sym is_row) (link items c.requires.linked d j lt).site
-
-pub add_to-requires-clause-fits : goal.add_to-requires-clause-fits
-add_to-requires-clause-fits c key =
-    let on : Bool = c.args.burdened in
-    let items : List LogRow = c.args.self.now.rows.items in
-    let log : List LogRow = reverse items in
-    let ks : List ℕ = c.pop.new.self.items in
-    let k : ℕ = c.in-Some.count in
-    let popped : c.loop-count.left.items ≡ ks ++ (k ∷ []) = c.in-Some.ensures.items in
-    let is_in = in-append (length items) ks k (subst (AllIn (length items)) popped c.loop-count.invariant.within) in
-    let more : k ≡ suc (k - 1) = (let z = c.if-count-eq0.false in omega arith) in
-    let j : ℕ = k - 1 in
-    let lt : j < length items = (let z : k ≤ length items = is_in.1 in omega arith) in
-    let d : LogRow = c.index-row.result.now in
-    let row : LogRow = get_or items j d in
-    let is_row : d ≡ row = c.index-row.ensures in
-    let old : c.loop-count.left.items ≡ ks ++ (suc j ∷ []) = popped ∙ ap (λ (n : ℕ). ks ++ (n ∷ [])) more in
-    let sums = λ (key : Option ℕ).
-    ap (plus (key_row c.loop-count.table key)) (sym (next_sums on items c.requires.linked ks d j lt key) ∙ ap (λ (l : List ℕ). all_rows on log l key) (sym old)) ∙ c.loop-count.invariant.sums key in
-    let after = λ (key : Option ℕ). let x : Row = all_rows on log (next on items c.requires.linked ks d j lt) key in x in
-    subst (λ (r : LogRow). Fits (plus (key_row c.loop-count.table key) (row_on on r key))) (sym is_row)
-    (row_fits (plus (key_row c.loop-count.table key) (row_on on row key)) (after key) _
-    (plus-assoc (key_row c.loop-count.table key) (row_on on row key) (after key) ∙ sums key) (c.requires.fits key))
+    subst (λ (r : LogRow). Fits (plus (key_row c.loop-count.sums key) (row_on on r key))) (sym is_row)
+    (row_fits (plus (key_row c.loop-count.sums key) (row_on on row key)) (after key) _
+    (plus-assoc (key_row c.loop-count.sums key) (row_on on row key) (after key) ∙ sums key) (c.requires.fits key))
 
 pub loop-count-smaller : goal.loop-count-smaller
 loop-count-smaller c =
@@ -123,7 +103,7 @@ loop-count-smaller c =
     let is_row : d ≡ row = c.index-row.ensures in
     let old : c.loop-count.left.items ≡ ks ++ (suc j ∷ []) = popped ∙ ap (λ (n : ℕ). ks ++ (n ∷ [])) more in
     let sums = λ (key : Option ℕ).
-    ap (plus (key_row c.loop-count.table key)) (sym (next_sums on items c.requires.linked ks d j lt key) ∙ ap (λ (l : List ℕ). all_rows on log l key) (sym old)) ∙ c.loop-count.invariant.sums key in
+    ap (plus (key_row c.loop-count.sums key)) (sym (next_sums on items c.requires.linked ks d j lt key) ∙ ap (λ (l : List ℕ). all_rows on log l key) (sym old)) ∙ c.loop-count.invariant.sums key in
     let after = λ (key : Option ℕ). let x : Row = all_rows on log (next on items c.requires.linked ks d j lt) key in x in
     let pushed : c.push-in-Some-2.new.self.items ≡ next on items c.requires.linked ks d j lt =
     c.in_ok-push-3.ensures.items
@@ -149,7 +129,7 @@ loop-count-preserved c =
     let is_row : d ≡ row = c.index-row.ensures in
     let old : c.loop-count.left.items ≡ ks ++ (suc j ∷ []) = popped ∙ ap (λ (n : ℕ). ks ++ (n ∷ [])) more in
     let sums = λ (key : Option ℕ).
-    ap (plus (key_row c.loop-count.table key)) (sym (next_sums on items c.requires.linked ks d j lt key) ∙ ap (λ (l : List ℕ). all_rows on log l key) (sym old)) ∙ c.loop-count.invariant.sums key in
+    ap (plus (key_row c.loop-count.sums key)) (sym (next_sums on items c.requires.linked ks d j lt key) ∙ ap (λ (l : List ℕ). all_rows on log l key) (sym old)) ∙ c.loop-count.invariant.sums key in
     let after = λ (key : Option ℕ). let x : Row = all_rows on log (next on items c.requires.linked ks d j lt) key in x in
     let pushed : c.push-in-Some-2.new.self.items ≡ next on items c.requires.linked ks d j lt =
     c.in_ok-push-3.ensures.items
@@ -157,7 +137,7 @@ loop-count-preserved c =
     record {
       within = subst (AllIn (length items)) (sym pushed) (next_in on items c.requires.linked ks d j lt is_in.0);
       sums = λ (key : Option ℕ).
-          ap₂ plus (c.in_ok-add_to.ensures key ∙ ap (λ (r : LogRow). plus (key_row c.loop-count.table key) (row_on on r key)) is_row) (ap (λ (l : List ℕ). all_rows on log l key) pushed)
-          ∙ plus-assoc (key_row c.loop-count.table key) (row_on on row key) (after key)
+          ap₂ plus (c.in_ok-add_to.ensures key ∙ ap (λ (r : LogRow). plus (key_row c.loop-count.sums key) (row_on on r key)) is_row) (ap (λ (l : List ℕ). all_rows on log l key) pushed)
+          ∙ plus-assoc (key_row c.loop-count.sums key) (row_on on row key) (after key)
           ∙ sums key;
     }

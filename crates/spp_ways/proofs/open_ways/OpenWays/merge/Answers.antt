@@ -47,6 +47,19 @@ merge-requires-clause-burdened_fits c key =
     let fits = λ (on : Bool). top_fits on (reverse items) t.top t.below (c.requires.fits on).0 (subst (λ (l : List FrameWays). AllWays on (reverse items) l (c.requires.fits on).0) t.is (c.requires.fits on).1) (c.requires.fits on).2 in
     subst (λ (f : FrameWays). Fits (way_row true (reverse items) f.burdened_rows key)) (sym top) ((fits true).0 key)
 
+pub merge-requires-clause-plain : goal.merge-requires-clause-plain
+merge-requires-clause-plain c =
+    let o : OpenWays = c.args.self.now in
+    let fs : List FrameWays = o.frames.items in
+    let items : List LogRow = o.log.rows.items in
+    let some : 0 < length fs = (let z = has_frame o c.requires.many in let n = length-reverse fs in omega arith) in
+    let t = topped fs some in
+    let at : c.len-last.result - 1 ≡ length fs - 1 = omega (arith, c.len-last.ensures, o.frames.ok.0) in
+    let old : FrameWays = c.index-frame.result.now in
+    let top : old ≡ t.top = c.index-frame.ensures ∙ ap (λ k. get_or fs k old) at ∙ t.get old in
+    let laid : Laid (length items) (t.top ∷ t.below) = subst (Laid (length items)) t.is c.requires.laid.frames in
+    subst (λ (f : FrameWays). f.plain_rows ≤ length items) (sym top) laid.1.0
+
 pub merge-requires-2-clause-plain : goal.merge-requires-2-clause-plain
 merge-requires-2-clause-plain c =
     let o : OpenWays = c.args.self.now in
@@ -59,6 +72,19 @@ merge-requires-2-clause-plain c =
     let top : old ≡ t.top = c.index-frame.ensures ∙ ap (λ k. get_or fs k old) at ∙ t.get old in
     let laid : Laid (length items) (t.top ∷ t.below) = subst (Laid (length items)) t.is c.requires.laid.frames in
     subst (λ (f : FrameWays). f.plain_through_rows ≤ length items) (sym top) laid.1.1
+
+pub merge-requires-clause-burdened : goal.merge-requires-clause-burdened
+merge-requires-clause-burdened c =
+    let o : OpenWays = c.args.self.now in
+    let fs : List FrameWays = o.frames.items in
+    let items : List LogRow = o.log.rows.items in
+    let some : 0 < length fs = (let z = has_frame o c.requires.many in let n = length-reverse fs in omega arith) in
+    let t = topped fs some in
+    let at : c.len-last.result - 1 ≡ length fs - 1 = omega (arith, c.len-last.ensures, o.frames.ok.0) in
+    let old : FrameWays = c.index-frame.result.now in
+    let top : old ≡ t.top = c.index-frame.ensures ∙ ap (λ k. get_or fs k old) at ∙ t.get old in
+    let laid : Laid (length items) (t.top ∷ t.below) = subst (Laid (length items)) t.is c.requires.laid.frames in
+    subst (λ (f : FrameWays). f.burdened_rows ≤ length items) (sym top) laid.2.0
 
 pub merge-requires-2-clause-burdened : goal.merge-requires-2-clause-burdened
 merge-requires-2-clause-burdened c =
@@ -166,15 +192,15 @@ returns-clause-laid c =
     subst (λ (k : ℕ). AreMerged k (t.top.start + 2) t.top c.merged.result) along (subst (λ (k : ℕ). AreMerged c.in_ok-along-2.along k t.top c.merged.result) through
     (subst (λ (f : FrameWays). AreMerged c.in_ok-along-2.along c.in_ok-through-2.through f c.merged.result) top c.merged.ensures.ways)) in
     let frames : reverse (set fs (c.len-last.result - 1) c.merged.result) ≡ c.merged.result ∷ t.below = ap (λ (k : ℕ). reverse (set fs k c.merged.result)) at ∙ t.put c.merged.result in
-    let are = both_are (reverse items) t.top c.in_ok-along.along c.in_ok-through.through
+    let are = both_are (reverse items) t.top c.in_ok-along.along.0 c.in_ok-through.through.0
     (λ key. c.in_ok-along.ensures.plain key ∙ ap (λ (f : FrameWays). way_row false (reverse items) f.plain_rows key) top)
     (λ key. c.in_ok-along.ensures.burdened key ∙ ap (λ (f : FrameWays). way_row true (reverse items) f.burdened_rows key) top)
     (λ key. c.in_ok-through.ensures.plain key ∙ ap (λ (f : FrameWays). way_row false (reverse items) f.plain_through_rows key) top)
     (λ key. c.in_ok-through.ensures.burdened key ∙ ap (λ (f : FrameWays). way_row true (reverse items) f.burdened_through_rows key) top) in
     record {
-      linked = subst (λ (l : List LogRow). AreLinked (reverse l)) (sym log) (merge_linked items t.top t.below c.requires.laid.linked laid c.in_ok-along.along c.in_ok-through.through x.0 y.0 x.1 y.1 are);
+      linked = subst (λ (l : List LogRow). AreLinked (reverse l)) (sym log) (merge_linked items t.top t.below c.requires.laid.linked laid c.in_ok-along.along.0 c.in_ok-through.through.0 x.0 y.0 x.1 y.1 are);
       frames = subst (λ (l : List LogRow). Laid (length l) (reverse (set fs (c.len-last.result - 1) c.merged.result))) (sym log)
-          (subst (λ (l : List FrameWays). Laid (length ((take t.top.start items ++ (x.0 ∷ [])) ++ (y.0 ∷ []))) l) (sym frames) (merge_laid items t.top t.below c.requires.laid.linked laid c.in_ok-along.along c.in_ok-through.through x.0 y.0 x.1 y.1 are c.merged.result merged));
+          (subst (λ (l : List FrameWays). Laid (length ((take t.top.start items ++ (x.0 ∷ [])) ++ (y.0 ∷ []))) l) (sym frames) (merge_laid items t.top t.below c.requires.laid.linked laid c.in_ok-along.along.0 c.in_ok-through.through.0 x.0 y.0 x.1 y.1 are c.merged.result merged));
     }
 
 pub returns-clause-ways : goal.returns-clause-ways
@@ -204,14 +230,14 @@ returns-clause-ways c on ws h =
     subst (λ (k : ℕ). AreMerged k (t.top.start + 2) t.top c.merged.result) along (subst (λ (k : ℕ). AreMerged c.in_ok-along-2.along k t.top c.merged.result) through
     (subst (λ (f : FrameWays). AreMerged c.in_ok-along-2.along c.in_ok-through-2.through f c.merged.result) top c.merged.ensures.ways)) in
     let frames : reverse (set fs (c.len-last.result - 1) c.merged.result) ≡ c.merged.result ∷ t.below = ap (λ (k : ℕ). reverse (set fs k c.merged.result)) at ∙ t.put c.merged.result in
-    let are = both_are (reverse items) t.top c.in_ok-along.along c.in_ok-through.through
+    let are = both_are (reverse items) t.top c.in_ok-along.along.0 c.in_ok-through.through.0
     (λ key. c.in_ok-along.ensures.plain key ∙ ap (λ (f : FrameWays). way_row false (reverse items) f.plain_rows key) top)
     (λ key. c.in_ok-along.ensures.burdened key ∙ ap (λ (f : FrameWays). way_row true (reverse items) f.burdened_rows key) top)
     (λ key. c.in_ok-through.ensures.plain key ∙ ap (λ (f : FrameWays). way_row false (reverse items) f.plain_through_rows key) top)
     (λ key. c.in_ok-through.ensures.burdened key ∙ ap (λ (f : FrameWays). way_row true (reverse items) f.burdened_through_rows key) top) in
     subst (λ (l : List LogRow). AllWays on (reverse l) (reverse (set fs (c.len-last.result - 1) c.merged.result)) ws) (sym log)
     (subst (λ (l : List FrameWays). AllWays on (reverse ((take t.top.start items ++ (x.0 ∷ [])) ++ (y.0 ∷ []))) l ws) (sym frames)
-    (merge_ways items t.top t.below c.requires.laid.linked laid c.in_ok-along.along c.in_ok-through.through x.0 y.0 x.1 y.1 are c.merged.result merged on ws (subst (λ (l : List FrameWays). AllWays on (reverse items) l ws) t.is h)))
+    (merge_ways items t.top t.below c.requires.laid.linked laid c.in_ok-along.along.0 c.in_ok-through.through.0 x.0 y.0 x.1 y.1 are c.merged.result merged on ws (subst (λ (l : List FrameWays). AllWays on (reverse items) l ws) t.is h)))
 
 pub returns-clause-rows : goal.returns-clause-rows
 returns-clause-rows c =
@@ -240,9 +266,9 @@ returns-clause-rows c =
     subst (λ (k : ℕ). AreMerged k (t.top.start + 2) t.top c.merged.result) along (subst (λ (k : ℕ). AreMerged c.in_ok-along-2.along k t.top c.merged.result) through
     (subst (λ (f : FrameWays). AreMerged c.in_ok-along-2.along c.in_ok-through-2.through f c.merged.result) top c.merged.ensures.ways)) in
     let frames : reverse (set fs (c.len-last.result - 1) c.merged.result) ≡ c.merged.result ∷ t.below = ap (λ (k : ℕ). reverse (set fs k c.merged.result)) at ∙ t.put c.merged.result in
-    let are = both_are (reverse items) t.top c.in_ok-along.along c.in_ok-through.through
+    let are = both_are (reverse items) t.top c.in_ok-along.along.0 c.in_ok-through.through.0
     (λ key. c.in_ok-along.ensures.plain key ∙ ap (λ (f : FrameWays). way_row false (reverse items) f.plain_rows key) top)
     (λ key. c.in_ok-along.ensures.burdened key ∙ ap (λ (f : FrameWays). way_row true (reverse items) f.burdened_rows key) top)
     (λ key. c.in_ok-through.ensures.plain key ∙ ap (λ (f : FrameWays). way_row false (reverse items) f.plain_through_rows key) top)
     (λ key. c.in_ok-through.ensures.burdened key ∙ ap (λ (f : FrameWays). way_row true (reverse items) f.burdened_through_rows key) top) in
-    (let z : length c.push_merged-2.new.self.rows.items ≡ t.top.start + 2 = ap (λ (l : List LogRow). length l) log ∙ rows_are items t.top t.below c.requires.laid.linked laid c.in_ok-along.along c.in_ok-through.through x.0 y.0 x.1 y.1 are in omega arith)
+    (let z : length c.push_merged-2.new.self.rows.items ≡ t.top.start + 2 = ap (λ (l : List LogRow). length l) log ∙ rows_are items t.top t.below c.requires.laid.linked laid c.in_ok-along.along.0 c.in_ok-through.through.0 x.0 y.0 x.1 y.1 are in omega arith)
