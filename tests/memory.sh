@@ -63,13 +63,13 @@ is_wanting() { # PROGRAM
 }
 
 each_refused() { # NAME STATUS STARTS OUT ERR INPUT PROGRAM WORDS..: what the program ends with when nothing is refused,
-    # and how many threads it starts
+    # and how many threads it starts, a number or a pattern
     local name=$1 wanted=$2 threads=$3 out=$4 err=$5 input=$6 at most all told=0 least=1 status requests starts
     shift 6
     run 0 0 "$input" "$@"
     [ $status -eq "$wanted" ] && [[ $(tr -d '\0' < "$folder/out") == $out ]] && [[ $(cat "$folder/err") == $err ]] ||
         { fails "$name, nothing refused: status $status"; return; }
-    [ "$starts" -eq "$threads" ] || { fails "$name: $starts threads started, and not $threads"; return; }
+    [[ $starts == $threads ]] || { fails "$name: $starts threads started, and not $threads"; return; }
     cp "$folder/out" "$folder/wanted.out"
     cp "$folder/err" "$folder/wanted.err"
     most=$requests
@@ -139,9 +139,10 @@ awk 'BEGIN { print "func main\nsite A"; for (n = 0; n < 50; n++) print "spawn 0 
     > "$folder/blocks"
 each_refused 'figures over blocks' 0 3 'work 140150*' '' "$folder/blocks" "$spprof" figures
 each_refused 'profile over blocks' 0 3 'name,count*' '' "$folder/blocks" "$spprof" profile --csv --workers 2
-# Blocks that come in many short reads: another thread reads the next one meanwhile.
-each_refused 'figures over blocks through a pipe' 0 5 'work 140150*' '' "|$folder/blocks" "$spprof" figures
-each_refused 'profile over blocks through a pipe' 0 5 'name,count*' '' "|$folder/blocks" "$spprof" profile --csv --workers 2
+# Blocks that come in many short reads: another thread reads the next one meanwhile. Whether the reads of the first are short
+# depends on how fast the pipe is filled.
+each_refused 'figures over blocks through a pipe' 0 '[45]' 'work 140150*' '' "|$folder/blocks" "$spprof" figures
+each_refused 'profile over blocks through a pipe' 0 '[45]' 'name,count*' '' "|$folder/blocks" "$spprof" profile --csv --workers 2
 # Two blocks of 131,072 bytes, and one that is less.
 "$spprof" migrate < "$folder/blocks" > "$folder/blocks.compact"
 each_refused 'profile over blocks, version 2' 0 3 'name,count*' '' "$folder/blocks.compact" "$spprof" profile --csv --workers 2
