@@ -1,7 +1,7 @@
 //! Joining what blocks of events come to, of which each is read by a thread of its own.
 
-ghost use Rattle.std.specs.Prelude.{◌≡◌, ◌+◌, ◌-◌, ◌≤◌, ◌<◌, ℕ, length, IfOk, IfErr};
-ghost use Rattle.spp_event.specs.Recordings.{Recording};
+ghost use Rattle.std.specs.Prelude.{◌≡◌, ◌+◌, ◌-◌, ◌≤◌, ◌<◌, ◌++◌, ◌∷◌, [], ℕ, List, length, IfOk, IfErr};
+ghost use Rattle.spp_event.specs.Recordings.{Record, Recording};
 ghost use Rattle.spp_frame.specs.Answers.{IsFaultOf};
 ghost use Rattle.spp_maxplus.specs.declared.state.Burdens.{Burdens as BurdensValue};
 ghost use Rattle.spp_crew.specs.Blocks.{IsReadable, IsBlockAt, count_of};
@@ -83,8 +83,15 @@ pub(crate) struct Joining<A: SoFar> {
     readers: Readers,
 }
 
+/// The same where a thread has brought what its block comes to, which is to be joined next.
+#[derive(Drop)]
+struct Brought<A: SoFar> {
+    joining: Joining<A>,
+    part: A::Part,
+}
+
 impl<A: SoFar> Joining<A> {
-    ghost use Rattle.spp_crew.specs.Joinings.{HasCome};
+    ghost use Rattle.spp_crew.specs.Joinings.{HasBrought, HasCome};
 
     /// Behind some events, with no thread; these read the next blocks.
     fn read_by(alloc: Global, so_far: A, readers: Readers) -> Self
@@ -120,21 +127,16 @@ impl<A: SoFar> Joining<A> {
         self.so_far.let_go(rt);
     }
 
-    /// Waits for the first of the threads, if there is one, and joins what it brings; gives the room of its block too, or none.
+    /// Waits for the first of the threads; gives the room of its block too.
     ///
     /// # Errors
     ///
-    /// The first bad event, if it was met, or `Memory` where an allocation failed. No thread is left then.
-    fn join_first<R: Threads>(
-        self,
-        rt: &R,
-        alloc: Global,
-        burdens: Burdens,
-    ) -> Result<(Self, Vec<u8>), ProfileFault>
-        requires come { (trace : Recording) × (k : ℕ) × HasCome A.block_of A.is_so_far trace burdens k self }
-        ensures come { IfOk result (λ j. (trace : Recording) (k : ℕ) → HasCome A.block_of A.is_so_far trace burdens k self → HasCome A.block_of A.is_so_far trace burdens k j.0) }
-        ensures fewer { IfOk result (λ j. length j.0.waiting.items ≡ length self.waiting.items - 1) }
-        ensures fault { IfErr result (λ f. (trace : Recording) (k : ℕ) → HasCome A.block_of A.is_so_far trace burdens k self → IsFaultOf trace.records f) }
+    /// `Memory` where an allocation failed. No thread is left then.
+    fn first_brought<R: Threads>(self, rt: &R) -> Result<(Brought<A>, Vec<u8>), ProfileFault>
+        requires some { 0 < length self.waiting.items }
+        ensures brought { IfOk result (λ b. (trace : Recording) (burdens : BurdensValue) (k : ℕ) → HasCome A.block_of A.is_so_far trace burdens k self → HasBrought A.block_of A.is_so_far A.is_part trace burdens k b.0) }
+        ensures fewer { IfOk result (λ b. length b.0.joining.waiting.items ≡ length self.waiting.items - 1) }
+        ensures fault { IfErr result (λ f. (records : List Record) → IsFaultOf records f) }
     {
         let Joining {
             so_far,
@@ -142,12 +144,7 @@ impl<A: SoFar> Joining<A> {
             readers,
         } = self;
         let Some(thread) = waiting.pop_front() else {
-            let joining = Joining {
-                so_far,
-                waiting,
-                readers,
-            };
-            return Ok((joining, Vec::new(alloc)));
+            unreachable!();
         };
         let BlockRead { part, room } = A::wait(rt, thread);
         let Ok(part) = part else {
@@ -156,45 +153,12 @@ impl<A: SoFar> Joining<A> {
             return Err(ProfileFault::Memory);
         };
         let readers = readers.behind_joined(A::joins_slowly(&part));
-        match so_far.join(rt, alloc, part, burdens) {
-            Ok(so_far) => Ok((
-                Joining {
-                    so_far,
-                    waiting,
-                    readers,
-                },
-                room,
-            )),
-            Err(fault) => {
-                let_go::<A, R>(rt, waiting);
-                Err(fault)
-            }
-        }
-    }
-
-    /// Makes room for a thread more: where so many are at work, or more, it waits for the first of them, and joins what it brings.
-    /// Gives the room of its block too, or none.
-    ///
-    /// # Errors
-    ///
-    /// The first bad event, if it was met, or `Memory` where an allocation failed. No thread is left then.
-    fn with_room<R: Threads>(
-        self,
-        rt: &R,
-        alloc: Global,
-        burdens: Burdens,
-        threads: u32,
-    ) -> Result<(Self, Vec<u8>), ProfileFault>
-        requires some { 0 < threads }
-        requires come { (trace : Recording) × (k : ℕ) × HasCome A.block_of A.is_so_far trace burdens k self }
-        ensures come { IfOk result (λ j. (trace : Recording) (k : ℕ) → HasCome A.block_of A.is_so_far trace burdens k self → HasCome A.block_of A.is_so_far trace burdens k j.0) }
-        ensures fault { IfErr result (λ f. (trace : Recording) (k : ℕ) → HasCome A.block_of A.is_so_far trace burdens k self → IsFaultOf trace.records f) }
-        ensures room { IfOk result (λ j. (workers : ℕ) → threads ≤ workers → length self.waiting.items ≤ workers → length j.0.waiting.items < workers) }
-    {
-        if self.waiting.len() < threads as usize {
-            return Ok((self, Vec::new(alloc)));
-        }
-        self.join_first(rt, alloc, burdens)
+        let joining = Joining {
+            so_far,
+            waiting,
+            readers,
+        };
+        Ok((Brought { joining, part }, room))
     }
 
     /// What all events come to, with what all threads bring joined onto it.
@@ -214,8 +178,12 @@ impl<A: SoFar> Joining<A> {
     {
         let mut joining = self;
         while !joining.waiting.is_empty() {
-            joining = match joining.join_first(rt, alloc, burdens) {
-                Ok((joining, _)) => joining,
+            let (brought, _) = match joining.first_brought(rt) {
+                Ok(brought) => brought,
+                Err(fault) => return Err(fault),
+            };
+            joining = match brought.join(rt, alloc, burdens) {
+                Ok(joining) => joining,
                 Err(fault) => return Err(fault),
             };
         }
@@ -283,23 +251,16 @@ impl<A: SoFar> Joining<A> {
         }
     }
 
-    /// Goes on by the next block as [`Joining::go_on`], by one thread more.
+    /// With one thread more, behind the others.
     ///
     /// # Errors
     ///
-    /// The first bad event, if it was met, or `Memory` where an allocation failed. No thread is left then.
-    fn start<R: Threads>(self, rt: &R, alloc: Global, block: Block) -> Result<Self, ProfileFault>
-        requires readable { IsReadable block }
-        requires come { (trace : Recording) × (k : ℕ) × HasCome A.block_of A.is_so_far trace block.burdens k self × IsBlockAt trace block.burdens k block }
-        ensures come { IfOk result (λ j. (trace : Recording) (k : ℕ) → HasCome A.block_of A.is_so_far trace block.burdens k self → IsBlockAt trace block.burdens k block → HasCome A.block_of A.is_so_far trace block.burdens (k + count_of block) j) }
-        ensures fault { IfErr result (λ f. (trace : Recording) (k : ℕ) → HasCome A.block_of A.is_so_far trace block.burdens k self → IsBlockAt trace block.burdens k block → IsFaultOf trace.records f) }
-        ensures few { IfOk result (λ j. length j.waiting.items ≤ length self.waiting.items + 1) }
+    /// `Memory` where an allocation failed. No thread is left then.
+    fn with_thread<R: Threads>(self, rt: &R, thread: A::Thread) -> Result<Self, ProfileFault>
+        ensures so_far { IfOk result (λ j. j.so_far ≡ self.so_far) }
+        ensures more { IfOk result (λ j. j.waiting.items ≡ self.waiting.items ++ (thread ∷ [])) }
+        ensures fault { IfErr result (λ f. (records : List Record) → IsFaultOf records f) }
     {
-        let burdens = block.burdens;
-        let thread = match A::start(rt, alloc, block) {
-            Ok(thread) => thread,
-            Err(BlockRead { part, .. }) => return self.join_read(rt, alloc, part, burdens),
-        };
         let Joining {
             so_far,
             mut waiting,
@@ -320,9 +281,28 @@ impl<A: SoFar> Joining<A> {
         }
     }
 
-    /// Goes on by the next block, and gives room for another one's bytes. By several workers a new thread reads the block, once
-    /// no more than so many are left with it: this one waits for the first of them, and joins what it brings. This thread reads
-    /// the block itself where there is one worker, and for some blocks behind a slow one.
+    /// Goes on by the next block as [`Joining::go_on`], by one thread more.
+    ///
+    /// # Errors
+    ///
+    /// The first bad event, if it was met, or `Memory` where an allocation failed. No thread is left then.
+    fn start<R: Threads>(self, rt: &R, alloc: Global, block: Block) -> Result<Self, ProfileFault>
+        requires readable { IsReadable block }
+        requires come { (trace : Recording) × (k : ℕ) × HasCome A.block_of A.is_so_far trace block.burdens k self × IsBlockAt trace block.burdens k block }
+        ensures come { IfOk result (λ j. (trace : Recording) (k : ℕ) → HasCome A.block_of A.is_so_far trace block.burdens k self → IsBlockAt trace block.burdens k block → HasCome A.block_of A.is_so_far trace block.burdens (k + count_of block) j) }
+        ensures fault { IfErr result (λ f. (trace : Recording) (k : ℕ) → HasCome A.block_of A.is_so_far trace block.burdens k self → IsBlockAt trace block.burdens k block → IsFaultOf trace.records f) }
+        ensures few { IfOk result (λ j. length j.waiting.items ≤ length self.waiting.items + 1) }
+    {
+        let burdens = block.burdens;
+        match A::start(rt, alloc, block) {
+            Ok(thread) => self.with_thread(rt, thread),
+            Err(BlockRead { part, .. }) => self.join_read(rt, alloc, part, burdens),
+        }
+    }
+
+    /// Goes on by the next block, and gives room, or none, for another one's bytes. With several workers a new thread reads the
+    /// block. Where as many are at work as may be, this one first waits for the oldest, starts the new one, and meanwhile joins what
+    /// the oldest brought. Where there is one worker, and for some blocks behind a slow one, this thread reads the block itself.
     ///
     /// # Errors
     ///
@@ -344,16 +324,136 @@ impl<A: SoFar> Joining<A> {
         if threads == 0 {
             return self.read_here(rt, alloc, block);
         }
-        let (joining, room) = match self.with_room(rt, alloc, block.burdens, threads) {
-            Ok(joined) => joined,
+        if self.waiting.len() < threads as usize {
+            return match self.start(rt, alloc, block) {
+                Ok(joining) => Ok((joining, Vec::new(alloc))),
+                Err(fault) => Err(fault),
+            };
+        }
+        let (brought, room) = match self.first_brought(rt) {
+            Ok(brought) => brought,
             Err(fault) => return Err(fault),
         };
-        // What was joined may be slow.
-        if joining.readers.threads(workers) == 0 {
-            return joining.read_here(rt, alloc, block);
+        // What it brought may be slow to join.
+        if brought.joining.readers.threads(workers) == 0 {
+            return brought.join_and_read(rt, alloc, block);
         }
-        match joining.start(rt, alloc, block) {
+        match brought.join_beside(rt, alloc, block) {
             Ok(joining) => Ok((joining, room)),
+            Err(fault) => Err(fault),
+        }
+    }
+}
+
+impl<A: SoFar> Brought<A> {
+    ghost use Rattle.spp_crew.specs.Joinings.{HasBrought, HasCome};
+
+    /// Joins what the thread brought.
+    ///
+    /// # Errors
+    ///
+    /// The first bad event, if it was met, or `Memory` where an allocation failed. No thread is left then.
+    fn join<R: Threads>(
+        self,
+        rt: &R,
+        alloc: Global,
+        burdens: Burdens,
+    ) -> Result<Joining<A>, ProfileFault>
+        requires brought { (trace : Recording) × (k : ℕ) × HasBrought A.block_of A.is_so_far A.is_part trace burdens k self }
+        ensures come { IfOk result (λ j. (trace : Recording) (k : ℕ) → HasBrought A.block_of A.is_so_far A.is_part trace burdens k self → HasCome A.block_of A.is_so_far trace burdens k j) }
+        ensures fault { IfErr result (λ f. (trace : Recording) (k : ℕ) → HasBrought A.block_of A.is_so_far A.is_part trace burdens k self → IsFaultOf trace.records f) }
+        ensures same { IfOk result (λ j. length j.waiting.items ≡ length self.joining.waiting.items) }
+    {
+        let Brought { joining, part } = self;
+        let Joining {
+            so_far,
+            waiting,
+            readers,
+        } = joining;
+        match so_far.join(rt, alloc, part, burdens) {
+            Ok(so_far) => Ok(Joining {
+                so_far,
+                waiting,
+                readers,
+            }),
+            Err(fault) => {
+                let_go::<A, R>(rt, waiting);
+                Err(fault)
+            }
+        }
+    }
+
+    /// Joins what the thread brought, what the others bring, and then what a block came to that this thread has read.
+    ///
+    /// # Errors
+    ///
+    /// The first bad event, if it was met, or `Memory` where an allocation failed. No thread is left then.
+    fn join_read<R: Threads>(
+        self,
+        rt: &R,
+        alloc: Global,
+        part: Result<A::Part, AllocError>,
+        burdens: Burdens,
+    ) -> Result<Joining<A>, ProfileFault>
+        requires brought { (trace : Recording) × (k : ℕ) × (block : Block) × HasBrought A.block_of A.is_so_far A.is_part trace burdens k self × IsBlockAt trace burdens k block × IfOk part (A.is_part block) }
+        ensures come { IfOk result (λ j. (trace : Recording) (k : ℕ) (block : Block) → HasBrought A.block_of A.is_so_far A.is_part trace burdens k self → IsBlockAt trace burdens k block → IfOk part (A.is_part block) → HasCome A.block_of A.is_so_far trace burdens (k + count_of block) j) }
+        ensures fault { IfErr result (λ f. (trace : Recording) (k : ℕ) (block : Block) → HasBrought A.block_of A.is_so_far A.is_part trace burdens k self → IsBlockAt trace burdens k block → IfOk part (A.is_part block) → IsFaultOf trace.records f) }
+        ensures none { IfOk result (λ j. length j.waiting.items ≡ 0) }
+    {
+        match self.join(rt, alloc, burdens) {
+            Ok(joining) => joining.join_read(rt, alloc, part, burdens),
+            Err(fault) => Err(fault),
+        }
+    }
+
+    /// Joins what the thread brought while a new one reads the next block. Where none can be started, this one reads it first.
+    ///
+    /// # Errors
+    ///
+    /// The first bad event, if it was met, or `Memory` where an allocation failed. No thread is left then.
+    fn join_beside<R: Threads>(
+        self,
+        rt: &R,
+        alloc: Global,
+        block: Block,
+    ) -> Result<Joining<A>, ProfileFault>
+        requires readable { IsReadable block }
+        requires brought { (trace : Recording) × (k : ℕ) × HasBrought A.block_of A.is_so_far A.is_part trace block.burdens k self × IsBlockAt trace block.burdens k block }
+        ensures come { IfOk result (λ j. (trace : Recording) (k : ℕ) → HasBrought A.block_of A.is_so_far A.is_part trace block.burdens k self → IsBlockAt trace block.burdens k block → HasCome A.block_of A.is_so_far trace block.burdens (k + count_of block) j) }
+        ensures fault { IfErr result (λ f. (trace : Recording) (k : ℕ) → HasBrought A.block_of A.is_so_far A.is_part trace block.burdens k self → IsBlockAt trace block.burdens k block → IsFaultOf trace.records f) }
+        ensures few { IfOk result (λ j. length j.waiting.items ≤ length self.joining.waiting.items + 1) }
+    {
+        let burdens = block.burdens;
+        let thread = match A::start(rt, alloc, block) {
+            Ok(thread) => thread,
+            Err(BlockRead { part, .. }) => return self.join_read(rt, alloc, part, burdens),
+        };
+        let Brought { joining, part } = self;
+        match joining.with_thread(rt, thread) {
+            Ok(joining) => Brought { joining, part }.join(rt, alloc, burdens),
+            Err(fault) => Err(fault),
+        }
+    }
+
+    /// Joins what the thread brought, and what the others bring, and then reads the next block.
+    ///
+    /// # Errors
+    ///
+    /// The first bad event, if it was met, or `Memory` where an allocation failed. No thread is left then.
+    fn join_and_read<R: Threads>(
+        self,
+        rt: &R,
+        alloc: Global,
+        block: Block,
+    ) -> Result<(Joining<A>, Vec<u8>), ProfileFault>
+        requires readable { IsReadable block }
+        requires brought { (trace : Recording) × (k : ℕ) × HasBrought A.block_of A.is_so_far A.is_part trace block.burdens k self × IsBlockAt trace block.burdens k block }
+        ensures come { IfOk result (λ j. (trace : Recording) (k : ℕ) → HasBrought A.block_of A.is_so_far A.is_part trace block.burdens k self → IsBlockAt trace block.burdens k block → HasCome A.block_of A.is_so_far trace block.burdens (k + count_of block) j.0) }
+        ensures fault { IfErr result (λ f. (trace : Recording) (k : ℕ) → HasBrought A.block_of A.is_so_far A.is_part trace block.burdens k self → IsBlockAt trace block.burdens k block → IsFaultOf trace.records f) }
+        ensures none { IfOk result (λ j. length j.0.waiting.items ≡ 0) }
+    {
+        match self.join(rt, alloc, block.burdens) {
+            Ok(joining) => joining.read_here(rt, alloc, block),
             Err(fault) => Err(fault),
         }
     }

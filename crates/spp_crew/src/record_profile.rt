@@ -93,17 +93,17 @@ impl RecordProfile {
         Ok(profile)
     }
 
-    /// The profile behind the whole records of the first `len` of these bytes as well, and room for the bytes of other records: a list
-    /// of any bytes, mostly as long. Where so many workers, 1 to 64, are several, a new thread reads the records, by
-    /// `PartProfile::of_records`, while this one goes on; what it finds is joined, by `ProfileSoFar::join` or, where threads add
-    /// rows up, by `join_aside`, once so many threads are at work, or at the end. So the time is that of starting a thread, of
-    /// waiting for an earlier one, and of joining what that found. This thread reads them itself, by
+    /// The profile behind the whole records of the first `len` of these bytes as well, and room for the bytes of other records:
+    /// a list of any bytes, mostly as long. Where so many workers, 1 to 64, are several, a new thread reads the records, by
+    /// `PartProfile::of_records`, while this one goes on; what it finds is joined, by `ProfileSoFar::join` or, where threads
+    /// add rows up, by `join_aside`, once so many threads are at work, or at the end. So the time is that of starting a thread,
+    /// of waiting for an earlier one, and of joining what that found. This thread reads them itself, by
     /// `ProfileSoFar::read_records`, where there is one worker, and for some calls behind records that were slow to join
     /// (`PartProfile::joins_slowly`). How many workers there are doesn't show in the profile. The time is constant where a bad
-    /// event was met before, or where more records have come than the header claims.
-    /// The memory, besides that of the profile so far, is for each thread that of the bytes and of what they come to. Where a
-    /// trace has many call sites, two threads more add rows up, in tables of their own (`RowsAside`), and a join waits for the
-    /// earlier of them.
+    /// event was met before, or where more records have come than the header claims. The memory, besides that of the profile so
+    /// far, is for each thread, and for one block more, which is joined while all of them read, that of the bytes and of what
+    /// they come to. Where a trace has many call sites, two threads more add rows up, in tables of their own (`RowsAside`), and
+    /// a join waits for the earlier of them.
     ///
     /// # Errors
     ///

@@ -385,8 +385,8 @@ strand_way : (on : Bool) (e : Enclosure) (base : Box Merged) (n : ℕ) (u w : Wa
     → (n ≡ u.along.own) × ((key : Option ℕ) → rows_at w.along.rows key ≡ rows_at u.along.rows key)
 strand_way on e base n u w is h = by on is h
   where
-    from_base : (on : Bool) → IsBase on base w.along → (key : Option ℕ) → plus zero_row (plus zero_row (key_row (merged_on on base.value) key)) ≡ rows_at w.along.rows key
-    from_base on is key = zero-plus _ ∙ zero-plus (key_row (merged_on on base.value) key) ∙ is key
+    from_base : (on : Bool) → IsBase on base w.along → (key : Option ℕ) → plus zero_row (plus zero_row (merged_on on base.value key)) ≡ rows_at w.along.rows key
+    from_base on is key = zero-plus _ ∙ zero-plus (merged_on on base.value key) ∙ is key
 
     by : (on : Bool) → IsBase on base w.along → AreEnclosed on e base (outer_row ∷ []) (strand_outer_frame n ∷ []) (u ∷ [])
         → (n ≡ u.along.own) × ((key : Option ℕ) → rows_at w.along.rows key ≡ rows_at u.along.rows key)

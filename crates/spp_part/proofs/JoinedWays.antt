@@ -31,8 +31,8 @@ begun_ways w = record { along = record { rows = w.rows; own = 0 }; through = no_
 pub begun_enclosed : (on : Bool) (e : Enclosure) (base : Box Merged) (w : Way) → IsBase on base w → AreEnclosed on e base (outer_row ∷ []) (outer_frame ∷ []) (begun_ways w ∷ [])
 begun_enclosed on e base w is = by on is
   where
-    from : (on : Bool) → IsBase on base w → (key : Option ℕ) → plus zero_row (plus zero_row (key_row (merged_on on base.value) key)) ≡ rows_at w.rows key
-    from on is key = zero-plus _ ∙ zero-plus (key_row (merged_on on base.value) key) ∙ is key
+    from : (on : Bool) → IsBase on base w → (key : Option ℕ) → plus zero_row (plus zero_row (merged_on on base.value key)) ≡ rows_at w.rows key
+    from on is key = zero-plus _ ∙ zero-plus (merged_on on base.value key) ∙ is key
 
     by : (on : Bool) → IsBase on base w → AreEnclosed on e base (outer_row ∷ []) (outer_frame ∷ []) (begun_ways w ∷ [])
     by false is = (((refl, λ key. from false is key), no_way_is false (enclosed_row e base outer_row ∷ [])), tt)

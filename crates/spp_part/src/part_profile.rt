@@ -253,11 +253,11 @@ impl PartProfile {
     ///
     /// For each of its stretches it takes 128 bytes for each pair of a call site and a function that calls by it. Where these are
     /// thousands, each frame that closes in the part, was opened there and is in no row takes 40 instead, or 128 where a number
-    /// needs more than 64 bits. It takes 112 for each of these frames that was on a greatest way, on either path, as it returned. A
-    /// stretch ends at each return of a frame that was open before, and at the first sync of such a frame: each takes 24 bytes,
-    /// and 370 to 490 more if it isn't strands alone. Each frame that the part leaves open takes 224. All that is up to twice as
-    /// much with spare room, and more where stretches have few rows. While the part is read, some 50 bytes more are taken for each
-    /// pair, and 32 KB at most.
+    /// needs more than 64 bits. It takes 64 for each of these frames that was on a greatest way, on either path, as it returned, or
+    /// 128 in the same case. A stretch ends at each return of a frame that was open before, and at the first sync of such a frame:
+    /// each takes 24 bytes, and 370 to 490 more if it isn't strands alone. Each frame that the part leaves open takes 224. All that
+    /// is up to twice as much with spare room, and more where stretches have few rows. While the part is read, some 50 bytes more
+    /// are taken for each pair, and 32 KB at most.
     ///
     /// # Errors
     ///

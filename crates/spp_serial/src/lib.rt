@@ -97,11 +97,12 @@ fn profile_by<R: Reader>(
 /// The profile of a run: its figures under these burdens, and its tables on the whole dag, on the first greatest path
 /// (the critical path), and on the first path that is greatest under the burdens. No row bears burdens.
 ///
-/// The events are read once, each in constant time, amortized, behind a step for each site and function. The memory is
-/// linear in the numbers of sites and of functions and in that of the frames that are open at a time; for each of these
-/// there are, besides, 112 bytes for each frame that it has called or spawned and that has closed, up to 256 of them or half
-/// the number of sites, or else some 512 bytes for each site that its greatest ways enter; of all frames together up to 4,096
-/// or four for each site more. The work is below 2^92.
+/// The events are read once, each in constant time, amortized, behind a step for each site and function. The memory is linear
+/// in the numbers of sites and of functions and in that of the frames that are open at a time; for each of these there are,
+/// besides, 64 bytes for each frame that it has called or spawned and that has closed, or 128 where a number needs more than 64
+/// bits, up to 256 of them or half the number of sites, or else some 256 bytes for each site that its greatest ways enter, or
+/// up to some 800 where both paths differ; of all frames together up to 4,096 or four for each site more. The work is below
+/// 2^92.
 ///
 /// # Errors
 ///

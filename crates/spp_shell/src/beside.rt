@@ -1,6 +1,6 @@
 //! Reading on in a thread of its own, while this one goes over what came.
 ghost use Rattle.std.specs.Thread.{IsSync};
-ghost use Rattle.std.specs.Prelude.{◌≡◌, ◌+◌, ◌≤◌, ◌^◌, ◌++◌, ℕ, List, length, take, IfOk, IfErr};
+ghost use Rattle.std.specs.Prelude.{◌≡◌, ◌+◌, ◌≤◌, ◌<◌, ◌^◌, ◌++◌, ℕ, List, length, take, IfOk, IfErr};
 ghost use Rattle.spp_event.specs.Places.{IsJoint};
 ghost use Rattle.spp_event.specs.Recordings.{count_in};
 ghost use Rattle.spp_shell.specs.BlockReads.{IsNextBlock, IsNoBlock};
@@ -16,6 +16,7 @@ use crate::place::Place;
 use crate::reading::ReadFault;
 use crate::records::Records;
 use crate::refusal::Refusal;
+use crate::room::copy_to_front;
 use crate::source::Source;
 use spp_event::Version;
 use std::alloc::AllocError;
@@ -36,6 +37,23 @@ pub(crate) struct WholeEvents {
     /// They came piecemeal: see [`NextBlock`].
     pub(crate) piecemeal: bool,
     ghost held: { len ≤ length bytes.items },
+}
+
+/// Where an input is read on.
+#[derive(Drop)]
+pub(crate) struct ReadingOn {
+    /// What came behind the events that are gone over.
+    pub(crate) rest: Vec<u8>,
+    /// In how many reads all came.
+    pub(crate) reads: u64,
+    /// How many bytes of the input came before the rest.
+    pub(crate) before: u64,
+    /// How many bytes the next block has, or some more.
+    pub(crate) due: usize,
+    /// Room for them, while the bytes of the last block are still needed.
+    pub(crate) spare: Vec<u8>,
+    ghost within: { before + length rest.items ≤ 2 ^ 33 },
+    ghost turns: { reads < 2 ^ 33 },
 }
 
 /// Records behind some events more, and what came of the input behind these.
@@ -163,17 +181,30 @@ fn follow_beside<V: Records, R: Threads + Wait + Sync, S: Source + Send>(
     records: V,
     events: WholeEvents,
     source: &mut S,
-    rest: Came,
-    before: u64,
-    due: usize,
+    on: ReadingOn,
 ) -> Result<Followed<V>, Refusal>
     requires can { CanFollow V.seen_by V.has_seen events.version records events.count (take events.len events.bytes.items) }
-    requires few { before + rest.filled ≤ 2 ^ 33 }
     ensures followed { IfOk result (λ f. HasFollowed V.seen_by V.has_seen events.version records events.count (take events.len events.bytes.items) f.records) }
-    ensures next { IfOk result (λ f. IsNextBlock S.answered S.failed S.failures before due rest.reads (take rest.filled rest.bytes.items) source.old f.next source.new) }
-    ensures refused { (s : S) (xs : List ℕ) → length xs ≡ before → HasRead S.answered S.failed S.failures rest.reads s (xs ++ take rest.filled rest.bytes.items) source.old → IfErr result (IsInputRefused (giving_of S.answered S.failed S.failures s source.new) place NoLine) }
+    ensures next { IfOk result (λ f. IsNextBlock S.answered S.failed S.failures on.before on.due on.reads on.rest.items source.old f.next source.new) }
+    ensures refused { (s : S) (xs : List ℕ) → length xs ≡ on.before → HasRead S.answered S.failed S.failures on.reads s (xs ++ on.rest.items) source.old → IfErr result (IsInputRefused (giving_of S.answered S.failed S.failures s source.new) place NoLine) }
 {
-    let (read, went) = follow_while_reading(rt, records, events, source, rest, before, due);
+    let ReadingOn {
+        rest,
+        reads,
+        before,
+        due,
+        mut spare,
+    } = on;
+    let Ok(()) = copy_to_front(rest.as_slice(), &mut spare, events.bytes.len()) else {
+        records.let_go(rt);
+        return Err(Refusal::Memory);
+    };
+    let came = Came {
+        bytes: spare,
+        filled: rest.len(),
+        reads,
+    };
+    let (read, went) = follow_while_reading(rt, records, events, source, came, before, due);
     let next = match read {
         Ok(next) => next,
         Err(fault) => {
@@ -198,15 +229,12 @@ fn follow_then_read<V: Records, R: Threads + Wait + Sync, S: Source>(
     records: V,
     events: WholeEvents,
     source: &mut S,
-    rest: Came,
-    before: u64,
-    due: usize,
+    on: ReadingOn,
 ) -> Result<Followed<V>, Refusal>
     requires can { CanFollow V.seen_by V.has_seen events.version records events.count (take events.len events.bytes.items) }
-    requires few { before + rest.filled ≤ 2 ^ 33 }
     ensures followed { IfOk result (λ f. HasFollowed V.seen_by V.has_seen events.version records events.count (take events.len events.bytes.items) f.records) }
-    ensures next { IfOk result (λ f. IsNextBlock S.answered S.failed S.failures before due rest.reads (take rest.filled rest.bytes.items) source.old f.next source.new) }
-    ensures refused { (s : S) (xs : List ℕ) → length xs ≡ before → HasRead S.answered S.failed S.failures rest.reads s (xs ++ take rest.filled rest.bytes.items) source.old → IfErr result (IsInputRefused (giving_of S.answered S.failed S.failures s source.new) place NoLine) }
+    ensures next { IfOk result (λ f. IsNextBlock S.answered S.failed S.failures on.before on.due on.reads on.rest.items source.old f.next source.new) }
+    ensures refused { (s : S) (xs : List ℕ) → length xs ≡ on.before → HasRead S.answered S.failed S.failures on.reads s (xs ++ on.rest.items) source.old → IfErr result (IsInputRefused (giving_of S.answered S.failed S.failures s source.new) place NoLine) }
 {
     let WholeEvents {
         version,
@@ -215,8 +243,25 @@ fn follow_then_read<V: Records, R: Threads + Wait + Sync, S: Source>(
         count,
         ..
     } = events;
-    let (records, spare) = records.followed_by(rt, version, bytes, len, count)?;
-    match read_block(source, rest, before, due) {
+    let ReadingOn {
+        rest,
+        reads,
+        before,
+        due,
+        spare,
+    } = on;
+    let size = bytes.len();
+    let (records, mut room) = records.followed_by(rt, version, bytes, len, count)?;
+    let Ok(()) = copy_to_front(rest.as_slice(), &mut room, size) else {
+        records.let_go(rt);
+        return Err(Refusal::Memory);
+    };
+    let came = Came {
+        bytes: room,
+        filled: rest.len(),
+        reads,
+    };
+    match read_block(source, came, before, due) {
         Ok(next) => Ok(Followed {
             records,
             spare,
@@ -229,8 +274,7 @@ fn follow_then_read<V: Records, R: Threads + Wait + Sync, S: Source>(
     }
 }
 
-/// Has `records` go over these events, and reads the next block, of `due` bytes or some more, behind `rest`; `before` bytes of the
-/// input came before that. Where the records say so, a thread of its own reads it meanwhile.
+/// Has `records` go over these events, and reads the next block. Where the records say so, a thread of its own reads it meanwhile.
 ///
 /// # Errors
 ///
@@ -241,19 +285,16 @@ pub(crate) fn follow<V: Records, R: Threads + Wait + Sync, S: Source + Send>(
     records: V,
     events: WholeEvents,
     source: &mut S,
-    rest: Came,
-    before: u64,
-    due: usize,
+    on: ReadingOn,
 ) -> Result<Followed<V>, Refusal>
     requires can { CanFollow V.seen_by V.has_seen events.version records events.count (take events.len events.bytes.items) }
-    requires few { before + rest.filled ≤ 2 ^ 33 }
     ensures followed { IfOk result (λ f. HasFollowed V.seen_by V.has_seen events.version records events.count (take events.len events.bytes.items) f.records) }
-    ensures next { IfOk result (λ f. IsNextBlock S.answered S.failed S.failures before due rest.reads (take rest.filled rest.bytes.items) source.old f.next source.new) }
-    ensures refused { (s : S) (xs : List ℕ) → length xs ≡ before → HasRead S.answered S.failed S.failures rest.reads s (xs ++ take rest.filled rest.bytes.items) source.old → IfErr result (IsInputRefused (giving_of S.answered S.failed S.failures s source.new) place NoLine) }
+    ensures next { IfOk result (λ f. IsNextBlock S.answered S.failed S.failures on.before on.due on.reads on.rest.items source.old f.next source.new) }
+    ensures refused { (s : S) (xs : List ℕ) → length xs ≡ on.before → HasRead S.answered S.failed S.failures on.reads s (xs ++ on.rest.items) source.old → IfErr result (IsInputRefused (giving_of S.answered S.failed S.failures s source.new) place NoLine) }
 {
     if records.reads_beside(events.piecemeal) {
-        follow_beside(rt, place, records, events, source, rest, before, due)
+        follow_beside(rt, place, records, events, source, on)
     } else {
-        follow_then_read(rt, place, records, events, source, rest, before, due)
+        follow_then_read(rt, place, records, events, source, on)
     }
 }

@@ -28,6 +28,7 @@ mod reading_on;
 mod record_stream;
 mod records;
 mod refusal;
+mod room;
 mod running;
 mod source;
 pub mod status;

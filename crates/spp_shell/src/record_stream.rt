@@ -9,7 +9,7 @@ ghost use Rattle.spp_shell.specs.Check.{TellsHeader};
 ghost use Rattle.spp_shell.specs.RecordStreams.{AreWhole, HasGoneOver};
 ghost use Rattle.spp_shell.specs.Tasks.{IfLine};
 
-use crate::beside::{Followed, WholeEvents, follow};
+use crate::beside::{Followed, ReadingOn, WholeEvents, follow};
 use crate::block_read::{NextBlock, read_block};
 use crate::came::Came;
 use crate::header_end::front_len;
@@ -19,6 +19,7 @@ use crate::place::Place;
 use crate::reading::{PIECE, move_to_front};
 use crate::records::Records;
 use crate::refusal::Refusal;
+use crate::room::{copy_of, copy_to_front};
 use crate::source::Source;
 use spp_event::{Events, Trace, Version, items_in, last_item};
 use std::alloc::{AllocError, Global};
@@ -96,52 +97,6 @@ impl Head {
             Version::Two => 1 << 17,
         }
     }
-}
-
-/// Writes these bytes over the first of others.
-fn write_over(bytes: &[u8], others: &mut [u8])
-    requires { length bytes.now ≤ length others.old }
-    ensures room { length others.new ≡ length others.old }
-    ensures kept { take (length bytes.now) others.new ≡ bytes.now }
-{
-    others[..bytes.len()].copy_from_slice(bytes);
-}
-
-/// A copy of these bytes.
-///
-/// # Errors
-///
-/// Where an allocation failed.
-fn copy_of(alloc: Global, bytes: &[u8]) -> Result<Vec<u8>, AllocError>
-    ensures { IfOk result (λ copy. copy.items ≡ bytes.now) }
-{
-    bytes.to_vec(alloc)
-}
-
-/// These bytes, or others that are as many as those: a copy takes less time than room that grows bit by bit.
-///
-/// # Errors
-///
-/// Where an allocation failed.
-fn as_long_as(bytes: Vec<u8>, others: &Vec<u8>) -> Result<Vec<u8>, AllocError> {
-    if bytes.len() >= others.len() {
-        return Ok(bytes);
-    }
-    others.to_vec(*others.allocator())
-}
-
-/// Copies these bytes to the front of others, which have room for them then.
-///
-/// # Errors
-///
-/// Where an allocation failed.
-fn copy_to_front(bytes: &[u8], others: &mut Vec<u8>) -> Result<(), AllocError>
-    ensures room { OnOk result (length bytes.now ≤ length others.new.items) }
-    ensures kept { OnOk result (take (length bytes.now) others.new.items ≡ bytes.now) }
-{
-    others.resize(others.len().max(bytes.len()), 0)?;
-    write_over(bytes, others);
-    Ok(())
 }
 
 /// How many of these bytes, from the first on, are whole events. Where no others come behind them, the last item is whole, too.
@@ -229,7 +184,7 @@ fn go_over<V: Records, R: Threads + Wait + Sync>(
         return Err(AllocError);
     };
     let (records, mut room) = records.followed_by(rt, head.version, bytes, whole, count as u32)?;
-    let Ok(()) = copy_to_front(rest.as_slice(), &mut room) else {
+    let Ok(()) = copy_to_front(rest.as_slice(), &mut room, 0) else {
         records.let_go(rt);
         return Err(AllocError);
     };
@@ -411,18 +366,16 @@ impl<V: Records> RecordStream<V> {
                 }
             };
         }
-        let Ok(mut rest) = as_long_as(spare, &bytes) else {
+        let Ok(rest) = copy_of(*bytes.allocator(), &came[whole..]) else {
             records.let_go(rt);
             return Err(Refusal::Memory);
         };
-        let Ok(()) = copy_to_front(&came[whole..], &mut rest) else {
-            records.let_go(rt);
-            return Err(Refusal::Memory);
-        };
-        let rest = Came {
-            bytes: rest,
-            filled: left,
+        let on = ReadingOn {
+            rest,
             reads,
+            before,
+            due,
+            spare,
         };
         let whole_events = WholeEvents {
             version: head.version,
@@ -431,7 +384,7 @@ impl<V: Records> RecordStream<V> {
             count: count as u32,
             piecemeal,
         };
-        let followed = follow(rt, place, records, whole_events, source, rest, before, due)?;
+        let followed = follow(rt, place, records, whole_events, source, on)?;
         Ok(RecordStream::behind(head, behind, before, followed))
     }
 

@@ -45,20 +45,20 @@ one_more (Some site) row ls h = (record h.0 { sites = map.insert h.0.sites site 
         ap (λ (o : Option Row). unwrap_or o zero_row) (get-insert nat_cmp_total h.0.sites site v s ∙ ap (λ b. cond b (Some v) (map.get h.0.sites s)) (unsigned_tied s site))
         ∙ at s (nat_eq s site) (eqb-true s site) ∙ ap (λ b. plus (cond b row zero_row) (rows_at ls (Some s))) (nat_eq-swap s site)
 
+empty_is : (key : Option ℕ) → key_row empty key ≡ zero_row
+empty_is None = refl
+empty_is (Some s) = ap (λ (o : Option Row). unwrap_or o zero_row) (get-empty nat_cmp s)
+
 sums_of : (ls : List Leaf) → HasSums ls
-sums_of [] = (empty, none)
-  where
-    none : (key : Option ℕ) → key_row empty key ≡ zero_row
-    none None = refl
-    none (Some s) = ap (λ (o : Option Row). unwrap_or o zero_row) (get-empty nat_cmp s)
+sums_of [] = (empty, empty_is)
 sums_of (l ∷ ls) = one_more l.key l.row ls (sums_of ls)
 
 -- what a join onto o may take as its base, for either path
 pub base_of : (o : OpenWays) (w : Way) → (base : Box Merged) × ((on : Bool) → IsBase on base w)
 base_of o w =
     let t = sums_of w.rows in
-    (record { ptr = o.frames.ptr; alloc = o.frames.alloc; value = record { plain = t.0; burdened = t.0 } }, by t.0 t.1)
+    (record { ptr = o.frames.ptr; alloc = o.frames.alloc; value = record { common = empty; plain = t.0; burdened = t.0 } }, by t.0 t.1)
   where
-    by : (t : Sums) → ((key : Option ℕ) → key_row t key ≡ rows_at w.rows key) → (on : Bool) → IsBase on (record { ptr = o.frames.ptr; alloc = o.frames.alloc; value = record { plain = t; burdened = t } }) w
-    by t h false = h
-    by t h true = h
+    by : (t : Sums) → ((key : Option ℕ) → key_row t key ≡ rows_at w.rows key) → (on : Bool) → IsBase on (record { ptr = o.frames.ptr; alloc = o.frames.alloc; value = record { common = empty; plain = t; burdened = t } }) w
+    by t h false = λ key. ap (λ (r : Row). plus r (key_row t key)) (empty_is key) ∙ zero-plus (key_row t key) ∙ h key
+    by t h true = λ key. ap (λ (r : Row). plus r (key_row t key)) (empty_is key) ∙ zero-plus (key_row t key) ∙ h key

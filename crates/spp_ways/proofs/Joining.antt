@@ -7,11 +7,10 @@ use Rattle.std.proofs.lemmas.Bool.Decides.{eqb_tells}
 use Rattle.std.proofs.lemmas.List.{length-map, length-append, length-reverse, map-append, reverse-append, reverse-reverse}
 use Rattle.std.proofs.lemmas.List.Elements.{All-nil, All-cons, All-head, All-tail, All-push}
 use Rattle.spp_dag.specs.Shares.{plus, zero_row}
-use Rattle.spp_site.specs.Profiles.{key_row}
 use Rattle.spp_site.proofs.LastFirst.{topped}
 use Rattle.spp_site.proofs.Rows.{zero-plus}
 use Rattle.spp_ways.specs.declared.log.Merged.{Merged}
-use Rattle.spp_ways.specs.declared.log.Links.{Links}
+use Rattle.spp_ways.specs.declared.place.Links.{Links}
 use Rattle.spp_ways.specs.declared.log.LogRow.{LogRow}
 use Rattle.spp_ways.specs.declared.open_ways.OnPaths.{OnPaths}
 use Rattle.spp_ways.specs.declared.frame_ways.LoggedWays.{LoggedWays}
@@ -178,7 +177,7 @@ module _ (links : Links) (e : Enclosure) (before : List LogRow) (count : links.r
         burdened_within = (let z = k.burdened_within in omega arith);
       }) (fit_links rs h.1 (omega arith))
 
-  module _ (on : Bool) (base : Box Merged) (based : (key : Option ℕ) → way_row on before (link_on on links) key ≡ key_row (merged_on on base.value) key) where
+  module _ (on : Bool) (base : Box Merged) (based : (key : Option ℕ) → way_row on before (link_on on links) key ≡ merged_on on base.value key) where
     -- what the log of the stretch comes to
     abbrev old : List LogRow → List LogRow
     old rs = map (enclosed_row e base) (all rs)

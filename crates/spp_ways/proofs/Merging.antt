@@ -3,7 +3,6 @@ use Rattle.std.proofs.Common.{◌≡◌, ℕ, suc, ◌+◌, ◌≤◌, ◌<◌, 
 use Rattle.std.proofs.lemmas.List.{length-take-le, length-append, reverse-append}
 use Rattle.spp_dag.specs.Shares.{plus, zero_row}
 use Rattle.spp_site.specs.Rows.{Fits}
-use Rattle.spp_site.specs.Profiles.{key_row}
 use Rattle.spp_site.proofs.Rows.{zero-plus}
 use Rattle.spp_ways.specs.declared.log.Merged.{Merged}
 use Rattle.spp_ways.specs.declared.log.LogRow.{LogRow}
@@ -24,12 +23,12 @@ within_none : (on : Bool) (m : Merged) (r : LogRow) → IsMergedRow m r → with
 within_none false m r h = h.within
 within_none true m r h = h.burdened_within
 
-merged_adds : (on : Bool) (m : Merged) (r : LogRow) → IsMergedRow m r → (rs : List LogRow) (key : Option ℕ) → way_row on (r ∷ rs) (suc (length rs)) key ≡ key_row (merged_on on m) key
+merged_adds : (on : Bool) (m : Merged) (r : LogRow) → IsMergedRow m r → (rs : List LogRow) (key : Option ℕ) → way_row on (r ∷ rs) (suc (length rs)) key ≡ merged_on on m key
 merged_adds on m r h rs key =
     let b : way_row on rs (before_on on r) key ≡ zero_row = ap (λ k. way_row on rs k key) (before_none on m r h) ∙ rows_none on rs key in
     let w : way_row on rs (within_on on r) key ≡ zero_row = ap (λ k. way_row on rs k key) (within_none on m r h) ∙ rows_none on rs key in
-    let own : row_on on r key ≡ key_row (merged_on on m) key = ap (λ (x : _). merged_row on r x key) h.merged ∙ ap (λ (x : Merged). key_row (merged_on on x) key) h.value in
-    rows_last on r rs key ∙ ap₂ plus b (ap₂ plus w own ∙ zero-plus (key_row (merged_on on m) key)) ∙ zero-plus (key_row (merged_on on m) key)
+    let own : row_on on r key ≡ merged_on on m key = ap (λ (x : _). merged_row on r x key) h.merged ∙ ap (λ (x : Merged). merged_on on x key) h.value in
+    rows_last on r rs key ∙ ap₂ plus b (ap₂ plus w own ∙ zero-plus (merged_on on m key)) ∙ zero-plus (merged_on on m key)
 
 merged_link : (n : ℕ) (m : Merged) (r : LogRow) → IsMergedRow m r → IsLinked n r
 merged_link n m r h = record {
@@ -44,8 +43,8 @@ merged_link n m r h = record {
 -- were there as it was opened.
 module _ (items : List LogRow) (f : FrameWays) (below : List FrameWays) (linked : AreLinked (reverse items)) (laid : Laid (length items) (f ∷ below))
     (m n : Merged) (a b : LogRow) (is_a : IsMergedRow m a) (is_b : IsMergedRow n b)
-    (are : (on : Bool) → ((key : Option ℕ) → key_row (merged_on on m) key ≡ way_row on (reverse items) (path_of on f).along.rows key)
-    × ((key : Option ℕ) → key_row (merged_on on n) key ≡ way_row on (reverse items) (path_of on f).through.rows key)) where
+    (are : (on : Bool) → ((key : Option ℕ) → merged_on on m key ≡ way_row on (reverse items) (path_of on f).along.rows key)
+    × ((key : Option ℕ) → merged_on on n key ≡ way_row on (reverse items) (path_of on f).through.rows key)) where
   abbrev pub kept : List LogRow
   kept = take f.start items
 
@@ -94,18 +93,18 @@ module _ (items : List LogRow) (f : FrameWays) (below : List FrameWays) (linked 
       let s : g.start ≡ f.start = h.start in
       subst (λ k. Laid k (g ∷ below)) (sym rows_are) (omega arith, p, b, subst (λ k. Laid k below) (sym s) laid.3)
 
-  along_adds : (on : Bool) (key : Option ℕ) → way_row on (b ∷ a ∷ rest) along key ≡ key_row (merged_on on m) key
+  along_adds : (on : Bool) (key : Option ℕ) → way_row on (b ∷ a ∷ rest) along key ≡ merged_on on m key
   along_adds on key =
       let e : along ≡ suc (length rest) = omega (arith, left) in
       ap (λ k. way_row on (b ∷ a ∷ rest) k key) e ∙ rows_older on b (a ∷ rest) (suc (length rest)) (omega arith) key ∙ merged_adds on m a is_a rest key
 
-  through_adds : (on : Bool) (key : Option ℕ) → way_row on (b ∷ a ∷ rest) through key ≡ key_row (merged_on on n) key
+  through_adds : (on : Bool) (key : Option ℕ) → way_row on (b ∷ a ∷ rest) through key ≡ merged_on on n key
   through_adds on key =
       let e : through ≡ suc (length (a ∷ rest)) = omega (arith, left) in
       ap (λ k. way_row on (b ∷ a ∷ rest) k key) e ∙ merged_adds on n b is_b (a ∷ rest) key
 
-  top_ways : (on : Bool) (w : LoggedWays) (v : Ways) → ((key : Option ℕ) → key_row (merged_on on m) key ≡ way_row on (reverse items) w.along.rows key)
-      → ((key : Option ℕ) → key_row (merged_on on n) key ≡ way_row on (reverse items) w.through.rows key)
+  top_ways : (on : Bool) (w : LoggedWays) (v : Ways) → ((key : Option ℕ) → merged_on on m key ≡ way_row on (reverse items) w.along.rows key)
+      → ((key : Option ℕ) → merged_on on n key ≡ way_row on (reverse items) w.through.rows key)
       → AreBoth on (reverse items) w v → AreBoth on (b ∷ a ∷ rest) (merged_ways along through w) v
   top_ways on w v x y h =
       ((h.0.0, λ key. along_adds on key ∙ x key ∙ h.0.1 key), (h.1.0, λ key. through_adds on key ∙ y key ∙ h.1.1 key))

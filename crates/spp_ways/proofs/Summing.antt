@@ -1,5 +1,5 @@
 -- The rows of a way, as they are added up.
-use Rattle.std.proofs.Common.{◌≡◌, ℕ, suc, ◌+◌, ◌*◌, ◌≤◌, ◌<◌, Bool, true, false, cond, nat_eq, List, [], ◌∷◌, ◌++◌, length, reverse, take, get_or, Option, refl, sym, ap, ap₂, subst, ◌∙◌, arith}
+use Rattle.std.proofs.Common.{◌≡◌, ℕ, suc, ◌+◌, ◌*◌, ◌≤◌, ◌<◌, Bool, true, false, cond, nat_eq, List, [], ◌∷◌, ◌++◌, length, reverse, take, get_or, Option, Result, Ok, Err, IfOk, refl, sym, ap, ap₂, subst, ◌∙◌, arith}
 use Rattle.std.proofs.lemmas.Bool.{ne_eqb, eq-eqb}
 use Rattle.std.proofs.lemmas.List.{length-append, reverse-append}
 use Rattle.std.proofs.Math.Seq.{take-suc}
@@ -9,6 +9,11 @@ use Rattle.spp_site.proofs.Rows.{plus-zero, zero-plus, plus-assoc, plus-over}
 use Rattle.spp_ways.specs.declared.log.LogRow.{LogRow}
 use Rattle.spp_ways.specs.Logs.{way_row, row_on, before_on, within_on, IsLinked, AreLinked}
 use Rattle.spp_ways.proofs.Staying.{rows_stay, rows_last, Cut, cut, linked_less}
+
+-- what holds of a value that was made
+pub if_made : {X E : Type 0} (P Q : X → Type 0) → ((x : X) → P x → Q x) → (r : Result X E) → IfOk r P → IfOk r Q
+if_made P Q f (Ok x) h = f x h
+if_made P Q f (Err e) h = h
 
 -- ---- the ways that are left
 
@@ -41,7 +46,7 @@ pub count-append : (on : Bool) (log : List LogRow) (ks : List ℕ) (k : ℕ) →
 count-append on log [] k = omega arith
 count-append on log (j ∷ ks) k = let c = count-append on log ks k in omega arith
 
-count_older : (on : Bool) (r : LogRow) (rs : List LogRow) (k : ℕ) → k ≤ length rs → way_count on (r ∷ rs) k ≡ way_count on rs k
+pub count_older : (on : Bool) (r : LogRow) (rs : List LogRow) (k : ℕ) → k ≤ length rs → way_count on (r ∷ rs) k ≡ way_count on rs k
 count_older on r rs k l =
     let e : nat_eq k (suc (length rs)) ≡ false = ne_eqb _ _ (λ q. omega arith) in
     rw (e, way_count)

@@ -6,7 +6,6 @@ use Rattle.spp_dag.specs.Steps.{same_key}
 use Rattle.std.specs.Global.{Box}
 use Rattle.spp_site.specs.Rows.{frame_row}
 use Rattle.spp_site.specs.declared.closed_frame.ClosedFrame.{ClosedFrame}
-use Rattle.spp_site.specs.Table.{Sums}
 use Rattle.spp_site.specs.Profiles.{key_row}
 use Rattle.spp_ways.specs.declared.log.Merged.{Merged}
 use Rattle.spp_ways.specs.declared.log.LogRow.{LogRow}
@@ -32,13 +31,17 @@ closed_on on r = record {
   top_caller = r.top_caller;
 }
 
--- what was merged, on that path
-abbrev pub merged_on : Bool → Merged → Sums
-merged_on on m = cond on m.burdened m.plain
+-- what that frame adds to the row of a key
+abbrev pub frame_on : Bool → LogRow → Option ℕ → Row
+frame_on on r key = cond (same_key (Some r.site) key) (frame_row (closed_on on r)) zero_row
+
+-- what was merged adds on that path: what both paths have alike, and what it has besides
+abbrev pub merged_on : Bool → Merged → Option ℕ → Row
+merged_on on m key = plus (key_row m.common key) (key_row (cond on m.burdened m.plain) key)
 
 abbrev pub merged_row : Bool → LogRow → Option (Box Merged) → Option ℕ → Row
-merged_row on r None key = cond (same_key (Some r.site) key) (frame_row (closed_on on r)) zero_row
-merged_row on r (Some m) key = key_row (merged_on on m.value) key
+merged_row on r None key = frame_on on r key
+merged_row on r (Some m) key = merged_on on m.value key
 
 -- what a row of the log adds to the row of a key: that of its frame, or what was merged
 abbrev pub row_on : Bool → LogRow → Option ℕ → Row

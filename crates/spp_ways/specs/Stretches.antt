@@ -3,7 +3,8 @@
 use Rattle.std.specs.Prelude.{◌≡◌, ℕ, ◌+◌, ◌-◌, ◌≤◌, ◌<◌, ◌^◌, Bool, cond, nat_eq, not, ◌&&◌, true, false, Some, List, [], ◌∷◌, length, map, reverse, drop, Option, None}
 use Rattle.std.specs.Global.{Box}
 use Rattle.spp_ways.specs.declared.log.Merged.{Merged}
-use Rattle.spp_ways.specs.declared.log.Links.{Links}
+use Rattle.spp_ways.specs.declared.place.Links.{Links}
+use Rattle.spp_ways.specs.declared.place.Place.{Place}
 use Rattle.spp_ways.specs.declared.log.LogRow.{LogRow}
 use Rattle.spp_ways.specs.declared.open_ways.OnPaths.{OnPaths}
 use Rattle.spp_ways.specs.declared.frame_ways.LoggedWays.{LoggedWays}
@@ -11,7 +12,6 @@ use Rattle.spp_ways.specs.declared.frame_ways.FrameWays.{FrameWays}
 use Rattle.spp_ways.specs.declared.open_ways.LoggedStretch.{LoggedStretch}
 use Rattle.spp_ways.specs.declared.open_ways.OpenWays.{OpenWays}
 use Rattle.spp_ways.specs.Ways.{Way, Ways, rows_at}
-use Rattle.spp_site.specs.Profiles.{key_row}
 use Rattle.spp_ways.specs.Logs.{merged_on, AreLinked}
 use Rattle.spp_ways.specs.OpenWays.{AllWays, AreWays, Laid, FitTop, nothing, on_path, plain_of, burdened_of, frame_ways, path_of}
 use Rattle.spp_ways.specs.Enclosures.{Enclosure, is_top_caller}
@@ -32,7 +32,7 @@ enclosed_row e base r = record r {
 
 -- they are those of that way
 abbrev pub IsBase : Bool → Box Merged → Way → Type 0
-IsBase on base w = (key : Option ℕ) → key_row (merged_on on base.value) key ≡ rows_at w.rows key
+IsBase on base w = (key : Option ℕ) → merged_on on base.value key ≡ rows_at w.rows key
 
 -- ---- the ways of a stretch
 
@@ -120,6 +120,25 @@ pub record FitLinks (links : Links) (r : LogRow) : Type 0 where
   pub within : links.rows + r.within < 2 ^ 32
   pub burdened_before : links.rows + r.burdened_before < 2 ^ 32
   pub burdened_within : links.rows + r.burdened_within < 2 ^ 32
+
+-- the same, for the place of a row
+pub record FitPlace (links : Links) (p : Place) : Type 0 where
+  pub before : links.rows + p.before < 2 ^ 32
+  pub within : links.rows + p.within < 2 ^ 32
+  pub burdened_before : links.rows + p.burdened_before < 2 ^ 32
+  pub burdened_within : links.rows + p.burdened_within < 2 ^ 32
+
+abbrev pub joined_place : Links → Enclosure → Place → Place
+joined_place links e p = record {
+  before = linked_to links.plain links.rows p.before;
+  within = linked_to links.plain links.rows p.within;
+  burdened_before = linked_to links.burdened links.rows p.burdened_before;
+  burdened_within = linked_to links.burdened links.rows p.burdened_within;
+  caller = 0;
+  site = p.site;
+  top_site = p.top_site && not (e.sites p.site);
+  top_caller = p.top_caller && is_top_caller e p.caller;
+}
 
 abbrev pub joined_row : Links → Enclosure → LogRow → LogRow
 joined_row links e r = record {

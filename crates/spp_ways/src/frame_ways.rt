@@ -27,8 +27,8 @@ ghost use Rattle.spp_ways.specs.Stretches.{
   FitOwn,
 };
 
-use crate::log::{Links, linked_to};
 use crate::open_ways::OnPaths;
+use crate::place::{Links, linked_to};
 use spp_dag::FrameKind;
 
 /// A way into an open frame.

@@ -4,11 +4,15 @@
 //! are the rows of the path's table.
 #![tactic(auto)]
 
+mod both_ways;
 mod enclosing;
+mod frame_counts;
 mod frame_ways;
 mod laws;
 mod log;
 mod open_ways;
+mod path_sums;
+mod place;
 
 pub use enclosing::{Enclosing, OUTER_CALLER};
 pub use laws::way_laws;

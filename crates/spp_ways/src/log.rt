@@ -1,71 +1,40 @@
 //! The closed frames that ways enter.
 
-ghost use Rattle.std.specs.Prelude.{◌≡◌, ◌+◌, ◌<◌, ◌≤◌, ◌^◌, ◌++◌, ◌∷◌, [], ℕ, true, false, length, map, reverse, take, drop, OnOk, IfOk, Option, All};
-ghost use Rattle.spp_dag.specs.Shares.{plus};
+ghost use Rattle.std.specs.Prelude.{◌≡◌, ◌+◌, ◌<◌, ◌≤◌, ◌^◌, ◌++◌, ◌∷◌, [], ℕ, Bool, true, false, cond, length, map, reverse, take, drop, OnOk, IfOk, MatchOption, Option, All};
+ghost use Rattle.std.specs.Global.{Box};
+ghost use Rattle.spp_dag.specs.Shares.{plus, zero_row};
 ghost use Rattle.spp_site.specs.Rows.{Fits};
 ghost use Rattle.spp_site.specs.Profiles.{key_row};
+ghost use Rattle.spp_ways.specs.LogRows.{frame_counts, logged_row};
 ghost use Rattle.spp_ways.specs.Logs.{AreLinked, IsMergedRow, before_on, within_on, closed_on, merged_on, row_on, row_in};
+ghost use Rattle.spp_ways.specs.PathSums.{way_of, sums_on};
 ghost use Rattle.spp_ways.specs.Enclosures.{enclosure_of};
-ghost use Rattle.spp_ways.specs.Stretches.{linked_to, outer_row, joined_row, FitLinks};
+ghost use Rattle.spp_ways.specs.Stretches.{outer_row, joined_row, FitLinks};
 ghost use Rattle.spp_ways.specs.declared.log.LogRow.{LogRow as LogRowValue};
+ghost use Rattle.spp_ways.specs.declared.log.Merged.{Merged as MergedValue};
 
+use crate::both_ways::BothWays;
 use crate::enclosing::Enclosing;
+use crate::frame_counts::{FrameCounts, NO_COUNTS, NO_NARROW_COUNTS, NarrowCounts, WideCounts};
+use crate::path_sums::{EmptyPathSums, PathSums};
+use crate::place::{Links, NO_PLACE, Place};
 use spp_site::{ClosedFrame, EmptySums, NarrowList, NarrowSums};
 use std::alloc::{AllocError, Global};
+use std::marker::Model;
 
 /// In place of a caller's function, where a row of a stretch stands for the way into its outer frame before its first event.
 /// Contracts alone read it.
 const OUTER_WAY: u32 = 65537;
 
-/// How the ways of a stretch are told in the log onto which it is joined. In the stretch the first row stands for the way into
-/// its outer frame.
-#[derive(Clone, Copy)]
-pub(crate) struct Links {
-    /// Where the way into that frame ends in the log.
-    pub(crate) plain: u32,
-    /// And that under the burdens.
-    pub(crate) burdened: u32,
-    /// How many rows the log had before the stretch.
-    pub(crate) rows: u32,
-}
-
-impl Links {
-    /// Where a way of the stretch ends.
-    #[inline(always)]
-    pub(crate) fn plain(self, way: u32) -> u32
-        requires { self.rows + way < 2 ^ 32 }
-        ensures { result ≡ linked_to self.plain self.rows way }
-    {
-        linked_to(self.plain, self.rows, way)
-    }
-
-    /// Where a way of the stretch under the burdens ends.
-    #[inline(always)]
-    pub(crate) fn burdened(self, way: u32) -> u32
-        requires { self.rows + way < 2 ^ 32 }
-        ensures { result ≡ linked_to self.burdened self.rows way }
-    {
-        linked_to(self.burdened, self.rows, way)
-    }
-}
-
-/// Where a way of a stretch ends in a log that had so many rows before, and where the way into the stretch's outer frame ends.
-#[inline(always)]
-pub(crate) fn linked_to(outer: u32, rows: u32, way: u32) -> u32
-    requires { rows + way < 2 ^ 32 }
-    ensures { result ≡ linked_to outer rows way }
-{
-    match way {
-        0 => 0,
-        1 => outer,
-        _ => rows + way - 1,
-    }
-}
-
-/// What the rows of ways come to: on the path without burdens, and on that under them.
+/// What the rows of ways come to, on the path without burdens and on that under them. Most rows are entered on both with the same
+/// numbers: what these come to is stored once.
 pub(crate) struct Merged {
-    plain: NarrowList,
-    burdened: NarrowList,
+    /// What both paths have alike.
+    pub(crate) common: NarrowList,
+    /// What the path without burdens has besides.
+    pub(crate) plain: NarrowList,
+    /// And that under them.
+    pub(crate) burdened: NarrowList,
 }
 
 impl Drop for Merged {
@@ -74,6 +43,7 @@ impl Drop for Merged {
     #[inline(never)]
     fn drop(self) {
         let Merged {
+            common: _,
             plain: _,
             burdened: _,
         } = self;
@@ -81,9 +51,20 @@ impl Drop for Merged {
 }
 
 impl Merged {
-    /// On that path: without burdens, or under them.
+    /// Nothing. It takes no memory.
+    fn none(alloc: Global) -> Self
+        ensures { (on : Bool) (key : Option ℕ) → merged_on on result key ≡ zero_row }
+    {
+        Merged {
+            common: NarrowList::none(alloc),
+            plain: NarrowList::none(alloc),
+            burdened: NarrowList::none(alloc),
+        }
+    }
+
+    /// What one path has besides what both have alike: that without burdens, or that under them.
     fn on(&self, burdened: bool) -> &NarrowList
-        ensures { result.now ≡ merged_on burdened self.now }
+        ensures { result.now ≡ cond burdened self.now.burdened self.now.plain }
     {
         if burdened {
             &self.burdened
@@ -94,41 +75,66 @@ impl Merged {
 
     /// How many rows are stored: what it takes to add them to others.
     pub(crate) fn len(&self) -> usize {
-        self.plain
+        let alone = self
+            .plain
             .row_count()
-            .saturating_add(self.burdened.row_count())
+            .saturating_add(self.burdened.row_count());
+        self.common.row_count().saturating_add(alone)
     }
 }
 
-/// A closed frame, and for either path how the ways lead on from it; or what the rows of two ways come to.
+/// What a row counts.
+#[derive(Drop)]
+enum Counts {
+    /// A frame whose counts fit 64 bits: nearly every one.
+    Narrow(NarrowCounts),
+    /// A frame one of whose counts doesn't.
+    Wide(Box<WideCounts>),
+    /// In place of a frame, what was merged.
+    Sums(Box<Merged>),
+}
+
+impl Counts {
+    /// Those of the frame; zeros for what was merged.
+    #[inline(always)]
+    fn of_frame(&self) -> FrameCounts
+        ensures { result ≡ frame_counts self.now }
+    {
+        match self {
+            Counts::Narrow(counts) => counts.widened(),
+            Counts::Wide(wide) => wide.counts,
+            Counts::Sums(_) => NO_COUNTS,
+        }
+    }
+}
+
+/// A closed frame, and for either path how the ways lead on from it; or what the rows of two ways come to. Contracts see the
+/// frame's counts as numbers, however they are stored.
+///
+/// It takes 64 bytes: rows are made by the million, read on another core and copied, and most of that time goes by waiting for
+/// the memory in which they lie. Seldom something lies beside it: 64 bytes more where a count of the frame doesn't fit 64 bits,
+/// or what was merged.
 #[derive(Drop)]
 pub(crate) struct LogRow {
-    /// Its work, in instructions, as all counts here.
-    pub(crate) work: u128,
-    /// Its span.
-    pub(crate) span: u128,
-    /// The counts of its own strands on the way through it without burdens.
-    pub(crate) own: u128,
-    /// And on that under the burdens.
-    pub(crate) burdened_own: u128,
-    /// Where the way ends that leads to it in its parent: how many rows the log has up to its last one, 0 for none.
-    pub(crate) before: u32,
-    /// Where the way through it ends.
-    pub(crate) within: u32,
-    /// The same of the way under the burdens that leads to it.
-    pub(crate) burdened_before: u32,
-    /// And of that through it.
-    pub(crate) burdened_within: u32,
-    /// In a stretch of events the function of its caller, or `OUTER_CALLER`, or `OUTER_WAY`; 0 in the log of a run.
-    pub(crate) caller: u32,
-    /// The call site by which it was entered.
-    pub(crate) site: u16,
-    /// No frame of the same site encloses it.
-    pub(crate) top_site: bool,
-    /// Its caller is enclosed by no frame of the caller's function.
-    pub(crate) top_caller: bool,
-    /// In place of a frame, what was merged.
-    pub(crate) merged: Option<Box<Merged>>,
+    place: Place,
+    counts: Counts,
+}
+
+const _: () = prove!(size_of::<LogRow>() == 64);
+
+impl Model for LogRow {
+    ghost use Rattle.spp_ways.specs.LogRows.{LoggedRow};
+
+    ghost Value = { LoggedRow };
+
+    ghost use Rattle.std.specs.Coded.{codes};
+    ghost use Rattle.spp_site.specs.Table.{sums_code};
+
+    ghost coded = { Prim.hlevel (codes, sums_code) };
+
+    ghost use Rattle.spp_ways.specs.LogRows.{stored_row};
+
+    ghost view = { λ r. stored_row r.place r.counts };
 }
 
 impl LogRow {
@@ -141,19 +147,8 @@ impl LogRow {
         ensures { IfOk result (λ r. IsMergedRow merged r) }
     {
         Ok(LogRow {
-            work: 0,
-            span: 0,
-            own: 0,
-            burdened_own: 0,
-            before: 0,
-            within: 0,
-            burdened_before: 0,
-            burdened_within: 0,
-            caller: 0,
-            site: 0,
-            top_site: false,
-            top_caller: false,
-            merged: Some(Box::new(alloc, merged)?),
+            place: NO_PLACE,
+            counts: Counts::Sums(Box::new(alloc, merged)?),
         })
     }
 
@@ -162,64 +157,54 @@ impl LogRow {
         ensures { result ≡ outer_row }
     {
         LogRow {
-            work: 0,
-            span: 0,
-            own: 0,
-            burdened_own: 0,
-            before: 0,
-            within: 0,
-            burdened_before: 0,
-            burdened_within: 0,
-            caller: OUTER_WAY,
-            site: 0,
-            top_site: false,
-            top_caller: false,
-            merged: None,
+            place: Place {
+                caller: OUTER_WAY,
+                ..NO_PLACE
+            },
+            counts: Counts::Narrow(NO_NARROW_COUNTS),
         }
     }
 
-    /// The row of a frame of a stretch in the log onto which the stretch is joined.
+    /// The call site by which the frame was entered; 0 for what was merged.
     #[inline(always)]
-    pub(crate) fn joined(&self, links: Links, enclosing: &Enclosing<'_>) -> Self
-        requires few { FitLinks links self.now }
-        ensures { result ≡ joined_row links (enclosure_of enclosing.now) self.now }
+    pub(crate) fn site(&self) -> u16
+        ensures { result ≡ self.now.site }
     {
-        LogRow {
-            work: self.work,
-            span: self.span,
-            own: self.own,
-            burdened_own: self.burdened_own,
-            before: links.plain(self.before),
-            within: links.plain(self.within),
-            burdened_before: links.burdened(self.burdened_before),
-            burdened_within: links.burdened(self.burdened_within),
-            caller: 0,
-            site: self.site,
-            top_site: self.top_site && enclosing.is_top_site(u32::from(self.site)),
-            top_caller: self.top_caller && enclosing.is_top_caller(self.caller),
-            merged: None,
-        }
+        self.place.site
     }
 
     /// Where the way ends that leads to the frame in its parent: without burdens, or under them.
-    fn before(&self, burdened: bool) -> u32
+    #[inline(always)]
+    pub(crate) fn before(&self, burdened: bool) -> u32
         ensures { result ≡ before_on burdened self.now }
     {
         if burdened {
-            self.burdened_before
+            self.place.burdened_before
         } else {
-            self.before
+            self.place.before
         }
     }
 
     /// Where the way through it ends.
-    fn within(&self, burdened: bool) -> u32
+    #[inline(always)]
+    pub(crate) fn within(&self, burdened: bool) -> u32
         ensures { result ≡ within_on burdened self.now }
     {
         if burdened {
-            self.burdened_within
+            self.place.burdened_within
         } else {
-            self.within
+            self.place.within
+        }
+    }
+
+    /// What was merged, if this isn't the row of a frame.
+    #[inline(always)]
+    pub(crate) fn merged(&self) -> Option<&Merged>
+        ensures { MatchOption result (self.now.merged ≡ None) (λ m. (box : Box MergedValue) × (self.now.merged ≡ Some box) × (box.value ≡ m.now)) }
+    {
+        match &self.counts {
+            Counts::Sums(merged) => Some(merged),
+            _ => None,
         }
     }
 
@@ -228,30 +213,35 @@ impl LogRow {
     /// # Errors
     ///
     /// Where an allocation failed.
-    fn add_to(&self, burdened: bool, sums: &mut NarrowSums) -> Result<(), AllocError>
+    pub(crate) fn add_to(&self, burdened: bool, sums: &mut NarrowSums) -> Result<(), AllocError>
         requires { (key : Option ℕ) → Fits (plus (key_row sums.old key) (row_on burdened self.now key)) }
         ensures { OnOk result ((key : Option ℕ) → key_row sums.new key ≡ plus (key_row sums.old key) (row_on burdened self.now key)) }
     {
-        match &self.merged {
-            None => sums.close(self.site, &self.closed(burdened)),
-            Some(merged) => sums.absorb(merged.on(burdened)),
+        match self.merged() {
+            None => sums.close(self.place.site, &self.closed(burdened)),
+            Some(merged) => {
+                sums.absorb(&merged.common)?;
+                sums.absorb(merged.on(burdened))
+            }
         }
     }
 
     /// The frame as a table of that path counts it.
-    fn closed(&self, burdened: bool) -> ClosedFrame
+    #[inline(always)]
+    pub(crate) fn closed(&self, burdened: bool) -> ClosedFrame
         ensures { result ≡ closed_on burdened self.now }
     {
+        let counts = self.counts.of_frame();
         ClosedFrame {
             local: if burdened {
-                self.burdened_own
+                counts.burdened_own
             } else {
-                self.own
+                counts.own
             },
-            work: self.work,
-            span: self.span,
-            top_site: self.top_site,
-            top_caller: self.top_caller,
+            work: counts.work,
+            span: counts.span,
+            top_site: self.place.top_site,
+            top_caller: self.place.top_caller,
         }
     }
 }
@@ -308,7 +298,20 @@ impl Log {
         }
     }
 
-    /// Puts a row behind the others, and gives the number of rows then.
+    /// Puts a row behind the others.
+    ///
+    /// # Errors
+    ///
+    /// Where an allocation failed.
+    #[inline(always)]
+    fn put(&mut self, row: LogRow) -> Result<(), AllocError>
+        ensures { OnOk result (self.new.rows.items ≡ self.old.rows.items ++ (row ∷ [])) }
+    {
+        self.rows.push(row)?;
+        Ok(())
+    }
+
+    /// The same; gives the number of rows then.
     ///
     /// # Errors
     ///
@@ -319,8 +322,89 @@ impl Log {
         ensures row { OnOk result (self.new.rows.items ≡ self.old.rows.items ++ (row ∷ [])) }
         ensures count { IfOk result (λ n. n ≡ length self.old.rows.items + 1) }
     {
-        self.rows.push(row)?;
+        self.put(row)?;
         Ok(self.rows.len() as u32)
+    }
+
+    /// Puts the row of a frame behind the others.
+    ///
+    /// # Errors
+    ///
+    /// Where an allocation failed.
+    #[inline(always)]
+    fn put_frame(&mut self, place: Place, counts: FrameCounts) -> Result<(), AllocError>
+        ensures { OnOk result (self.new.rows.items ≡ self.old.rows.items ++ (logged_row place counts None ∷ [])) }
+    {
+        match counts.narrowed() {
+            Some(narrow) => self.put(LogRow {
+                place,
+                counts: Counts::Narrow(narrow),
+            }),
+            None => self.put_wide(place, counts),
+        }
+    }
+
+    /// The same of a frame whose counts don't all fit 64 bits: they are stored beside the row.
+    ///
+    /// # Errors
+    ///
+    /// Where an allocation failed.
+    #[cold]
+    #[inline(never)]
+    fn put_wide(&mut self, place: Place, counts: FrameCounts) -> Result<(), AllocError>
+        ensures { OnOk result (self.new.rows.items ≡ self.old.rows.items ++ (logged_row place counts None ∷ [])) }
+    {
+        let wide = Box::new(*self.rows.allocator(), WideCounts { counts })?;
+        self.put(LogRow {
+            place,
+            counts: Counts::Wide(wide),
+        })
+    }
+
+    /// Puts the row of a frame behind the others, and gives the number of rows then. Where all counts fit 64 bits, it allocates
+    /// nothing but room for rows.
+    ///
+    /// # Errors
+    ///
+    /// Where an allocation failed.
+    #[inline(always)]
+    pub(crate) fn push_frame(
+        &mut self,
+        place: Place,
+        counts: FrameCounts,
+    ) -> Result<u32, AllocError>
+        requires { length self.old.rows.items + 1 < 2 ^ 32 }
+        ensures row { OnOk result (self.new.rows.items ≡ self.old.rows.items ++ (logged_row place counts None ∷ [])) }
+        ensures count { IfOk result (λ n. n ≡ length self.old.rows.items + 1) }
+    {
+        self.put_frame(place, counts)?;
+        Ok(self.rows.len() as u32)
+    }
+
+    /// Puts a row of a stretch behind the others.
+    ///
+    /// # Errors
+    ///
+    /// Where an allocation failed.
+    #[inline(always)]
+    fn put_joined(
+        &mut self,
+        row: &LogRow,
+        links: Links,
+        enclosing: &Enclosing<'_>,
+    ) -> Result<(), AllocError>
+        requires few { FitLinks links row.now }
+        ensures { OnOk result (self.new.rows.items ≡ self.old.rows.items ++ (joined_row links (enclosure_of enclosing.now) row.now ∷ [])) }
+    {
+        let place = row.place.joined(links, enclosing);
+        match &row.counts {
+            Counts::Narrow(narrow) => self.put(LogRow {
+                place,
+                counts: Counts::Narrow(*narrow),
+            }),
+            // No row of a stretch was merged.
+            counts => self.put_wide(place, counts.of_frame()),
+        }
     }
 
     /// Puts the rows of a stretch behind the others, but for the one that stands for the way into its outer frame.
@@ -338,7 +422,7 @@ impl Log {
         ensures { OnOk result (self.new.rows.items ≡ self.old.rows.items ++ map (joined_row links (enclosure_of enclosing.now)) (drop 1 stretch.now.rows.items)) }
     {
         for k in 1..stretch.rows.len() {
-            self.rows.push(stretch.rows[k].joined(links, enclosing))?;
+            self.put_joined(&stretch.rows[k], links, enclosing)?;
         }
         Ok(())
     }
@@ -402,7 +486,40 @@ impl Log {
         sums.into_list(alloc)
     }
 
-    /// What the rows of two ways come to, one on the path without burdens and one on that under them: see [`Log::summed`].
+    /// Adds the rows of two ways to sums, one on the path without burdens and one on that under them. The ways are walked
+    /// together, so that a row that both enter is met once.
+    ///
+    /// # Errors
+    ///
+    /// Where an allocation failed.
+    fn add_up_both(
+        &self,
+        alloc: Global,
+        ways: BothWays,
+        sums: &mut PathSums,
+    ) -> Result<(), AllocError>
+        requires linked { AreLinked (reverse self.now.rows.items) }
+        requires ways { (on : Bool) → way_of on ways ≤ length self.now.rows.items }
+        requires fits { (on : Bool) (key : Option ℕ) → Fits (plus (sums_on on sums.old key) (row_in on self.now (way_of on ways) key)) }
+        ensures { OnOk result ((on : Bool) (key : Option ℕ) → sums_on on sums.new key ≡ plus (sums_on on sums.old key) (row_in on self.now (way_of on ways) key)) }
+    {
+        let mut left = Vec::new(alloc);
+        ways.put(&mut left)?;
+        while let Some(both) = left.pop() {
+            let last = both.last();
+            let row = &self.rows[last as usize - 1];
+            sums.add(row, both)?;
+            both.left_before(row).put(&mut left)?;
+            both.left_within(row).put(&mut left)?;
+        }
+        Ok(())
+    }
+
+    /// What the rows of two ways come to, one on the path without burdens and one on that under them, and the empty sums that were
+    /// passed to add them up. It takes constant time for each frame that either enters, once where both do, time linear in what is
+    /// stored for each row that was merged, and a step for each site number that those sums didn't reach before; and memory for as
+    /// many pairs of ways as closed frames nest, besides that of the sums. Where neither way has rows it takes no memory. No clause
+    /// says that the memory of the sums is used again.
     ///
     /// # Errors
     ///
@@ -410,25 +527,25 @@ impl Log {
     pub(crate) fn merge(
         &self,
         alloc: Global,
-        room: EmptySums,
+        room: EmptyPathSums,
         plain: u32,
         burdened: u32,
-    ) -> Result<(Merged, EmptySums), AllocError>
+    ) -> Result<(Merged, EmptyPathSums), AllocError>
         requires linked { AreLinked (reverse self.now.rows.items) }
         requires plain { plain ≤ length self.now.rows.items }
         requires burdened { burdened ≤ length self.now.rows.items }
         requires plain_fits { (key : Option ℕ) → Fits (row_in false self.now plain key) }
         requires burdened_fits { (key : Option ℕ) → Fits (row_in true self.now burdened key) }
-        ensures plain { IfOk result (λ p. (key : Option ℕ) → key_row p.0.plain key ≡ row_in false self.now plain key) }
-        ensures burdened { IfOk result (λ p. (key : Option ℕ) → key_row p.0.burdened key ≡ row_in true self.now burdened key) }
+        ensures plain { IfOk result (λ p. (key : Option ℕ) → merged_on false p.0 key ≡ row_in false self.now plain key) }
+        ensures burdened { IfOk result (λ p. (key : Option ℕ) → merged_on true p.0 key ≡ row_in true self.now burdened key) }
     {
-        let first = self.summed(alloc, room, false, plain)?;
-        let second = self.summed(alloc, first.1, true, burdened)?;
-        let merged = Merged {
-            plain: first.0,
-            burdened: second.0,
-        };
-        Ok((merged, second.1))
+        let ways = BothWays { plain, burdened };
+        if ways.last() == 0 {
+            return Ok((Merged::none(alloc), room));
+        }
+        let mut sums = room.into_sums();
+        self.add_up_both(alloc, ways, &mut sums)?;
+        sums.into_merged(alloc)
     }
 
     /// Puts what was merged behind the other rows, and gives the number of rows then.

@@ -43,8 +43,11 @@ ghost use Rattle.spp_ways.specs.Stretches.{
 };
 
 use crate::enclosing::Enclosing;
+use crate::frame_counts::FrameCounts;
 use crate::frame_ways::FrameWays;
-use crate::log::{Links, Log, LogRow};
+use crate::log::{Log, LogRow};
+use crate::path_sums::EmptyPathSums;
+use crate::place::{Links, Place};
 use spp_dag::FrameKind;
 use spp_site::{ClosedFrame, EmptySums, Table};
 use std::alloc::{AllocError, Global};
@@ -104,7 +107,7 @@ const LEAST_LIMIT: u32 = 256;
 /// No rows are merged while the log has at most so many: they lie in the processor's nearer caches.
 const LEAST_ROOM: u32 = 4096;
 
-/// Nor while it has at most so many for each call site, since what is merged can have four rows for each.
+/// Nor while it has at most so many for each call site: what is merged has two rows for most, and six at worst.
 const ROOM_OF_A_SITE: u32 = 4;
 
 /// Where more rows are stored than that, it doesn't matter how many.
@@ -114,14 +117,16 @@ const MOST_STORED: usize = u32::MAX as usize;
 /// itself, and the greatest way through a child that waits in it, with the closed frames that they enter. Which child a
 /// frame takes, and which of two children is kept, is told by whoever keeps their weights.
 ///
-/// A closed frame that a way enters takes a row of 112 bytes in a log; rows behind the last one that a way ends with are cut
-/// off. Where the log has over 4,096 rows, and over four for each of the trace's call sites, and over 256 of these are an open
-/// frame's, and over half as many as sites, those of its ways are merged: what they add to each site is stored, for each way
-/// and path in some 128 bytes, or up to twice that, for each site that was met whose number is below 1,024 or whose sums don't
-/// fit 64 bits, and in 64 bytes for each other one; besides a table of 56 bytes for each site number up to the greatest, or up to
-/// twice that, which is used again. They are merged again where what was stored and what came behind it are more than that, and
-/// more than twice what was stored. An open frame takes 96 bytes besides. Each step takes constant time, amortized. After an error
-/// the ways are of no use.
+/// A closed frame that a way enters takes a row of 64 bytes in a log, or twice that where its work, its span or the count of
+/// its own strands on a way doesn't fit 64 bits; rows behind the last one that a way ends with are cut off. Where the log has
+/// over 4,096 rows, and over four for each of the trace's call sites, and over 256 of these are an open frame's, and over half
+/// as many as sites, those of its ways are merged: what they add to each site is stored, for each way what both paths add
+/// alike, and what either adds besides. Each of these takes some 128 bytes, or up to twice that, for each site that was met
+/// whose number is below 1,024 or whose sums don't fit 64 bits, and 64 bytes for each other one. Three tables, of what both
+/// paths have alike and of the rest of each, are kept to be used again: 58 bytes for each site number up to the greatest that
+/// it had, or up to twice that, and up to 64 KiB. Ways are merged again where what was stored and what came behind it are more
+/// than that, and more than twice what was stored. An open frame takes 96 bytes besides. Each step takes constant time,
+/// amortized. After an error the ways are of no use.
 #[derive(Drop)]
 pub struct OpenWays {
     frames: Vec<FrameWays>,
@@ -131,7 +136,7 @@ pub struct OpenWays {
     /// How many rows the log may have before any are merged. No clause says so: the ways are the same.
     room: u32,
     /// In which the rows of ways are added up, to be used again.
-    sums: EmptySums,
+    sums: EmptyPathSums,
 }
 
 impl OpenWays {
@@ -154,7 +159,7 @@ impl OpenWays {
             log: Log::new(alloc),
             limit,
             room: sites.saturating_mul(ROOM_OF_A_SITE).max(LEAST_ROOM),
-            sums: EmptySums::new(alloc),
+            sums: EmptyPathSums::new(alloc),
         })
     }
 
@@ -236,7 +241,7 @@ impl OpenWays {
     {
         let last = self.frames.len() - 1;
         let frame = self.frames[last];
-        let sums = mem::replace(&mut self.sums, EmptySums::new(alloc));
+        let sums = mem::replace(&mut self.sums, EmptyPathSums::new(alloc));
         let along = self
             .log
             .merge(alloc, sums, frame.plain_rows, frame.burdened_rows)?;
@@ -290,11 +295,7 @@ impl OpenWays {
             return Ok(false);
         }
         self.log.cut(stays.max(plain.rows).max(burdened.rows));
-        let rows = self.log.push(LogRow {
-            work: closed.work,
-            span: closed.span,
-            own: plain.own,
-            burdened_own: burdened.own,
+        let place = Place {
             before: parent.plain_rows,
             within: plain.rows,
             burdened_before: parent.burdened_rows,
@@ -303,8 +304,14 @@ impl OpenWays {
             site: site as u16,
             top_site: closed.top_site,
             top_caller: closed.top_caller,
-            merged: None,
-        })?;
+        };
+        let counts = FrameCounts {
+            work: closed.work,
+            span: closed.span,
+            own: plain.own,
+            burdened_own: burdened.own,
+        };
+        let rows = self.log.push_frame(place, counts)?;
         parent.come(kind, wins, rows);
         parent.inherit(stored, limit);
         Ok(parent.is_full(rows, self.room))
@@ -390,7 +397,7 @@ impl OpenWays {
             log,
             limit: 0,
             room: 0,
-            sums: EmptySums::new(alloc),
+            sums: EmptyPathSums::new(alloc),
         })
     }
 

@@ -5,10 +5,13 @@ use Rattle.spp_crew.proofs.Joinings.{none_left}
 use Rattle.spp_crew.proofs.joining.Joining.end.Goals as goal
 
 pub returns-in-Err-clause-fault : goal.returns-in-Err-clause-fault
-returns-in-Err-clause-fault g c trace k come = c.in-Err.ensures.fault trace k (c.loop-alloc.invariant trace k come)
+returns-in-Err-clause-fault g c trace k come = c.in-Err.ensures.fault trace.records
+
+pub returns-in-Err-join-clause-fault : goal.returns-in-Err-join-clause-fault
+returns-in-Err-join-clause-fault g c trace k come = c.in-Err-join.ensures.fault trace k (c.in-Ok.ensures.brought trace c.args.burdens k (c.loop-alloc.invariant trace k come))
 
 pub loop-alloc-preserved : goal.loop-alloc-preserved
-loop-alloc-preserved g c trace k come = c.in-Ok.ensures.come trace k (c.loop-alloc.invariant trace k come)
+loop-alloc-preserved g c trace k come = c.in-Ok-join.ensures.come trace k (c.in-Ok.ensures.brought trace c.args.burdens k (c.loop-alloc.invariant trace k come))
 
 pub returns-clause-so_far : goal.returns-clause-so_far
 returns-clause-so_far g c trace k come =

@@ -17,11 +17,11 @@ loop-k-preserved c =
     let back : 1 + (k - 1) ≡ k = omega arith in
     let in_rest : k - 1 < length (drop 1 items) = omega (arith, length-drop 1 items) in
     let at : x ≡ get_or (drop 1 items) (k - 1) x = c.index.ensures ∙ ap (λ (n : ℕ). get_or items n x) (sym back) ∙ sym (get_or-drop 1 items (k - 1) x) in
-    let row : c.joined.result ≡ f (get_or (drop 1 items) (k - 1) x) = c.joined.ensures ∙ ap f at in
+    let row : f x ≡ f (get_or (drop 1 items) (k - 1) x) = ap f at in
     let more : k - 1 + 1 ≡ k + 1 - 1 = omega arith in
     let so_far : List LogRow = map f (take (k - 1) (drop 1 items)) in
     let next : LogRow = f (get_or (drop 1 items) (k - 1) x) in
-    let put : c.push.new.self.items ≡ (old ++ so_far) ++ (next ∷ []) = c.in_ok-push.ensures.items ∙ ap₂ (λ (l : List LogRow) (r : LogRow). l ++ (r ∷ [])) c.loop-k.invariant row in
+    let put : c.put_joined.new.self.rows.items ≡ (old ++ so_far) ++ (next ∷ []) = c.in_ok-put_joined.ensures ∙ ap₂ (λ (l : List LogRow) (r : LogRow). l ++ (r ∷ [])) c.loop-k.invariant row in
     let longer : so_far ++ (next ∷ []) ≡ map f (take (k + 1 - 1) (drop 1 items)) = sym (map_more f (drop 1 items) (k - 1) x in_rest) ∙ ap (λ (n : ℕ). map f (take n (drop 1 items))) more in
     put ∙ append_assoc old so_far (next ∷ []) ∙ ap (λ (l : List LogRow). old ++ l) longer
 

@@ -1,16 +1,12 @@
-use Rattle.std.proofs.Common.{ℕ, reverse, Result, Ok, Err, IfOk, sym, ap, subst, ◌∙◌}
+use Rattle.std.proofs.Common.{ℕ, reverse, sym, ap, subst, ◌∙◌}
 use Rattle.spp_dag.specs.declared.row.Row.{Row}
 use Rattle.spp_dag.specs.Shares.{plus}
 use Rattle.spp_site.specs.Rows.{Fits}
 use Rattle.spp_site.proofs.Rows.{zero-plus}
 use Rattle.spp_ways.specs.Logs.{row_in}
 use Rattle.spp_ways.proofs.Staying.{rows_none}
+use Rattle.spp_ways.proofs.Summing.{if_made}
 use Rattle.spp_ways.proofs.log.Log.summed.Goals as goal
-
--- what holds of a value that was made
-if_made : {X E : Type 0} (P Q : X → Type 0) → ((x : X) → P x → Q x) → (r : Result X E) → IfOk r P → IfOk r Q
-if_made P Q f (Ok x) h = f x h
-if_made P Q f (Err e) h = h
 
 pub returns-then-way-eq0 : goal.returns-then-way-eq0
 returns-then-way-eq0 c key =

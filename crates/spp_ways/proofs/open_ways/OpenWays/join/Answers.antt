@@ -2,7 +2,7 @@ use Rattle.std.proofs.Common.{◌≡◌, ℕ, ◌+◌, ◌-◌, ◌≤◌, ◌<�
 use Rattle.std.proofs.lemmas.List.{length-append, length-set}
 use Rattle.std.proofs.lemmas.List.Elements.{All-head, All-tail}
 use Rattle.spp_site.proofs.LastFirst.{topped}
-use Rattle.spp_ways.specs.declared.log.Links.{Links}
+use Rattle.spp_ways.specs.declared.place.Links.{Links}
 use Rattle.spp_ways.specs.declared.log.LogRow.{LogRow}
 use Rattle.spp_ways.specs.declared.log.Log.{Log}
 use Rattle.spp_ways.specs.declared.open_ways.OnPaths.{OnPaths}

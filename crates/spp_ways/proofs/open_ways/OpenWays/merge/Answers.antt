@@ -1,7 +1,6 @@
 use Rattle.std.proofs.Common.{◌≡◌, ℕ, ◌+◌, ◌-◌, ◌≤◌, ◌<◌, Bool, true, false, List, [], ◌∷◌, ◌++◌, length, Option, reverse, take, get_or, set, ap, subst, sym, ◌∙◌, arith}
 use Rattle.std.proofs.lemmas.List.{length-take-le, length-reverse, length-append}
 use Rattle.spp_site.specs.Rows.{Fits}
-use Rattle.spp_site.specs.Profiles.{key_row}
 use Rattle.spp_site.proofs.LastFirst.{topped}
 use Rattle.spp_ways.specs.declared.log.Merged.{Merged}
 use Rattle.spp_ways.specs.declared.log.LogRow.{LogRow}
@@ -12,10 +11,10 @@ use Rattle.spp_ways.specs.OpenWays.{AllWays, HasRowsOf, Laid, path_of, AreMerged
 use Rattle.spp_ways.proofs.Merging.{top_fits, has_frame, merge_linked, merge_laid, merge_ways, rows_are}
 use Rattle.spp_ways.proofs.open_ways.OpenWays.merge.Goals as goal
 
-both_are : (log : List LogRow) (f : FrameWays) (m n : Merged) → ((key : Option ℕ) → key_row m.plain key ≡ way_row false log f.plain_rows key)
-    → ((key : Option ℕ) → key_row m.burdened key ≡ way_row true log f.burdened_rows key) → ((key : Option ℕ) → key_row n.plain key ≡ way_row false log f.plain_through_rows key)
-    → ((key : Option ℕ) → key_row n.burdened key ≡ way_row true log f.burdened_through_rows key) → (on : Bool)
-    → ((key : Option ℕ) → key_row (merged_on on m) key ≡ way_row on log (path_of on f).along.rows key) × ((key : Option ℕ) → key_row (merged_on on n) key ≡ way_row on log (path_of on f).through.rows key)
+both_are : (log : List LogRow) (f : FrameWays) (m n : Merged) → ((key : Option ℕ) → merged_on false m key ≡ way_row false log f.plain_rows key)
+    → ((key : Option ℕ) → merged_on true m key ≡ way_row true log f.burdened_rows key) → ((key : Option ℕ) → merged_on false n key ≡ way_row false log f.plain_through_rows key)
+    → ((key : Option ℕ) → merged_on true n key ≡ way_row true log f.burdened_through_rows key) → (on : Bool)
+    → ((key : Option ℕ) → merged_on on m key ≡ way_row on log (path_of on f).along.rows key) × ((key : Option ℕ) → merged_on on n key ≡ way_row on log (path_of on f).through.rows key)
 both_are log f m n a b c d false = (a, c)
 both_are log f m n a b c d true = (b, d)
 

@@ -161,7 +161,7 @@ returns-clause-put c =
     } in r in
     let is_row : row c.chosen-plain.result c.chosen-burdened.result old ≡ returned_row takes site caller closed v g =
     ap₂ (λ (x y : LoggedWay). row x y old) p b ∙ ap (row (chosen takes.plain (plain_of v)) (chosen takes.burdened (burdened_of v))) parent in
-    let log : c.push.new.self.rows.items ≡ take n items ++ (returned_row takes site caller closed v g ∷ []) =
+    let log : c.push_frame.new.self.rows.items ≡ take n items ++ (returned_row takes site caller closed v g ∷ []) =
     c.in_ok-rows.ensures.row ∙ ap₂ (λ (l : List LogRow) (r : LogRow). l ++ (r ∷ [])) cut is_row in
     let count : c.in_ok-rows.rows ≡ suc n =
     (let x = c.in_ok-rows.ensures.count in let y : length c.cut-2.new.self.rows.items ≡ length (take n items) = ap (λ (l : List LogRow). length l) cut in let z : length (take n items) ≡ n = length-take-le n items short in omega arith) in
@@ -183,7 +183,7 @@ returns-clause-put c =
       plain = sp;
       burdened = sb;
       short = short;
-      left = subst (λ b. IsLeft b kind takes wins site caller closed v g u.below n items c.push.new.self.rows.items (reverse (set rest (c.len-last.result - 1 - 1) c.inherit.new.self))) (sym on) (stored, limit, np, nb, log, frames);
+      left = subst (λ b. IsLeft b kind takes wins site caller closed v g u.below n items c.push_frame.new.self.rows.items (reverse (set rest (c.len-last.result - 1 - 1) c.inherit.new.self))) (sym on) (stored, limit, np, nb, log, frames);
     }
 
 pub returns-clause-many : goal.returns-clause-many
@@ -259,7 +259,7 @@ returns-clause-many c more =
     } in r in
     let is_row : row c.chosen-plain.result c.chosen-burdened.result old ≡ returned_row takes site caller closed v g =
     ap₂ (λ (x y : LoggedWay). row x y old) p b ∙ ap (row (chosen takes.plain (plain_of v)) (chosen takes.burdened (burdened_of v))) parent in
-    let log : c.push.new.self.rows.items ≡ take n items ++ (returned_row takes site caller closed v g ∷ []) =
+    let log : c.push_frame.new.self.rows.items ≡ take n items ++ (returned_row takes site caller closed v g ∷ []) =
     c.in_ok-rows.ensures.row ∙ ap₂ (λ (l : List LogRow) (r : LogRow). l ++ (r ∷ [])) cut is_row in
     let count : c.in_ok-rows.rows ≡ suc n =
     (let x = c.in_ok-rows.ensures.count in let y : length c.cut-2.new.self.rows.items ≡ length (take n items) = ap (λ (l : List LogRow). length l) cut in let z : length (take n items) ≡ n = length-take-le n items short in omega arith) in
@@ -270,8 +270,8 @@ returns-clause-many c more =
     c.inherit.ensures.2 ∙ ap counted c.come.ensures ∙ ap₂ (λ (k : ℕ) (f : FrameWays). come_frame kind wins k stored limit f) count parent in
     let frames : reverse (set rest (c.len-last.result - 1 - 1) c.inherit.new.self) ≡ come_frame kind wins (suc n) stored limit g ∷ u.below =
     ap₂ (λ (k : ℕ) (f : FrameWays). reverse (set rest k f)) next is_frame ∙ u.put (come_frame kind wins (suc n) stored limit g) in
-    let rows : length c.push.new.self.rows.items ≡ c.in_ok-rows.rows =
-    (let x = c.in_ok-rows.ensures.count in let y : length c.push.new.self.rows.items ≡ length (c.cut-2.new.self.rows.items ++ (row c.chosen-plain.result c.chosen-burdened.result old ∷ [])) = ap (λ (l : List LogRow). length l) c.in_ok-rows.ensures.row in
+    let rows : length c.push_frame.new.self.rows.items ≡ c.in_ok-rows.rows =
+    (let x = c.in_ok-rows.ensures.count in let y : length c.push_frame.new.self.rows.items ≡ length (c.cut-2.new.self.rows.items ++ (row c.chosen-plain.result c.chosen-burdened.result old ∷ [])) = ap (λ (l : List LogRow). length l) c.in_ok-rows.ensures.row in
     let z = length-append c.cut-2.new.self.rows.items (row c.chosen-plain.result c.chosen-burdened.result old ∷ []) in omega arith) in
     let full : old.start + 2 ≤ c.in_ok-rows.rows = subst (λ k. k + 2 ≤ c.in_ok-rows.rows) (ap (λ (f : FrameWays). f.start) (c.inherit.ensures.2 ∙ ap counted c.come.ensures)) (c.is_full.ensures.two more) in
-    subst (HasRowsOf (length c.push.new.self.rows.items)) (sym frames) (let z : g.start + 2 ≤ length c.push.new.self.rows.items = omega arith in z)
+    subst (HasRowsOf (length c.push_frame.new.self.rows.items)) (sym frames) (let z : g.start + 2 ≤ length c.push_frame.new.self.rows.items = omega arith in z)

@@ -1,0 +1,34 @@
+use Rattle.std.proofs.Common.{ℕ, ◌≤◌, bit_or, arith}
+use Rattle.std.proofs.lemmas.Nat.{le_or_l, le_or_r}
+use Rattle.spp_ways.proofs.frame_counts.FrameCounts.narrowed.Goals as goal
+
+-- what four numbers have in common binary digits is no less than each of them
+all_in : (w s o b m : ℕ) → bit_or (bit_or (bit_or w s) o) b ≤ m → (w ≤ m) × (s ≤ m) × (o ≤ m) × (b ≤ m)
+all_in w s o b m h =
+    let ws = le_or_l w s in
+    let sw = le_or_r w s in
+    let wso = le_or_l (bit_or w s) o in
+    let ows = le_or_r (bit_or w s) o in
+    let rest = le_or_l (bit_or (bit_or w s) o) b in
+    let last = le_or_r (bit_or (bit_or w s) o) b in
+    (omega (arith, ws, wso, rest, h), omega (arith, sw, wso, rest, h), omega (arith, ows, rest, h), omega (arith, last, h))
+
+pub overflow_cast-result : goal.overflow_cast-result
+overflow_cast-result c =
+    let f = all_in c.args.self.now.work c.args.self.now.span c.args.self.now.own c.args.self.now.burdened_own c.from.result c.if-self-from.false in
+    omega (arith, f.0, c.from.ensures)
+
+pub overflow_cast-result-2 : goal.overflow_cast-result-2
+overflow_cast-result-2 c =
+    let f = all_in c.args.self.now.work c.args.self.now.span c.args.self.now.own c.args.self.now.burdened_own c.from.result c.if-self-from.false in
+    omega (arith, f.1, c.from.ensures)
+
+pub overflow_cast-result-3 : goal.overflow_cast-result-3
+overflow_cast-result-3 c =
+    let f = all_in c.args.self.now.work c.args.self.now.span c.args.self.now.own c.args.self.now.burdened_own c.from.result c.if-self-from.false in
+    omega (arith, f.2, c.from.ensures)
+
+pub overflow_cast-result-4 : goal.overflow_cast-result-4
+overflow_cast-result-4 c =
+    let f = all_in c.args.self.now.work c.args.self.now.span c.args.self.now.own c.args.self.now.burdened_own c.from.result c.if-self-from.false in
+    omega (arith, f.3, c.from.ensures)
