@@ -110,7 +110,7 @@ first_rows on log w key = rows_put on log [] w key ∙ zero-plus (way_row on log
 -- ---- a pair is taken: the row with which its longer way ends is that behind the first j, and two pairs are put there
 
 -- one path ends with it at least
-ended : (w : BothWays) → 1 ≤ cond (ends false w) 1 0 + cond (ends true w) 1 0
+pub ended : (w : BothWays) → 1 ≤ cond (ends false w) 1 0 + cond (ends true w) 1 0
 ended w = grind (arith, nat_tests)
 
 module _ (items : List LogRow) (linked : AreLinked (reverse items)) (ws : List BothWays) (d : LogRow) (w : BothWays) (j : ℕ) (last : last_of w ≡ suc j) (lt : j < length items) where

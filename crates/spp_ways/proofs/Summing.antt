@@ -77,10 +77,10 @@ module _ (items : List LogRow) (linked : AreLinked (reverse items)) (d : LogRow)
   taken : take (suc j) items ≡ take j items ++ (at ∷ [])
   taken = take-suc items j d lt
 
-  last : reverse (take (suc j) items) ≡ at ∷ reverse (take j items)
+  pub last : reverse (take (suc j) items) ≡ at ∷ reverse (take j items)
   last = ap reverse taken ∙ reverse-append (take j items) (at ∷ [])
 
-  below : length (reverse (take j items)) ≡ j
+  pub below : length (reverse (take j items)) ≡ j
   below = (cut items j (omega arith)).count
 
   whole : Cut items (suc j)

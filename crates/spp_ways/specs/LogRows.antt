@@ -6,9 +6,9 @@ use Rattle.spp_ways.specs.declared.frame_counts.FrameCounts.{FrameCounts}
 use Rattle.spp_ways.specs.declared.frame_counts.NarrowCounts.{NarrowCounts}
 use Rattle.spp_ways.specs.declared.log.Merged.{Merged}
 use Rattle.spp_ways.specs.declared.log.Counts.{Counts}
-use Rattle.spp_ways.specs.declared.log.Counts.TheVariants.{Narrow, Wide, Sums}
+use Rattle.spp_ways.specs.declared.log.Counts.TheVariants.{Narrow, Wide, Merged as MergedCounts}
 
--- A closed frame, and for either path how the ways lead on from it; or what was merged. The names are those of the fields of
+-- A closed frame, or what was merged, and for either path how the ways lead on from it. The names are those of the fields of
 -- `FrameCounts` and `Place`.
 pub record LoggedRow : Type 0 where
   pub work : ℕ
@@ -52,12 +52,12 @@ widened c = record { work = c.work; span = c.span; own = c.own; burdened_own = c
 abbrev pub frame_counts : Counts → FrameCounts
 frame_counts (Narrow c) = widened c
 frame_counts (Wide c) = c.value.counts
-frame_counts (Sums m) = record { work = 0; span = 0; own = 0; burdened_own = 0 }
+frame_counts (MergedCounts m) = record { work = 0; span = 0; own = 0; burdened_own = 0 }
 
 abbrev pub merged_sums : Counts → Option (Box Merged)
 merged_sums (Narrow c) = None
 merged_sums (Wide c) = None
-merged_sums (Sums m) = Some m
+merged_sums (MergedCounts m) = Some m
 
 abbrev pub stored_row : Place → Counts → LoggedRow
 stored_row p c = logged_row p (frame_counts c) (merged_sums c)

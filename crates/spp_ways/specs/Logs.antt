@@ -1,5 +1,5 @@
 -- A log of closed frames, and the ways that end in it.
-use Rattle.std.specs.Prelude.{◌≡◌, ℕ, suc, ◌≤◌, ◌<◌, Bool, cond, nat_eq, List, [], ◌∷◌, length, reverse, Option, Some, None}
+use Rattle.std.specs.Prelude.{◌≡◌, ℕ, zero, suc, ◌≤◌, ◌<◌, Bool, cond, nat_eq, List, [], ◌∷◌, length, reverse, Option, Some, None}
 use Rattle.spp_dag.specs.declared.row.Row.{Row}
 use Rattle.spp_dag.specs.Shares.{plus, zero_row}
 use Rattle.spp_dag.specs.Steps.{same_key}
@@ -47,21 +47,23 @@ merged_row on r (Some m) key = merged_on on m.value key
 abbrev pub row_on : Bool → LogRow → Option ℕ → Row
 row_on on r key = merged_row on r r.merged key
 
--- a row for what was merged, with no way before it or within it
-pub record IsMergedRow (m : Merged) (r : LogRow) : Type 0 where
+-- A row for what was merged, which leads on either path to the way that ends with the to-th row, or to nothing where `to` is 0,
+-- and with no way within it.
+pub record IsMergedRow (to : ℕ) (m : Merged) (r : LogRow) : Type 0 where
   pub box : Box Merged
   pub merged : r.merged ≡ Some box
   pub value : box.value ≡ m
-  pub before : r.before ≡ 0
+  pub before : r.before ≡ to
   pub within : r.within ≡ 0
-  pub burdened_before : r.burdened_before ≡ 0
+  pub burdened_before : r.burdened_before ≡ to
   pub burdened_within : r.burdened_within ≡ 0
   pub site : r.site ≡ 0
 
 -- ---- the ways
 
--- What the way that ends with the k-th row of a log, whose rows are told the last first, adds to the row of a key; nothing
--- where k is 0. It is what the way adds that leads to the frame of that row, the way through it, and the frame itself.
+-- What the way that ends with the k-th row of a log, whose rows are told the last first and counted from 1, adds to the row of
+-- a key; nothing where k is 0. It is what the way adds that leads to the frame of that row, the way through it, and the frame
+-- itself.
 abbrev pub way_row : Bool → List LogRow → ℕ → Option ℕ → Row
 way_row on [] k key = zero_row
 way_row on (r ∷ rs) k key = cond (nat_eq k (suc (length rs)))
@@ -70,6 +72,32 @@ way_row on (r ∷ rs) k key = cond (nat_eq k (suc (length rs)))
 
 abbrev pub row_in : Bool → Log → ℕ → Option ℕ → Row
 row_in on log k key = way_row on (reverse log.rows.items) k key
+
+-- ---- what a way has behind a prefix
+
+-- where the way ends that leads to the frame of the k-th row; 0 where k is
+abbrev pub before_at : Bool → List LogRow → ℕ → ℕ
+before_at on [] k = 0
+before_at on (r ∷ rs) k = cond (nat_eq k (suc (length rs))) (before_on on r) (before_at on rs k)
+
+-- the way k without the last n frames that it enters one after the other, and without the ways through these
+abbrev pub led : Bool → List LogRow → ℕ → ℕ → ℕ
+led on log zero k = k
+led on log (suc n) k = before_at on log (led on log n k)
+
+-- The way p is a prefix of the way k: it is k, or a prefix of the way to the frame of k's last row.
+abbrev pub HasPrefix : Bool → List LogRow → ℕ → ℕ → Type 0
+HasPrefix on log k p = (n : ℕ) × (led on log n k ≡ p)
+
+-- What the way k adds behind its prefix p: its last frames, and the ways through them. It is all that k adds where p is 0.
+abbrev pub rest_row : Bool → List LogRow → ℕ → ℕ → Option ℕ → Row
+rest_row on [] k p key = zero_row
+rest_row on (r ∷ rs) k p key = cond (nat_eq k (suc (length rs)))
+    (cond (nat_eq k p) zero_row (plus (rest_row on rs (before_on on r) p key) (plus (way_row on rs (within_on on r) key) (row_on on r key))))
+    (rest_row on rs k p key)
+
+abbrev pub rest_in : Bool → Log → ℕ → ℕ → Option ℕ → Row
+rest_in on log k p key = rest_row on (reverse log.rows.items) k p key
 
 -- a row leads to rows before it alone
 pub record IsLinked (n : ℕ) (r : LogRow) : Type 0 where

@@ -148,7 +148,7 @@ waited takes w = record { along = chosen takes w; through = nothing }
 abbrev pub waited_frame : OnPaths → FrameWays → FrameWays
 waited_frame takes f = frame_ways (waited takes.plain (plain_of f)) (waited takes.burdened (burdened_of f)) f.start f.stored f.limit
 
--- their rows have been merged into these two of the log
+-- their rows have been merged: they end with these two of the log
 abbrev pub merged_ways : ℕ → ℕ → LoggedWays → LoggedWays
 merged_ways along through w = record { along = record { rows = along; own = w.along.own }; through = record { rows = through; own = w.through.own } }
 
@@ -157,10 +157,10 @@ pub record AreMerged (along through : ℕ) (f g : FrameWays) : Type 0 where
   pub burdened : burdened_of g ≡ merged_ways along through (burdened_of f)
   pub start : g.start ≡ f.start
 
--- the innermost frame has two rows or more
+-- the innermost frame has three rows or more
 abbrev pub HasRowsOf : ℕ → List FrameWays → Type 0
 HasRowsOf n [] = ⊥
-HasRowsOf n (f ∷ fs) = f.start + 2 ≤ n
+HasRowsOf n (f ∷ fs) = f.start + 3 ≤ n
 
 abbrev pub HasRows : OpenWays → Type 0
 HasRows o = HasRowsOf (length o.log.rows.items) (reverse o.frames.items)

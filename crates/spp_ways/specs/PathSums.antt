@@ -38,6 +38,10 @@ left_before r w = record { plain = cond (ends false w) r.before w.plain; burdene
 abbrev pub left_within : LogRow → BothWays → BothWays
 left_within r w = record { plain = cond (ends false w) r.within 0; burdened = cond (ends true w) r.burdened_within 0 }
 
+-- each of the ways, or 0 where it is at its stop
+abbrev pub unless_at : BothWays → BothWays → BothWays
+unless_at stops w = record { plain = cond (nat_eq w.plain stops.plain) 0 w.plain; burdened = cond (nat_eq w.burdened stops.burdened) 0 w.burdened }
+
 -- they are put behind others, unless neither enters a row
 abbrev pub put_ways : List BothWays → BothWays → List BothWays
 put_ways ws w = cond (nat_eq (last_of w) 0) ws (ws ++ (w ∷ []))

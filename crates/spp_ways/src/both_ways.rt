@@ -1,7 +1,7 @@
 //! Two ways that are walked together, one on either path.
 
-ghost use Rattle.std.specs.Prelude.{◌≡◌, OnOk};
-ghost use Rattle.spp_ways.specs.PathSums.{last_of, left_before, left_within, put_ways};
+ghost use Rattle.std.specs.Prelude.{◌≡◌, nat_eq, cond, OnOk};
+ghost use Rattle.spp_ways.specs.PathSums.{unless_at, last_of, left_before, left_within, put_ways};
 
 use crate::log::LogRow;
 use std::alloc::AllocError;
@@ -13,6 +13,14 @@ pub(crate) struct BothWays {
     pub(crate) plain: u32,
     /// And the one under them.
     pub(crate) burdened: u32,
+}
+
+/// What is left of a way that is walked to that stop: nothing, once it is there.
+#[inline(always)]
+fn left_of(way: u32, stop: u32) -> u32
+    ensures { result ≡ cond (nat_eq way stop) 0 way }
+{
+    if way == stop { 0 } else { way }
 }
 
 impl BothWays {
@@ -62,6 +70,17 @@ impl BothWays {
             } else {
                 0
             },
+        }
+    }
+
+    /// Each of the two ways, or 0 where it is at its stop: there a walk ends. Which one is longer isn't looked at.
+    #[inline(always)]
+    pub(crate) fn unless_at(self, stops: BothWays) -> Self
+        ensures { result ≡ unless_at stops self }
+    {
+        BothWays {
+            plain: left_of(self.plain, stops.plain),
+            burdened: left_of(self.burdened, stops.burdened),
         }
     }
 

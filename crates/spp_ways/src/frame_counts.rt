@@ -1,6 +1,6 @@
 //! What a closed frame counts.
 
-ghost use Rattle.std.specs.Prelude.{◌≡◌, IfSome};
+ghost use Rattle.std.specs.Prelude.{◌≡◌, ◌≤◌, ◌^◌, max, IfNone, IfSome};
 ghost use Rattle.spp_ways.specs.LogRows.{widened};
 
 /// What a closed frame counts, in instructions. 64 bytes.
@@ -59,7 +59,8 @@ impl FrameCounts {
     /// The same counts, if all of them fit 64 bits. There is one test for all four.
     #[inline(always)]
     pub(crate) fn narrowed(&self) -> Option<NarrowCounts>
-        ensures { IfSome result (λ c. widened c ≡ self.now) }
+        ensures same { IfSome result (λ c. widened c ≡ self.now) }
+        ensures wide { IfNone result (2 ^ 64 ≤ max (max self.now.work self.now.span) (max self.now.own self.now.burdened_own)) }
     {
         if self.work | self.span | self.own | self.burdened_own > u128::from(u64::MAX) {
             return None;

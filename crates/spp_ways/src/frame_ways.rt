@@ -71,7 +71,7 @@ impl LoggedWays {
         }
     }
 
-    /// Those, where their rows have been merged into these two of the log.
+    /// Those, where their rows have been merged: they end with these two of the log.
     pub(crate) fn merged(self, along: u32, through: u32) -> Self
         ensures { result ≡ merged_ways along through self }
     {
@@ -304,7 +304,7 @@ impl FrameWays {
         *self = FrameWays::of(plain, burdened, self.start, self.stored, self.limit);
     }
 
-    /// The frame, where the rows of its ways have been merged into these two of the log, which store so many rows.
+    /// The frame, where the rows of its ways have been merged: they end with these two of the log, and so many rows are stored.
     pub(crate) fn merged(self, along: u32, through: u32, stored: u32) -> Self
         ensures ways { AreMerged along through self result }
         ensures stored { result.stored ≡ stored }
@@ -378,11 +378,11 @@ impl FrameWays {
     /// Whether its rows are to be merged, where the log has so many, and none are before it has more than `room`.
     #[inline(always)]
     pub(crate) fn is_full(&self, rows: u32, room: u32) -> bool
-        ensures full { result ≡ (if nat_lt room rows then nat_lt (max (self.now.limit - self.now.stored) 1) (rows - self.now.start) else false) }
-        ensures two { result ≡ true → self.now.start + 2 ≤ rows }
+        ensures full { result ≡ (if nat_lt room rows then nat_lt (max (self.now.limit - self.now.stored) 2) (rows - self.now.start) else false) }
+        ensures three { result ≡ true → self.now.start + 3 ≤ rows }
     {
         let most = self.limit.saturating_sub(self.stored);
-        rows > room && rows.saturating_sub(self.start) > most.max(1)
+        rows > room && rows.saturating_sub(self.start) > most.max(2)
     }
 
     /// The way on which the frame goes on where it waits, on that path: without burdens, or under them.

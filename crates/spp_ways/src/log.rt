@@ -7,16 +7,13 @@ ghost use Rattle.spp_site.specs.Rows.{Fits};
 ghost use Rattle.spp_site.specs.Profiles.{key_row};
 ghost use Rattle.spp_ways.specs.LogRows.{frame_counts, logged_row};
 ghost use Rattle.spp_ways.specs.Logs.{AreLinked, IsMergedRow, before_on, within_on, closed_on, merged_on, row_on, row_in};
-ghost use Rattle.spp_ways.specs.PathSums.{way_of, sums_on};
 ghost use Rattle.spp_ways.specs.Enclosures.{enclosure_of};
 ghost use Rattle.spp_ways.specs.Stretches.{outer_row, joined_row, FitLinks};
 ghost use Rattle.spp_ways.specs.declared.log.LogRow.{LogRow as LogRowValue};
 ghost use Rattle.spp_ways.specs.declared.log.Merged.{Merged as MergedValue};
 
-use crate::both_ways::BothWays;
 use crate::enclosing::Enclosing;
 use crate::frame_counts::{FrameCounts, NO_COUNTS, NO_NARROW_COUNTS, NarrowCounts, WideCounts};
-use crate::path_sums::{EmptyPathSums, PathSums};
 use crate::place::{Links, NO_PLACE, Place};
 use spp_site::{ClosedFrame, EmptySums, NarrowList, NarrowSums};
 use std::alloc::{AllocError, Global};
@@ -27,7 +24,7 @@ use std::marker::Model;
 const OUTER_WAY: u32 = 65537;
 
 /// What the rows of ways come to, on the path without burdens and on that under them. Most rows are entered on both with the same
-/// numbers: what these come to is stored once.
+/// numbers: what these come to is stored once, but for what `Log::merge` says.
 pub(crate) struct Merged {
     /// What both paths have alike.
     pub(crate) common: NarrowList,
@@ -52,7 +49,7 @@ impl Drop for Merged {
 
 impl Merged {
     /// Nothing. It takes no memory.
-    fn none(alloc: Global) -> Self
+    pub(crate) fn none(alloc: Global) -> Self
         ensures { (on : Bool) (key : Option ℕ) → merged_on on result key ≡ zero_row }
     {
         Merged {
@@ -73,7 +70,7 @@ impl Merged {
         }
     }
 
-    /// How many rows are stored: what it takes to add them to others.
+    /// How many rows are stored: what it takes to add them to others. Contracts say nothing of it, since they see only the sums.
     pub(crate) fn len(&self) -> usize {
         let alone = self
             .plain
@@ -91,7 +88,7 @@ enum Counts {
     /// A frame one of whose counts doesn't.
     Wide(Box<WideCounts>),
     /// In place of a frame, what was merged.
-    Sums(Box<Merged>),
+    Merged(Box<Merged>),
 }
 
 impl Counts {
@@ -103,13 +100,13 @@ impl Counts {
         match self {
             Counts::Narrow(counts) => counts.widened(),
             Counts::Wide(wide) => wide.counts,
-            Counts::Sums(_) => NO_COUNTS,
+            Counts::Merged(_) => NO_COUNTS,
         }
     }
 }
 
-/// A closed frame, and for either path how the ways lead on from it; or what the rows of two ways come to. Contracts see the
-/// frame's counts as numbers, however they are stored.
+/// A closed frame, or what rows of ways come to, and for either path how the ways lead on from it. Contracts see the frame's
+/// counts as numbers, however they are stored.
 ///
 /// It takes 64 bytes: rows are made by the million, read on another core and copied, and most of that time goes by waiting for
 /// the memory in which they lie. Seldom something lies beside it: 64 bytes more where a count of the frame doesn't fit 64 bits,
@@ -138,17 +135,21 @@ impl Model for LogRow {
 }
 
 impl LogRow {
-    /// A row for what was merged, with no way before it or within it.
+    /// A row for what was merged, with no way within it, which leads on either path to the way that ends behind so many rows.
     ///
     /// # Errors
     ///
     /// Where an allocation failed.
-    fn of_merged(alloc: Global, merged: Merged) -> Result<Self, AllocError>
-        ensures { IfOk result (λ r. IsMergedRow merged r) }
+    fn of_merged(alloc: Global, before: u32, merged: Merged) -> Result<Self, AllocError>
+        ensures { IfOk result (λ r. IsMergedRow before merged r) }
     {
         Ok(LogRow {
-            place: NO_PLACE,
-            counts: Counts::Sums(Box::new(alloc, merged)?),
+            place: Place {
+                before,
+                burdened_before: before,
+                ..NO_PLACE
+            },
+            counts: Counts::Merged(Box::new(alloc, merged)?),
         })
     }
 
@@ -173,7 +174,7 @@ impl LogRow {
         self.place.site
     }
 
-    /// Where the way ends that leads to the frame in its parent: without burdens, or under them.
+    /// Where the way ends that leads to the frame in its parent, or to what was merged: without burdens, or under them.
     #[inline(always)]
     pub(crate) fn before(&self, burdened: bool) -> u32
         ensures { result ≡ before_on burdened self.now }
@@ -203,7 +204,7 @@ impl LogRow {
         ensures { MatchOption result (self.now.merged ≡ None) (λ m. (box : Box MergedValue) × (self.now.merged ≡ Some box) × (box.value ≡ m.now)) }
     {
         match &self.counts {
-            Counts::Sums(merged) => Some(merged),
+            Counts::Merged(merged) => Some(merged),
             _ => None,
         }
     }
@@ -251,7 +252,7 @@ impl LogRow {
 /// where rows behind its last one are cut off.
 #[derive(Drop)]
 pub(crate) struct Log {
-    rows: Vec<LogRow>,
+    pub(crate) rows: Vec<LogRow>,
 }
 
 impl Log {
@@ -402,7 +403,7 @@ impl Log {
                 place,
                 counts: Counts::Narrow(*narrow),
             }),
-            // No row of a stretch was merged.
+            // No row of a stretch was merged: see `IsStretch`.
             counts => self.put_wide(place, counts.of_frame()),
         }
     }
@@ -458,10 +459,9 @@ impl Log {
         Ok(())
     }
 
-    /// What the rows of a way come to, without burdens or under them, and the empty sums that were passed to add them up. It
-    /// takes constant time for each frame, time linear in what is stored for each row that was merged, a step for each site number
-    /// that those sums didn't reach before, and memory for as many numbers as closed frames nest, besides that of the sums. Where
-    /// the way has no rows it takes no memory. No clause says that the memory of the sums is used again.
+    /// What the rows of a way come to, without burdens or under them. It takes constant time for each frame, time linear in what
+    /// is stored for each row that was merged, a step for each site number up to the greatest, and memory for as many numbers as
+    /// closed frames nest, besides that of the sums. Where the way has no rows it takes no memory.
     ///
     /// # Errors
     ///
@@ -469,96 +469,40 @@ impl Log {
     pub(crate) fn summed(
         &self,
         alloc: Global,
-        room: EmptySums,
         burdened: bool,
         way: u32,
-    ) -> Result<(NarrowList, EmptySums), AllocError>
+    ) -> Result<NarrowList, AllocError>
         requires linked { AreLinked (reverse self.now.rows.items) }
         requires way { way ≤ length self.now.rows.items }
         requires fits { (key : Option ℕ) → Fits (row_in burdened self.now way key) }
-        ensures { IfOk result (λ p. (key : Option ℕ) → key_row p.0 key ≡ row_in burdened self.now way key) }
+        ensures { IfOk result (λ list. (key : Option ℕ) → key_row list key ≡ row_in burdened self.now way key) }
     {
         if way == 0 {
-            return Ok((NarrowList::none(alloc), room));
+            return Ok(NarrowList::none(alloc));
         }
-        let mut sums = room.into_sums();
+        let mut sums = EmptySums::new(alloc).into_sums();
         self.add_up(alloc, burdened, way, &mut sums)?;
-        sums.into_list(alloc)
+        let list = sums.into_list(alloc)?;
+        Ok(list.0)
     }
 
-    /// Adds the rows of two ways to sums, one on the path without burdens and one on that under them. The ways are walked
-    /// together, so that a row that both enter is met once.
+    /// Puts what was merged behind the other rows, and gives the number of rows then. The row leads on either path to the way that
+    /// ends behind so many rows.
     ///
     /// # Errors
     ///
     /// Where an allocation failed.
-    fn add_up_both(
-        &self,
+    pub(crate) fn push_merged(
+        &mut self,
         alloc: Global,
-        ways: BothWays,
-        sums: &mut PathSums,
-    ) -> Result<(), AllocError>
-        requires linked { AreLinked (reverse self.now.rows.items) }
-        requires ways { (on : Bool) → way_of on ways ≤ length self.now.rows.items }
-        requires fits { (on : Bool) (key : Option ℕ) → Fits (plus (sums_on on sums.old key) (row_in on self.now (way_of on ways) key)) }
-        ensures { OnOk result ((on : Bool) (key : Option ℕ) → sums_on on sums.new key ≡ plus (sums_on on sums.old key) (row_in on self.now (way_of on ways) key)) }
-    {
-        let mut left = Vec::new(alloc);
-        ways.put(&mut left)?;
-        while let Some(both) = left.pop() {
-            let last = both.last();
-            let row = &self.rows[last as usize - 1];
-            sums.add(row, both)?;
-            both.left_before(row).put(&mut left)?;
-            both.left_within(row).put(&mut left)?;
-        }
-        Ok(())
-    }
-
-    /// What the rows of two ways come to, one on the path without burdens and one on that under them, and the empty sums that were
-    /// passed to add them up. It takes constant time for each frame that either enters, once where both do, time linear in what is
-    /// stored for each row that was merged, and a step for each site number that those sums didn't reach before; and memory for as
-    /// many pairs of ways as closed frames nest, besides that of the sums. Where neither way has rows it takes no memory. No clause
-    /// says that the memory of the sums is used again.
-    ///
-    /// # Errors
-    ///
-    /// Where an allocation failed.
-    pub(crate) fn merge(
-        &self,
-        alloc: Global,
-        room: EmptyPathSums,
-        plain: u32,
-        burdened: u32,
-    ) -> Result<(Merged, EmptyPathSums), AllocError>
-        requires linked { AreLinked (reverse self.now.rows.items) }
-        requires plain { plain ≤ length self.now.rows.items }
-        requires burdened { burdened ≤ length self.now.rows.items }
-        requires plain_fits { (key : Option ℕ) → Fits (row_in false self.now plain key) }
-        requires burdened_fits { (key : Option ℕ) → Fits (row_in true self.now burdened key) }
-        ensures plain { IfOk result (λ p. (key : Option ℕ) → merged_on false p.0 key ≡ row_in false self.now plain key) }
-        ensures burdened { IfOk result (λ p. (key : Option ℕ) → merged_on true p.0 key ≡ row_in true self.now burdened key) }
-    {
-        let ways = BothWays { plain, burdened };
-        if ways.last() == 0 {
-            return Ok((Merged::none(alloc), room));
-        }
-        let mut sums = room.into_sums();
-        self.add_up_both(alloc, ways, &mut sums)?;
-        sums.into_merged(alloc)
-    }
-
-    /// Puts what was merged behind the other rows, and gives the number of rows then.
-    ///
-    /// # Errors
-    ///
-    /// Where an allocation failed.
-    pub(crate) fn push_merged(&mut self, alloc: Global, merged: Merged) -> Result<u32, AllocError>
+        before: u32,
+        merged: Merged,
+    ) -> Result<u32, AllocError>
         requires { length self.old.rows.items + 1 < 2 ^ 32 }
-        ensures row { OnOk result ((r : LogRowValue) × IsMergedRow merged r × (self.new.rows.items ≡ self.old.rows.items ++ (r ∷ []))) }
+        ensures row { OnOk result ((r : LogRowValue) × IsMergedRow before merged r × (self.new.rows.items ≡ self.old.rows.items ++ (r ∷ []))) }
         ensures count { IfOk result (λ n. n ≡ length self.old.rows.items + 1) }
     {
-        let row = LogRow::of_merged(alloc, merged)?;
+        let row = LogRow::of_merged(alloc, before, merged)?;
         self.push(row)
     }
 }

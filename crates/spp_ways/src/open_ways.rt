@@ -42,6 +42,7 @@ ghost use Rattle.spp_ways.specs.Stretches.{
   CanJoin,
 };
 
+use crate::both_ways::BothWays;
 use crate::enclosing::Enclosing;
 use crate::frame_counts::FrameCounts;
 use crate::frame_ways::FrameWays;
@@ -53,7 +54,7 @@ use spp_site::{ClosedFrame, EmptySums, Table};
 use std::alloc::{AllocError, Global};
 use std::mem;
 
-/// A yes or a no for each of both paths.
+/// A yes or a no for each of the two paths.
 #[derive(Clone, Copy, Debug, PartialEq, Eq)]
 pub struct OnPaths {
     /// For the path without burdens.
@@ -88,7 +89,7 @@ impl LoggedStretch {
     }
 }
 
-/// Whether the way through a frame of that kind, which returns, is kept on either path.
+/// Whether the way through a frame of that kind, which returns, is kept on one path at least.
 #[inline(always)]
 fn is_entered(kind: FrameKind, wins: OnPaths) -> bool
     ensures { result ≡ entered kind wins }
@@ -100,38 +101,40 @@ fn is_entered(kind: FrameKind, wins: OnPaths) -> bool
     }
 }
 
-/// The least number of rows of a frame at which they are merged; where there are more than twice as many call sites, half of
-/// these, since merging can take a step for each.
+/// The rows of a frame are merged where they are more than this, and more than half the number of call sites, since merging can
+/// take a step for each.
 const LEAST_LIMIT: u32 = 256;
 
 /// No rows are merged while the log has at most so many: they lie in the processor's nearer caches.
 const LEAST_ROOM: u32 = 4096;
 
-/// Nor while it has at most so many for each call site: what is merged has two rows for most, and six at worst.
+/// Nor while it has at most so many for each call site: what is merged has one to three rows for most, and nine at worst.
 const ROOM_OF_A_SITE: u32 = 4;
 
 /// Where more rows are stored than that, it doesn't matter how many.
 const MOST_STORED: usize = u32::MAX as usize;
 
 /// The ways into the open frames of a run, without burdens and under them: for each frame the greatest way along the frame
-/// itself, and the greatest way through a child that waits in it, with the closed frames that they enter. Which child a
-/// frame takes, and which of two children is kept, is told by whoever keeps their weights.
+/// itself, and the greatest way through a child that waits in it, with the closed frames that they enter. Of the spawned
+/// children that returned since the frame's last sync the one with the greatest way waits, the first of several; at a sync the
+/// frame takes it or goes on along itself. Both are told by whoever keeps the ways' weights.
 ///
 /// A closed frame that a way enters takes a row of 64 bytes in a log, or twice that where its work, its span or the count of
 /// its own strands on a way doesn't fit 64 bits; rows behind the last one that a way ends with are cut off. Where the log has
 /// over 4,096 rows, and over four for each of the trace's call sites, and over 256 of these are an open frame's, and over half
-/// as many as sites, those of its ways are merged: what they add to each site is stored, for each way what both paths add
-/// alike, and what either adds besides. Each of these takes some 128 bytes, or up to twice that, for each site that was met
-/// whose number is below 1,024 or whose sums don't fit 64 bits, and 64 bytes for each other one. Three tables, of what both
-/// paths have alike and of the rest of each, are kept to be used again: 58 bytes for each site number up to the greatest that
-/// it had, or up to twice that, and up to 64 KiB. Ways are merged again where what was stored and what came behind it are more
-/// than that, and more than twice what was stored. An open frame takes 96 bytes besides. Each step takes constant time,
-/// amortized. After an error the ways are of no use.
+/// as many as sites, those of its ways are merged into three rows: one for what the way along the frame and that through the
+/// child share, and one for what each has besides. For each is stored what it adds to each site: what both paths add alike, and
+/// what each adds besides. Each of these takes some 128 bytes, or up to twice that, for each site that was met whose number is
+/// below 1,024 or whose sums don't fit 64 bits, and 64 bytes for each other one. Three tables, of what both paths have alike
+/// and of the rest of each, are kept to be used again: 58 bytes for each site number up to the greatest that it had, or up to
+/// twice that, and up to 64 KiB. Ways are merged again where what was stored and what came behind it are more than those 256,
+/// or half as many as sites, and more than twice what was stored. An open frame takes 96 bytes besides. Each event takes
+/// constant time, amortized. After an error the ways are of no use.
 #[derive(Drop)]
 pub struct OpenWays {
     frames: Vec<FrameWays>,
     log: Log,
-    /// Of how many rows a frame that is opened has its own merged.
+    /// A frame that is opened has its rows merged where they are more than that.
     limit: u32,
     /// How many rows the log may have before any are merged. No clause says so: the ways are the same.
     room: u32,
@@ -202,7 +205,7 @@ impl OpenWays {
         frame.burdened_own += u128::from(count);
     }
 
-    /// The innermost frame waits for its children; on which paths it takes the child that waits.
+    /// A sync of the innermost frame; on which paths it takes the child that waits.
     #[inline(always)]
     pub fn wait(&mut self, takes: OnPaths)
         requires laid { IsLaid self.old }
@@ -221,8 +224,10 @@ impl OpenWays {
         self.log.cut(needed);
     }
 
-    /// Merges the rows of the innermost frame. It takes time linear in the numbers of its rows, of those that are stored for them,
-    /// and of call sites.
+    /// Merges the rows of the innermost frame. Three stand for them then, each for both paths: one for what the way along it
+    /// and that through the child that waits in it share, and one for what each has besides, which leads to the first. It takes
+    /// time linear in the numbers of its rows, of those that are stored for them, and of call sites. No clause says that any
+    /// are merged: the ways are the same.
     ///
     /// # Errors
     ///
@@ -241,27 +246,29 @@ impl OpenWays {
     {
         let last = self.frames.len() - 1;
         let frame = self.frames[last];
+        let along = BothWays {
+            plain: frame.plain_rows,
+            burdened: frame.burdened_rows,
+        };
+        let through = BothWays {
+            plain: frame.plain_through_rows,
+            burdened: frame.burdened_through_rows,
+        };
         let sums = mem::replace(&mut self.sums, EmptyPathSums::new(alloc));
-        let along = self
-            .log
-            .merge(alloc, sums, frame.plain_rows, frame.burdened_rows)?;
-        let through = self.log.merge(
-            alloc,
-            along.1,
-            frame.plain_through_rows,
-            frame.burdened_through_rows,
-        )?;
-        self.sums = through.1;
-        let stored = along.0.len().saturating_add(through.0.len());
+        let ways = self.log.merge(alloc, sums, along, through)?;
+        self.sums = ways.1;
+        let merged = ways.0;
+        let stored = merged.len().min(MOST_STORED) as u32;
         self.log.cut(frame.start);
-        let along = self.log.push_merged(alloc, along.0)?;
-        let through = self.log.push_merged(alloc, through.0)?;
-        self.frames[last] = frame.merged(along, through, stored.min(MOST_STORED) as u32);
+        let shared = self.log.push_merged(alloc, 0, merged.shared)?;
+        let along = self.log.push_merged(alloc, shared, merged.along)?;
+        let through = self.log.push_merged(alloc, shared, merged.through)?;
+        self.frames[last] = frame.merged(along, through, stored);
         Ok(())
     }
 
-    /// The innermost frame returns to the one below, as for [`OpenWays::ret`]; whether the rows of the latter are to be
-    /// merged then.
+    /// The innermost frame returns to its parent, as for [`OpenWays::ret`], but no rows are merged. Gives whether the parent's are
+    /// to be merged then.
     #[inline(always)]
     fn put(
         &mut self,
@@ -317,7 +324,7 @@ impl OpenWays {
         Ok(parent.is_full(rows, self.room))
     }
 
-    /// The innermost frame returns to the one below. `kind` and `site` tell how it was entered; `takes` on which paths it
+    /// The innermost frame returns to its parent. `kind` and `site` tell how it was entered; `takes` on which paths it
     /// takes the child that waits in it. For a spawned frame `wins` tells on which paths the way through it is heavier than
     /// that through the child that waits in the frame below, or none waits there; a tie is no win. `closed` is the frame as
     /// the table of the whole dag counts it; its `local` isn't used, since the ways have their own strands.
@@ -351,7 +358,7 @@ impl OpenWays {
         Ok(())
     }
 
-    /// The innermost frame of a stretch returns to the one below, as for [`OpenWays::ret`]; `caller` is the function of its
+    /// The innermost frame of a stretch returns to its parent, as for [`OpenWays::ret`]; `caller` is the function of its
     /// caller, or `OUTER_CALLER`, and `closed` the frame as a table of the stretch alone counts it. No rows are merged.
     ///
     /// # Errors
@@ -520,11 +527,9 @@ impl OpenWays {
         ensures { IfOk result (λ t. (ways : List Ways) → AreWays burdened self.now ways → (key : Option ℕ) → key_row t key ≡ rows_at (root_rows (on_path burdened takes) (bare_row closed.now) ways) key) }
     {
         let way = self.frames[self.frames.len() - 1].chosen_on(burdened, takes);
-        let rows = self
-            .log
-            .summed(alloc, EmptySums::new(alloc), burdened, way.rows)?;
+        let rows = self.log.summed(alloc, burdened, way.rows)?;
         let mut table = Table::new(alloc);
-        rows.0.add_to(&mut table)?;
+        rows.add_to(&mut table)?;
         let root = ClosedFrame {
             local: way.own,
             ..*closed

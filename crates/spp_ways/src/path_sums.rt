@@ -12,8 +12,8 @@ use spp_site::{EmptySums, NarrowSums};
 use std::alloc::{AllocError, Global};
 
 /// What rows of ways add up to on both paths. Most are entered on both with the same numbers: those are added once. It takes the
-/// memory of three [`NarrowSums`], of which the second and the third have only sites that one path enters differently from the
-/// other. After an error they are of no use.
+/// memory of three [`NarrowSums`], of which the second and the third have only what isn't entered on both at once with the same
+/// numbers. After an error they are of no use.
 #[derive(Drop)]
 pub(crate) struct PathSums {
     /// What both paths have alike.
@@ -25,9 +25,9 @@ pub(crate) struct PathSums {
 }
 
 impl PathSums {
-    /// Adds the row with which the one of two ways ends that ends later in the log, or both: on each path whose way ends with it. It
-    /// takes constant time for a frame, amortized, and a step for each site number that the sums didn't reach before; for a row
-    /// that was merged, time linear in what is stored.
+    /// Adds the row with which the one of two ways ends that ends later in the log, or both: on each path whose way ends with
+    /// it. It takes constant time for a frame, amortized, and a step for each site number that the sums didn't reach before;
+    /// for a row that was merged, time linear in what is stored.
     ///
     /// # Errors
     ///

@@ -72,7 +72,7 @@ pub(crate) struct Place {
     pub(crate) top_caller: bool,
 }
 
-/// That of no frame, for what was merged: no way leads to it or through it.
+/// That of no frame: no way leads to it or through it.
 pub(crate) const NO_PLACE: Place = Place {
     before: 0,
     within: 0,

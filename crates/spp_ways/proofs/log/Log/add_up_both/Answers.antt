@@ -16,7 +16,7 @@ loop-both-init c =
     let items : List LogRow = c.args.self.now.rows.items in
     let log : List LogRow = reverse items in
     let w : BothWays = c.args.ways in
-    let put : c.put.new.left.items ≡ put_ways [] w = c.in_ok-put.ensures ∙ ap (λ (l : List BothWays). put_ways l w) c.new-left.ensures.items in
+    let put : c.put.new.left.items ≡ put_ways [] w = c.in_ok-put.ensures ∙ ap (λ (l : List BothWays). put_ways l w) c.requires.empty in
     record {
       within = λ on. subst (λ (l : List BothWays). AllIn (length items) (ways_on on l)) (sym put) (first_in (length items) on w (c.requires.ways on));
       some = subst AllSome (sym put) (first_some w);

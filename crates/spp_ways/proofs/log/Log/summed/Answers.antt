@@ -5,7 +5,6 @@ use Rattle.spp_site.specs.Rows.{Fits}
 use Rattle.spp_site.proofs.Rows.{zero-plus}
 use Rattle.spp_ways.specs.Logs.{row_in}
 use Rattle.spp_ways.proofs.Staying.{rows_none}
-use Rattle.spp_ways.proofs.Summing.{if_made}
 use Rattle.spp_ways.proofs.log.Log.summed.Goals as goal
 
 pub returns-then-way-eq0 : goal.returns-then-way-eq0
@@ -24,7 +23,6 @@ into_list-requires c key =
     subst Fits (sym (c.in_ok-add_up.ensures key ∙ ap (λ x. plus x r) (c.into_sums-sums.ensures key) ∙ zero-plus r)) (c.requires.fits key)
 
 pub returns : goal.returns
-returns c = if_made _ _
-    (λ p same key. same key ∙ c.in_ok-add_up.ensures key ∙ ap (λ x. plus x (row_in c.args.burdened c.args.self.now c.args.way key)) (c.into_sums-sums.ensures key)
-    ∙ zero-plus (row_in c.args.burdened c.args.self.now c.args.way key))
-    c.into_list.result c.into_list.ensures
+returns c key =
+    let r : Row = row_in c.args.burdened c.args.self.now c.args.way key in
+    c.in_ok-list.ensures key ∙ c.in_ok-add_up.ensures key ∙ ap (λ x. plus x r) (c.into_sums-sums.ensures key) ∙ zero-plus r

@@ -148,8 +148,8 @@ merge-requires-clause-many c =
     let at : c.len-last.result - 1 ≡ length new - 1 = omega (arith, c.len-last.ensures, o.frames.ok.0) in
     let top : x ≡ t.top = c.index-then-alone.ensures ∙ ap (λ (k : ℕ). get_or new k x) at ∙ t.get x in
     let start : x.start ≡ t.top.start = ap (λ (g : FrameWays). g.start) top in
-    let two : x.start + 2 ≤ c.len-then-alone.result = c.is_full.ensures.two c.if-is_full.true in
-    subst (HasRowsOf (length c.open_inner.new.self.log.rows.items)) (sym t.is) (let z : t.top.start + 2 ≤ length c.open_inner.new.self.log.rows.items = omega (arith, c.len-then-alone.ensures) in z)
+    let three : x.start + 3 ≤ c.len-then-alone.result = c.is_full.ensures.three c.if-is_full.true in
+    subst (HasRowsOf (length c.open_inner.new.self.log.rows.items)) (sym t.is) (let z : t.top.start + 3 ≤ length c.open_inner.new.self.log.rows.items = omega (arith, c.len-then-alone.ensures) in z)
 
 pub returns-in_ok-merge-clause-ways : goal.returns-in_ok-merge-clause-ways
 returns-in_ok-merge-clause-ways c on base w ws us are is_base enclosed =

@@ -1,273 +1,112 @@
-use Rattle.std.proofs.Common.{◌≡◌, ℕ, ◌+◌, ◌-◌, ◌≤◌, ◌<◌, Bool, true, false, List, [], ◌∷◌, ◌++◌, length, Option, reverse, take, get_or, set, ap, subst, sym, ◌∙◌, arith}
-use Rattle.std.proofs.lemmas.List.{length-take-le, length-reverse, length-append}
-use Rattle.spp_site.specs.Rows.{Fits}
-use Rattle.spp_site.proofs.LastFirst.{topped}
-use Rattle.spp_ways.specs.declared.log.Merged.{Merged}
+use Rattle.std.proofs.Common.{◌≡◌, ◌+◌, ◌≤◌, ◌<◌, List, [], ◌∷◌, ◌++◌, length, reverse, take, ap, subst, sym, arith}
+use Rattle.std.proofs.lemmas.List.{length-take-le, length-append}
 use Rattle.spp_ways.specs.declared.log.LogRow.{LogRow}
 use Rattle.spp_ways.specs.declared.frame_ways.FrameWays.{FrameWays}
 use Rattle.spp_ways.specs.declared.open_ways.OpenWays.{OpenWays}
-use Rattle.spp_ways.specs.Logs.{way_row, merged_on, AreLinked}
-use Rattle.spp_ways.specs.OpenWays.{AllWays, HasRowsOf, Laid, path_of, AreMerged}
-use Rattle.spp_ways.proofs.Merging.{top_fits, has_frame, merge_linked, merge_laid, merge_ways, rows_are}
+use Rattle.spp_ways.specs.OpenWays.{AllWays, HasRowsOf, Laid}
+use Rattle.spp_ways.proofs.Merging.{top_in, top_fits, top_parts, Innermost, innermost, Redone, redone}
+use Rattle.spp_ways.proofs.open_ways.OpenWays.merge.Goals.{After-index-frame, After-cut, After-merged}
 use Rattle.spp_ways.proofs.open_ways.OpenWays.merge.Goals as goal
 
-both_are : (log : List LogRow) (f : FrameWays) (m n : Merged) → ((key : Option ℕ) → merged_on false m key ≡ way_row false log f.plain_rows key)
-    → ((key : Option ℕ) → merged_on true m key ≡ way_row true log f.burdened_rows key) → ((key : Option ℕ) → merged_on false n key ≡ way_row false log f.plain_through_rows key)
-    → ((key : Option ℕ) → merged_on true n key ≡ way_row true log f.burdened_through_rows key) → (on : Bool)
-    → ((key : Option ℕ) → merged_on on m key ≡ way_row on log (path_of on f).along.rows key) × ((key : Option ℕ) → merged_on on n key ≡ way_row on log (path_of on f).through.rows key)
-both_are log f m n a b c d false = (a, c)
-both_are log f m n a b c d true = (b, d)
-
-pub merge-requires-clause-plain_fits : goal.merge-requires-clause-plain_fits
-merge-requires-clause-plain_fits c key =
+-- the innermost frame
+begun : (c : After-index-frame) → Innermost c.args.self.now c.len-last.result c.index-frame.result.now
+begun c =
     let o : OpenWays = c.args.self.now in
-    let fs : List FrameWays = o.frames.items in
-    let items : List LogRow = o.log.rows.items in
-    let some : 0 < length fs = (let z = has_frame o c.requires.many in let n = length-reverse fs in omega arith) in
-    let t = topped fs some in
-    let at : c.len-last.result - 1 ≡ length fs - 1 = omega (arith, c.len-last.ensures, o.frames.ok.0) in
-    let old : FrameWays = c.index-frame.result.now in
-    let top : old ≡ t.top = c.index-frame.ensures ∙ ap (λ k. get_or fs k old) at ∙ t.get old in
-    let laid : Laid (length items) (t.top ∷ t.below) = subst (Laid (length items)) t.is c.requires.laid.frames in
-    let fits = λ (on : Bool). top_fits on (reverse items) t.top t.below (c.requires.fits on).0 (subst (λ (l : List FrameWays). AllWays on (reverse items) l (c.requires.fits on).0) t.is (c.requires.fits on).1) (c.requires.fits on).2 in
-    subst (λ (f : FrameWays). Fits (way_row false (reverse items) f.plain_rows key)) (sym top) ((fits false).0 key)
+    innermost o c.requires.many c.len-last.result (omega (arith, c.len-last.ensures, o.frames.ok.0)) c.index-frame.result.now c.index-frame.ensures
 
-pub merge-requires-clause-burdened_fits : goal.merge-requires-clause-burdened_fits
-merge-requires-clause-burdened_fits c key =
-    let o : OpenWays = c.args.self.now in
-    let fs : List FrameWays = o.frames.items in
-    let items : List LogRow = o.log.rows.items in
-    let some : 0 < length fs = (let z = has_frame o c.requires.many in let n = length-reverse fs in omega arith) in
-    let t = topped fs some in
-    let at : c.len-last.result - 1 ≡ length fs - 1 = omega (arith, c.len-last.ensures, o.frames.ok.0) in
-    let old : FrameWays = c.index-frame.result.now in
-    let top : old ≡ t.top = c.index-frame.ensures ∙ ap (λ k. get_or fs k old) at ∙ t.get old in
-    let laid : Laid (length items) (t.top ∷ t.below) = subst (Laid (length items)) t.is c.requires.laid.frames in
-    let fits = λ (on : Bool). top_fits on (reverse items) t.top t.below (c.requires.fits on).0 (subst (λ (l : List FrameWays). AllWays on (reverse items) l (c.requires.fits on).0) t.is (c.requires.fits on).1) (c.requires.fits on).2 in
-    subst (λ (f : FrameWays). Fits (way_row true (reverse items) f.burdened_rows key)) (sym top) ((fits true).0 key)
+laid : (c : After-index-frame) → Laid (length c.args.self.now.log.rows.items) (c.index-frame.result.now ∷ (begun c).below)
+laid c = subst (Laid (length c.args.self.now.log.rows.items)) (begun c).is c.requires.laid.frames
 
-pub merge-requires-clause-plain : goal.merge-requires-clause-plain
-merge-requires-clause-plain c =
-    let o : OpenWays = c.args.self.now in
-    let fs : List FrameWays = o.frames.items in
-    let items : List LogRow = o.log.rows.items in
-    let some : 0 < length fs = (let z = has_frame o c.requires.many in let n = length-reverse fs in omega arith) in
-    let t = topped fs some in
-    let at : c.len-last.result - 1 ≡ length fs - 1 = omega (arith, c.len-last.ensures, o.frames.ok.0) in
-    let old : FrameWays = c.index-frame.result.now in
-    let top : old ≡ t.top = c.index-frame.ensures ∙ ap (λ k. get_or fs k old) at ∙ t.get old in
-    let laid : Laid (length items) (t.top ∷ t.below) = subst (Laid (length items)) t.is c.requires.laid.frames in
-    subst (λ (f : FrameWays). f.plain_rows ≤ length items) (sym top) laid.1.0
+pub merge-requires-clause-along : goal.merge-requires-clause-along
+merge-requires-clause-along c on =
+    let a = (goal.at.merge-requires-clause-along c).After-index-frame in
+    (top_in on (length c.args.self.now.log.rows.items) c.index-frame.result.now (begun a).below (laid a)).0
 
-pub merge-requires-2-clause-plain : goal.merge-requires-2-clause-plain
-merge-requires-2-clause-plain c =
-    let o : OpenWays = c.args.self.now in
-    let fs : List FrameWays = o.frames.items in
-    let items : List LogRow = o.log.rows.items in
-    let some : 0 < length fs = (let z = has_frame o c.requires.many in let n = length-reverse fs in omega arith) in
-    let t = topped fs some in
-    let at : c.len-last.result - 1 ≡ length fs - 1 = omega (arith, c.len-last.ensures, o.frames.ok.0) in
-    let old : FrameWays = c.index-frame.result.now in
-    let top : old ≡ t.top = c.index-frame.ensures ∙ ap (λ k. get_or fs k old) at ∙ t.get old in
-    let laid : Laid (length items) (t.top ∷ t.below) = subst (Laid (length items)) t.is c.requires.laid.frames in
-    subst (λ (f : FrameWays). f.plain_through_rows ≤ length items) (sym top) laid.1.1
+pub merge-requires-clause-through : goal.merge-requires-clause-through
+merge-requires-clause-through c on =
+    let a = (goal.at.merge-requires-clause-through c).After-index-frame in
+    (top_in on (length c.args.self.now.log.rows.items) c.index-frame.result.now (begun a).below (laid a)).1
 
-pub merge-requires-clause-burdened : goal.merge-requires-clause-burdened
-merge-requires-clause-burdened c =
-    let o : OpenWays = c.args.self.now in
-    let fs : List FrameWays = o.frames.items in
-    let items : List LogRow = o.log.rows.items in
-    let some : 0 < length fs = (let z = has_frame o c.requires.many in let n = length-reverse fs in omega arith) in
-    let t = topped fs some in
-    let at : c.len-last.result - 1 ≡ length fs - 1 = omega (arith, c.len-last.ensures, o.frames.ok.0) in
-    let old : FrameWays = c.index-frame.result.now in
-    let top : old ≡ t.top = c.index-frame.ensures ∙ ap (λ k. get_or fs k old) at ∙ t.get old in
-    let laid : Laid (length items) (t.top ∷ t.below) = subst (Laid (length items)) t.is c.requires.laid.frames in
-    subst (λ (f : FrameWays). f.burdened_rows ≤ length items) (sym top) laid.2.0
+pub merge-requires-clause-along_fits : goal.merge-requires-clause-along_fits
+merge-requires-clause-along_fits c on =
+    let log : List LogRow = reverse c.args.self.now.log.rows.items in
+    let b = begun (goal.at.merge-requires-clause-along_fits c).After-index-frame in
+    let f = c.requires.fits on in
+    (top_fits on log c.index-frame.result.now b.below f.0 (subst (λ (l : List FrameWays). AllWays on log l f.0) b.is f.1) f.2).0
 
-pub merge-requires-2-clause-burdened : goal.merge-requires-2-clause-burdened
-merge-requires-2-clause-burdened c =
-    let o : OpenWays = c.args.self.now in
-    let fs : List FrameWays = o.frames.items in
-    let items : List LogRow = o.log.rows.items in
-    let some : 0 < length fs = (let z = has_frame o c.requires.many in let n = length-reverse fs in omega arith) in
-    let t = topped fs some in
-    let at : c.len-last.result - 1 ≡ length fs - 1 = omega (arith, c.len-last.ensures, o.frames.ok.0) in
-    let old : FrameWays = c.index-frame.result.now in
-    let top : old ≡ t.top = c.index-frame.ensures ∙ ap (λ k. get_or fs k old) at ∙ t.get old in
-    let laid : Laid (length items) (t.top ∷ t.below) = subst (Laid (length items)) t.is c.requires.laid.frames in
-    subst (λ (f : FrameWays). f.burdened_through_rows ≤ length items) (sym top) laid.2.1
+pub merge-requires-clause-through_fits : goal.merge-requires-clause-through_fits
+merge-requires-clause-through_fits c on =
+    let log : List LogRow = reverse c.args.self.now.log.rows.items in
+    let b = begun (goal.at.merge-requires-clause-through_fits c).After-index-frame in
+    let f = c.requires.fits on in
+    (top_fits on log c.index-frame.result.now b.below f.0 (subst (λ (l : List FrameWays). AllWays on log l f.0) b.is f.1) f.2).1
 
-pub merge-requires-2-clause-plain_fits : goal.merge-requires-2-clause-plain_fits
-merge-requires-2-clause-plain_fits c key =
-    let o : OpenWays = c.args.self.now in
-    let fs : List FrameWays = o.frames.items in
-    let items : List LogRow = o.log.rows.items in
-    let some : 0 < length fs = (let z = has_frame o c.requires.many in let n = length-reverse fs in omega arith) in
-    let t = topped fs some in
-    let at : c.len-last.result - 1 ≡ length fs - 1 = omega (arith, c.len-last.ensures, o.frames.ok.0) in
-    let old : FrameWays = c.index-frame.result.now in
-    let top : old ≡ t.top = c.index-frame.ensures ∙ ap (λ k. get_or fs k old) at ∙ t.get old in
-    let laid : Laid (length items) (t.top ∷ t.below) = subst (Laid (length items)) t.is c.requires.laid.frames in
-    let fits = λ (on : Bool). top_fits on (reverse items) t.top t.below (c.requires.fits on).0 (subst (λ (l : List FrameWays). AllWays on (reverse items) l (c.requires.fits on).0) t.is (c.requires.fits on).1) (c.requires.fits on).2 in
-    subst (λ (f : FrameWays). Fits (way_row false (reverse items) f.plain_through_rows key)) (sym top) ((fits false).1 key)
-
-pub merge-requires-2-clause-burdened_fits : goal.merge-requires-2-clause-burdened_fits
-merge-requires-2-clause-burdened_fits c key =
-    let o : OpenWays = c.args.self.now in
-    let fs : List FrameWays = o.frames.items in
-    let items : List LogRow = o.log.rows.items in
-    let some : 0 < length fs = (let z = has_frame o c.requires.many in let n = length-reverse fs in omega arith) in
-    let t = topped fs some in
-    let at : c.len-last.result - 1 ≡ length fs - 1 = omega (arith, c.len-last.ensures, o.frames.ok.0) in
-    let old : FrameWays = c.index-frame.result.now in
-    let top : old ≡ t.top = c.index-frame.ensures ∙ ap (λ k. get_or fs k old) at ∙ t.get old in
-    let laid : Laid (length items) (t.top ∷ t.below) = subst (Laid (length items)) t.is c.requires.laid.frames in
-    let fits = λ (on : Bool). top_fits on (reverse items) t.top t.below (c.requires.fits on).0 (subst (λ (l : List FrameWays). AllWays on (reverse items) l (c.requires.fits on).0) t.is (c.requires.fits on).1) (c.requires.fits on).2 in
-    subst (λ (f : FrameWays). Fits (way_row true (reverse items) f.burdened_through_rows key)) (sym top) ((fits true).1 key)
+-- there is room for the three rows
+kept : (c : After-cut) → length c.cut.new.self.rows.items + 3 ≤ length c.args.self.now.log.rows.items
+kept c =
+    let items : List LogRow = c.args.self.now.log.rows.items in
+    let f : FrameWays = c.index-frame.result.now in
+    let b = begun (goal.at.After-cut c).After-index-frame in
+    let many : f.start + 3 ≤ length items = subst (HasRowsOf (length items)) b.is c.requires.many in
+    let cut : length c.cut.new.self.rows.items ≡ length (take f.start items) = ap (λ (l : List LogRow). length l) c.cut.ensures in
+    let n = length-take-le f.start items (omega arith) in
+    omega arith
 
 pub push_merged-requires : goal.push_merged-requires
 push_merged-requires c =
-    let o : OpenWays = c.args.self.now in
-    let fs : List FrameWays = o.frames.items in
-    let items : List LogRow = o.log.rows.items in
-    let some : 0 < length fs = (let z = has_frame o c.requires.many in let n = length-reverse fs in omega arith) in
-    let t = topped fs some in
-    let at : c.len-last.result - 1 ≡ length fs - 1 = omega (arith, c.len-last.ensures, o.frames.ok.0) in
-    let old : FrameWays = c.index-frame.result.now in
-    let top : old ≡ t.top = c.index-frame.ensures ∙ ap (λ k. get_or fs k old) at ∙ t.get old in
-    let laid : Laid (length items) (t.top ∷ t.below) = subst (Laid (length items)) t.is c.requires.laid.frames in
-    let many : t.top.start + 2 ≤ length items = subst (HasRowsOf (length items)) t.is c.requires.many in
-    let begin : old.start ≡ t.top.start = ap (λ (f : FrameWays). f.start) top in
-    let cut : c.cut.new.self.rows.items ≡ take t.top.start items = c.cut.ensures ∙ ap (λ k. take k items) begin in
-    let short : length (take t.top.start items) ≡ t.top.start = length-take-le t.top.start items (omega arith) in
-    let left : length c.cut.new.self.rows.items ≡ t.top.start = ap (λ (l : List LogRow). length l) cut ∙ short in
-    (let z : length items < 4294967296 = c.requires.few in omega arith)
+    let k = kept (goal.at.push_merged-requires c).After-cut in
+    let z : length c.args.self.now.log.rows.items < 4294967296 = c.requires.few in
+    omega arith
 
 pub push_merged-requires-2 : goal.push_merged-requires-2
 push_merged-requires-2 c =
+    let k = kept (goal.at.push_merged-requires-2 c).After-cut in
+    let z : length c.args.self.now.log.rows.items < 4294967296 = c.requires.few in
+    let x = c.in_ok-shared.ensures.row in
+    let w : length c.push_merged.new.self.rows.items ≡ length (c.cut.new.self.rows.items ++ (x.0 ∷ [])) = ap (λ (l : List LogRow). length l) x.2 in
+    let l = length-append c.cut.new.self.rows.items (x.0 ∷ []) in
+    omega arith
+
+pub push_merged-requires-3 : goal.push_merged-requires-3
+push_merged-requires-3 c =
+    let k = kept (goal.at.push_merged-requires-3 c).After-cut in
+    let z : length c.args.self.now.log.rows.items < 4294967296 = c.requires.few in
+    let x = c.in_ok-shared.ensures.row in
+    let w : length c.push_merged.new.self.rows.items ≡ length (c.cut.new.self.rows.items ++ (x.0 ∷ [])) = ap (λ (l : List LogRow). length l) x.2 in
+    let l = length-append c.cut.new.self.rows.items (x.0 ∷ []) in
+    let y = c.in_ok-along.ensures.row in
+    let v : length c.push_merged-2.new.self.rows.items ≡ length (c.push_merged.new.self.rows.items ++ (y.0 ∷ [])) = ap (λ (l : List LogRow). length l) y.2 in
+    let m = length-append c.push_merged.new.self.rows.items (y.0 ∷ []) in
+    omega arith
+
+-- what merging comes to
+done : (c : After-merged) → Redone c.args.self.now c.push_merged-3.new.self.rows.items c.merged.result (begun (goal.at.After-merged c).After-index-frame).below
+done c =
     let o : OpenWays = c.args.self.now in
-    let fs : List FrameWays = o.frames.items in
-    let items : List LogRow = o.log.rows.items in
-    let some : 0 < length fs = (let z = has_frame o c.requires.many in let n = length-reverse fs in omega arith) in
-    let t = topped fs some in
-    let at : c.len-last.result - 1 ≡ length fs - 1 = omega (arith, c.len-last.ensures, o.frames.ok.0) in
-    let old : FrameWays = c.index-frame.result.now in
-    let top : old ≡ t.top = c.index-frame.ensures ∙ ap (λ k. get_or fs k old) at ∙ t.get old in
-    let laid : Laid (length items) (t.top ∷ t.below) = subst (Laid (length items)) t.is c.requires.laid.frames in
-    let many : t.top.start + 2 ≤ length items = subst (HasRowsOf (length items)) t.is c.requires.many in
-    let begin : old.start ≡ t.top.start = ap (λ (f : FrameWays). f.start) top in
-    let cut : c.cut.new.self.rows.items ≡ take t.top.start items = c.cut.ensures ∙ ap (λ k. take k items) begin in
-    let short : length (take t.top.start items) ≡ t.top.start = length-take-le t.top.start items (omega arith) in
-    let left : length c.cut.new.self.rows.items ≡ t.top.start = ap (λ (l : List LogRow). length l) cut ∙ short in
-    let x = c.in_ok-along-2.ensures.row in
-    let w : length c.push_merged.new.self.rows.items ≡ length c.cut.new.self.rows.items + 1 = ap (λ (l : List LogRow). length l) x.2 ∙ length-append c.cut.new.self.rows.items (x.0 ∷ []) in
-    (let z : length items < 4294967296 = c.requires.few in omega arith)
+    let f : FrameWays = c.index-frame.result.now in
+    let b = begun (goal.at.After-merged c).After-index-frame in
+    redone o c.requires.laid f b.below b.is c.requires.many c.in_ok-ways.ways.0
+    (top_parts (reverse o.log.rows.items) f c.in_ok-ways.ways.0 c.in_ok-ways.ensures.along c.in_ok-ways.ensures.through)
+    c.cut.new.self.rows.items c.push_merged.new.self.rows.items c.push_merged-2.new.self.rows.items c.push_merged-3.new.self.rows.items
+    c.in_ok-shared.shared c.in_ok-along.along c.in_ok-through.through c.cut.ensures
+    c.in_ok-shared.ensures.row c.in_ok-shared.ensures.count c.in_ok-along.ensures.row c.in_ok-along.ensures.count c.in_ok-through.ensures.row c.in_ok-through.ensures.count
+    c.merged.result c.merged.ensures.ways
 
 pub returns-clause-laid : goal.returns-clause-laid
 returns-clause-laid c =
-    let o : OpenWays = c.args.self.now in
-    let fs : List FrameWays = o.frames.items in
-    let items : List LogRow = o.log.rows.items in
-    let some : 0 < length fs = (let z = has_frame o c.requires.many in let n = length-reverse fs in omega arith) in
-    let t = topped fs some in
-    let at : c.len-last.result - 1 ≡ length fs - 1 = omega (arith, c.len-last.ensures, o.frames.ok.0) in
-    let old : FrameWays = c.index-frame.result.now in
-    let top : old ≡ t.top = c.index-frame.ensures ∙ ap (λ k. get_or fs k old) at ∙ t.get old in
-    let laid : Laid (length items) (t.top ∷ t.below) = subst (Laid (length items)) t.is c.requires.laid.frames in
-    let many : t.top.start + 2 ≤ length items = subst (HasRowsOf (length items)) t.is c.requires.many in
-    let begin : old.start ≡ t.top.start = ap (λ (f : FrameWays). f.start) top in
-    let cut : c.cut.new.self.rows.items ≡ take t.top.start items = c.cut.ensures ∙ ap (λ k. take k items) begin in
-    let short : length (take t.top.start items) ≡ t.top.start = length-take-le t.top.start items (omega arith) in
-    let left : length c.cut.new.self.rows.items ≡ t.top.start = ap (λ (l : List LogRow). length l) cut ∙ short in
-    let x = c.in_ok-along-2.ensures.row in
-    let y = c.in_ok-through-2.ensures.row in
-    let log : c.push_merged-2.new.self.rows.items ≡ (take t.top.start items ++ (x.0 ∷ [])) ++ (y.0 ∷ []) =
-    y.2 ∙ ap (λ (l : List LogRow). l ++ (y.0 ∷ [])) (x.2 ∙ ap (λ (l : List LogRow). l ++ (x.0 ∷ [])) cut) in
-    let along : c.in_ok-along-2.along ≡ t.top.start + 1 = (let z = c.in_ok-along-2.ensures.count in omega arith) in
-    let through : c.in_ok-through-2.through ≡ t.top.start + 2 =
-    (let z = c.in_ok-through-2.ensures.count in let w : length c.push_merged.new.self.rows.items ≡ length c.cut.new.self.rows.items + 1 = ap (λ (l : List LogRow). length l) x.2 ∙ length-append c.cut.new.self.rows.items (x.0 ∷ []) in omega arith) in
-    let merged : AreMerged (t.top.start + 1) (t.top.start + 2) t.top c.merged.result =
-    subst (λ (k : ℕ). AreMerged k (t.top.start + 2) t.top c.merged.result) along (subst (λ (k : ℕ). AreMerged c.in_ok-along-2.along k t.top c.merged.result) through
-    (subst (λ (f : FrameWays). AreMerged c.in_ok-along-2.along c.in_ok-through-2.through f c.merged.result) top c.merged.ensures.ways)) in
-    let frames : reverse (set fs (c.len-last.result - 1) c.merged.result) ≡ c.merged.result ∷ t.below = ap (λ (k : ℕ). reverse (set fs k c.merged.result)) at ∙ t.put c.merged.result in
-    let are = both_are (reverse items) t.top c.in_ok-along.along.0 c.in_ok-through.through.0
-    (λ key. c.in_ok-along.ensures.plain key ∙ ap (λ (f : FrameWays). way_row false (reverse items) f.plain_rows key) top)
-    (λ key. c.in_ok-along.ensures.burdened key ∙ ap (λ (f : FrameWays). way_row true (reverse items) f.burdened_rows key) top)
-    (λ key. c.in_ok-through.ensures.plain key ∙ ap (λ (f : FrameWays). way_row false (reverse items) f.plain_through_rows key) top)
-    (λ key. c.in_ok-through.ensures.burdened key ∙ ap (λ (f : FrameWays). way_row true (reverse items) f.burdened_through_rows key) top) in
+    let a = (goal.at.returns-clause-laid c).After-merged in
+    let b = begun (goal.at.returns-clause-laid c).After-index-frame in
+    let d = done a in
     record {
-      linked = subst (λ (l : List LogRow). AreLinked (reverse l)) (sym log) (merge_linked items t.top t.below c.requires.laid.linked laid c.in_ok-along.along.0 c.in_ok-through.through.0 x.0 y.0 x.1 y.1 are);
-      frames = subst (λ (l : List LogRow). Laid (length l) (reverse (set fs (c.len-last.result - 1) c.merged.result))) (sym log)
-          (subst (λ (l : List FrameWays). Laid (length ((take t.top.start items ++ (x.0 ∷ [])) ++ (y.0 ∷ []))) l) (sym frames) (merge_laid items t.top t.below c.requires.laid.linked laid c.in_ok-along.along.0 c.in_ok-through.through.0 x.0 y.0 x.1 y.1 are c.merged.result merged));
+      linked = d.linked;
+      frames = subst (λ (l : List FrameWays). Laid (length c.push_merged-3.new.self.rows.items) l) (sym (b.put c.merged.result)) d.laid;
     }
 
 pub returns-clause-ways : goal.returns-clause-ways
 returns-clause-ways c on ws h =
-    let o : OpenWays = c.args.self.now in
-    let fs : List FrameWays = o.frames.items in
-    let items : List LogRow = o.log.rows.items in
-    let some : 0 < length fs = (let z = has_frame o c.requires.many in let n = length-reverse fs in omega arith) in
-    let t = topped fs some in
-    let at : c.len-last.result - 1 ≡ length fs - 1 = omega (arith, c.len-last.ensures, o.frames.ok.0) in
-    let old : FrameWays = c.index-frame.result.now in
-    let top : old ≡ t.top = c.index-frame.ensures ∙ ap (λ k. get_or fs k old) at ∙ t.get old in
-    let laid : Laid (length items) (t.top ∷ t.below) = subst (Laid (length items)) t.is c.requires.laid.frames in
-    let many : t.top.start + 2 ≤ length items = subst (HasRowsOf (length items)) t.is c.requires.many in
-    let begin : old.start ≡ t.top.start = ap (λ (f : FrameWays). f.start) top in
-    let cut : c.cut.new.self.rows.items ≡ take t.top.start items = c.cut.ensures ∙ ap (λ k. take k items) begin in
-    let short : length (take t.top.start items) ≡ t.top.start = length-take-le t.top.start items (omega arith) in
-    let left : length c.cut.new.self.rows.items ≡ t.top.start = ap (λ (l : List LogRow). length l) cut ∙ short in
-    let x = c.in_ok-along-2.ensures.row in
-    let y = c.in_ok-through-2.ensures.row in
-    let log : c.push_merged-2.new.self.rows.items ≡ (take t.top.start items ++ (x.0 ∷ [])) ++ (y.0 ∷ []) =
-    y.2 ∙ ap (λ (l : List LogRow). l ++ (y.0 ∷ [])) (x.2 ∙ ap (λ (l : List LogRow). l ++ (x.0 ∷ [])) cut) in
-    let along : c.in_ok-along-2.along ≡ t.top.start + 1 = (let z = c.in_ok-along-2.ensures.count in omega arith) in
-    let through : c.in_ok-through-2.through ≡ t.top.start + 2 =
-    (let z = c.in_ok-through-2.ensures.count in let w : length c.push_merged.new.self.rows.items ≡ length c.cut.new.self.rows.items + 1 = ap (λ (l : List LogRow). length l) x.2 ∙ length-append c.cut.new.self.rows.items (x.0 ∷ []) in omega arith) in
-    let merged : AreMerged (t.top.start + 1) (t.top.start + 2) t.top c.merged.result =
-    subst (λ (k : ℕ). AreMerged k (t.top.start + 2) t.top c.merged.result) along (subst (λ (k : ℕ). AreMerged c.in_ok-along-2.along k t.top c.merged.result) through
-    (subst (λ (f : FrameWays). AreMerged c.in_ok-along-2.along c.in_ok-through-2.through f c.merged.result) top c.merged.ensures.ways)) in
-    let frames : reverse (set fs (c.len-last.result - 1) c.merged.result) ≡ c.merged.result ∷ t.below = ap (λ (k : ℕ). reverse (set fs k c.merged.result)) at ∙ t.put c.merged.result in
-    let are = both_are (reverse items) t.top c.in_ok-along.along.0 c.in_ok-through.through.0
-    (λ key. c.in_ok-along.ensures.plain key ∙ ap (λ (f : FrameWays). way_row false (reverse items) f.plain_rows key) top)
-    (λ key. c.in_ok-along.ensures.burdened key ∙ ap (λ (f : FrameWays). way_row true (reverse items) f.burdened_rows key) top)
-    (λ key. c.in_ok-through.ensures.plain key ∙ ap (λ (f : FrameWays). way_row false (reverse items) f.plain_through_rows key) top)
-    (λ key. c.in_ok-through.ensures.burdened key ∙ ap (λ (f : FrameWays). way_row true (reverse items) f.burdened_through_rows key) top) in
-    subst (λ (l : List LogRow). AllWays on (reverse l) (reverse (set fs (c.len-last.result - 1) c.merged.result)) ws) (sym log)
-    (subst (λ (l : List FrameWays). AllWays on (reverse ((take t.top.start items ++ (x.0 ∷ [])) ++ (y.0 ∷ []))) l ws) (sym frames)
-    (merge_ways items t.top t.below c.requires.laid.linked laid c.in_ok-along.along.0 c.in_ok-through.through.0 x.0 y.0 x.1 y.1 are c.merged.result merged on ws (subst (λ (l : List FrameWays). AllWays on (reverse items) l ws) t.is h)))
+    let a = (goal.at.returns-clause-ways c).After-merged in
+    let b = begun (goal.at.returns-clause-ways c).After-index-frame in
+    subst (λ (l : List FrameWays). AllWays on (reverse c.push_merged-3.new.self.rows.items) l ws) (sym (b.put c.merged.result)) ((done a).ways on ws h)
 
 pub returns-clause-rows : goal.returns-clause-rows
-returns-clause-rows c =
-    let o : OpenWays = c.args.self.now in
-    let fs : List FrameWays = o.frames.items in
-    let items : List LogRow = o.log.rows.items in
-    let some : 0 < length fs = (let z = has_frame o c.requires.many in let n = length-reverse fs in omega arith) in
-    let t = topped fs some in
-    let at : c.len-last.result - 1 ≡ length fs - 1 = omega (arith, c.len-last.ensures, o.frames.ok.0) in
-    let old : FrameWays = c.index-frame.result.now in
-    let top : old ≡ t.top = c.index-frame.ensures ∙ ap (λ k. get_or fs k old) at ∙ t.get old in
-    let laid : Laid (length items) (t.top ∷ t.below) = subst (Laid (length items)) t.is c.requires.laid.frames in
-    let many : t.top.start + 2 ≤ length items = subst (HasRowsOf (length items)) t.is c.requires.many in
-    let begin : old.start ≡ t.top.start = ap (λ (f : FrameWays). f.start) top in
-    let cut : c.cut.new.self.rows.items ≡ take t.top.start items = c.cut.ensures ∙ ap (λ k. take k items) begin in
-    let short : length (take t.top.start items) ≡ t.top.start = length-take-le t.top.start items (omega arith) in
-    let left : length c.cut.new.self.rows.items ≡ t.top.start = ap (λ (l : List LogRow). length l) cut ∙ short in
-    let x = c.in_ok-along-2.ensures.row in
-    let y = c.in_ok-through-2.ensures.row in
-    let log : c.push_merged-2.new.self.rows.items ≡ (take t.top.start items ++ (x.0 ∷ [])) ++ (y.0 ∷ []) =
-    y.2 ∙ ap (λ (l : List LogRow). l ++ (y.0 ∷ [])) (x.2 ∙ ap (λ (l : List LogRow). l ++ (x.0 ∷ [])) cut) in
-    let along : c.in_ok-along-2.along ≡ t.top.start + 1 = (let z = c.in_ok-along-2.ensures.count in omega arith) in
-    let through : c.in_ok-through-2.through ≡ t.top.start + 2 =
-    (let z = c.in_ok-through-2.ensures.count in let w : length c.push_merged.new.self.rows.items ≡ length c.cut.new.self.rows.items + 1 = ap (λ (l : List LogRow). length l) x.2 ∙ length-append c.cut.new.self.rows.items (x.0 ∷ []) in omega arith) in
-    let merged : AreMerged (t.top.start + 1) (t.top.start + 2) t.top c.merged.result =
-    subst (λ (k : ℕ). AreMerged k (t.top.start + 2) t.top c.merged.result) along (subst (λ (k : ℕ). AreMerged c.in_ok-along-2.along k t.top c.merged.result) through
-    (subst (λ (f : FrameWays). AreMerged c.in_ok-along-2.along c.in_ok-through-2.through f c.merged.result) top c.merged.ensures.ways)) in
-    let frames : reverse (set fs (c.len-last.result - 1) c.merged.result) ≡ c.merged.result ∷ t.below = ap (λ (k : ℕ). reverse (set fs k c.merged.result)) at ∙ t.put c.merged.result in
-    let are = both_are (reverse items) t.top c.in_ok-along.along.0 c.in_ok-through.through.0
-    (λ key. c.in_ok-along.ensures.plain key ∙ ap (λ (f : FrameWays). way_row false (reverse items) f.plain_rows key) top)
-    (λ key. c.in_ok-along.ensures.burdened key ∙ ap (λ (f : FrameWays). way_row true (reverse items) f.burdened_rows key) top)
-    (λ key. c.in_ok-through.ensures.plain key ∙ ap (λ (f : FrameWays). way_row false (reverse items) f.plain_through_rows key) top)
-    (λ key. c.in_ok-through.ensures.burdened key ∙ ap (λ (f : FrameWays). way_row true (reverse items) f.burdened_through_rows key) top) in
-    (let z : length c.push_merged-2.new.self.rows.items ≡ t.top.start + 2 = ap (λ (l : List LogRow). length l) log ∙ rows_are items t.top t.below c.requires.laid.linked laid c.in_ok-along.along.0 c.in_ok-through.through.0 x.0 y.0 x.1 y.1 are in omega arith)
+returns-clause-rows c = (done (goal.at.returns-clause-rows c).After-merged).count

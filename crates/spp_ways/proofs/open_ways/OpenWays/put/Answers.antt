@@ -273,5 +273,5 @@ returns-clause-many c more =
     let rows : length c.push_frame.new.self.rows.items ≡ c.in_ok-rows.rows =
     (let x = c.in_ok-rows.ensures.count in let y : length c.push_frame.new.self.rows.items ≡ length (c.cut-2.new.self.rows.items ++ (row c.chosen-plain.result c.chosen-burdened.result old ∷ [])) = ap (λ (l : List LogRow). length l) c.in_ok-rows.ensures.row in
     let z = length-append c.cut-2.new.self.rows.items (row c.chosen-plain.result c.chosen-burdened.result old ∷ []) in omega arith) in
-    let full : old.start + 2 ≤ c.in_ok-rows.rows = subst (λ k. k + 2 ≤ c.in_ok-rows.rows) (ap (λ (f : FrameWays). f.start) (c.inherit.ensures.2 ∙ ap counted c.come.ensures)) (c.is_full.ensures.two more) in
-    subst (HasRowsOf (length c.push_frame.new.self.rows.items)) (sym frames) (let z : g.start + 2 ≤ length c.push_frame.new.self.rows.items = omega arith in z)
+    let full : old.start + 3 ≤ c.in_ok-rows.rows = subst (λ k. k + 3 ≤ c.in_ok-rows.rows) (ap (λ (f : FrameWays). f.start) (c.inherit.ensures.2 ∙ ap counted c.come.ensures)) (c.is_full.ensures.three more) in
+    subst (HasRowsOf (length c.push_frame.new.self.rows.items)) (sym frames) (let z : g.start + 3 ≤ length c.push_frame.new.self.rows.items = omega arith in z)
