@@ -99,10 +99,9 @@ each_refused() { # NAME STATUS STARTS OUT ERR INPUT PROGRAM WORDS..: what the pr
 # Each call twice: of the crew figures, profile, the same in three rounds, and marks by two workers, with 1, 1, 4 and 3 threads.
 each_refused 'the calls' 0 18 "$(cat "$tests/../crates/memory_probe/stdout")" '' /dev/null "$probe"
 
-# A round has a thread for each worker but one. `profile` by several workers of a trace of many call sites and at most 2^22
-# events, which is read whole, has three rounds, and settles its paths on two threads; of any other, which comes in blocks, it
-# has a thread for each block that it doesn't read itself, and of many call sites one for the rows of a block that are kept
-# aside. With one worker it has none.
+# A round has a thread for each worker but one, and three rounds settle their paths on two threads. What goes by blocks has a
+# thread for each block that the first doesn't read itself, and a profile of many call sites one for the rows of a block that
+# are kept aside. With one worker it has none.
 examples=$tests/../examples
 head -c 23 "$examples/small.sptrace" > "$folder/short"
 { head -c 100 "$examples/small.sptrace"; head -c 16 /dev/zero | tr '\0' '\5'; } > "$folder/tag"
@@ -125,10 +124,10 @@ printf '%s\n' 'func main' 'func f' 'site A' 'strand 1' 'spawn 0 1' 'strand 4' 'r
     'sync' 'strand 3' | "$spprof" encode > "$folder/two"
 each_refused 'figures by workers' 0 1 'work 10*' '' "$folder/two" "$spprof" figures --workers 2
 each_refused 'profile by workers' 0 1 'name,count*' '' "$folder/two" "$spprof" profile --csv --parts 9 --workers 2
-# The same run, where there are so many call sites that it is read whole, and a profile takes three rounds.
+# The same run, where there are many call sites.
 { awk 'BEGIN { print "func main\nfunc f"; for (n = 0; n < 1025; n++) printf "site s%d\n", n }' && printf '%s\n' 'strand 1' \
     'spawn 0 1' 'strand 4' 'return' 'spawn 0 1' 'strand 2' 'return' 'sync' 'strand 3'; } | "$spprof" encode > "$folder/many"
-each_refused 'profile in three rounds' 0 4 'name,count*' '' "$folder/many" "$spprof" profile --csv --parts 9 --workers 2
+each_refused 'profile of many call sites' 0 1 'name,count*' '' "$folder/many" "$spprof" profile --csv --parts 9 --workers 2
 # The same in version 2: one block as well.
 "$spprof" migrate < "$folder/two" > "$folder/two.compact"
 each_refused 'figures by workers, version 2' 0 1 'work 10*' '' "$folder/two.compact" "$spprof" figures --workers 2
@@ -147,14 +146,13 @@ each_refused 'profile over blocks through a pipe' 0 '[45]' 'name,count*' '' "|$f
 "$spprof" migrate < "$folder/blocks" > "$folder/blocks.compact"
 each_refused 'profile over blocks, version 2' 0 3 'name,count*' '' "$folder/blocks.compact" "$spprof" profile --csv --workers 2
 # Blocks of so many call sites that other threads add up the rows of the first three and of the fifth; the fourth has none,
-# and the sixth is slow to join. The header claims more events, so many that the trace isn't read whole.
+# and the sixth is slow to join.
 { awk 'BEGIN { print "func f"; for (n = 0; n < 5000; n++) print "site s" n
     for (n = 0; n < 65536; n++) print "spawn", n % 5000, "0\nstrand", (n < 5000) "\nreturn"
     for (n = 0; n < 65536; n++) print "strand 1"
     for (n = 0; n < 21900; n++) print "spawn", n % 5000, "0\nstrand 1\nreturn"
     for (n = 0; n < 40000; n++) print "call", n % 5000, "0\nreturn" }' | "$spprof" encode; } > "$folder/adders"
-printf '\0\x50\0\0' | dd of="$folder/adders" bs=1 seek=20 conv=notrunc 2> /dev/null
-each_refused 'profile by threads that add rows up' 1 11 '' 'bad event 407844: truncated' "$folder/adders" "$spprof" profile --workers 2
+each_refused 'profile by threads that add rows up' 0 11 'work 92436*' '' "$folder/adders" "$spprof" profile --workers 2
 # Of over 8,192 call sites the rows of frames that return are kept aside, and added up hundreds at a time; one frame takes more
 # than 64 bits.
 { awk 'BEGIN { print "func f"; for (n = 0; n < 8200; n++) print "site s" n
@@ -196,15 +194,15 @@ each_refused 'check, a long header by name' 0 0 'work 5' '' /dev/null "$spprof" 
 each_refused 'check, a long header of version 2' 0 0 'work 5' '' "$folder/names.compact" "$spprof" check
 each_refused 'check, one of version 2 by name' 0 0 'work 5' '' /dev/null "$spprof" check "$folder/names.compact"
 each_refused 'profile, version 2' 0 1 'work 32744*' '' "$examples/nqueens.compact" "$spprof" profile
-# `advise` reads the trace whole: a profile, the marks of the burdened path in three rounds, and the changed runs, here four and
-# two, which the workers share.
+# `advise` reads the trace whole: a profile, of many call sites in three rounds, the marks of the burdened path in three rounds,
+# and the changed runs, here four and two, which the workers share.
 each_refused 'advise, a recorded trace' 0 15 'work 32744*' '' "$examples/nqueens.sptrace" "$spprof" advise
 each_refused 'advise by one worker' 0 0 'work 17*' '' "$examples/small.compact" "$spprof" advise --workers 1
 each_refused 'advise, many call sites' 0 8 'work 10*' '' "$folder/many" "$spprof" advise --parts 9 --workers 2
 each_refused 'advise, a bad event' 1 3 '' 'bad event 4: tag' "$folder/tag" "$spprof" advise
 each_refused 'advise as a table, one call site' 0 0 'name,*' '' "$examples/small.compact" "$spprof" advise --csv --site A --workers 1
 each_refused 'advise, no such call site' 1 0 '' 'no such call site' "$examples/small.sptrace" "$spprof" advise --site B
-# An input of 69 MB, for the peaks below, with so many call sites that several workers keep up to 2^22 events: these are more.
+# An input of 69 MB, for the peaks below.
 awk 'BEGIN { print "func f"; for (n = 0; n < 1025; n++) print "site s" n
     for (n = 0; n < 4300000; n++) print "strand", n % 7 }' | "$spprof" encode > "$folder/long"
 peak_of() { # STATUS WORDS..: the peak memory in KiB of the program, which reads standard input and ends with that status
@@ -267,8 +265,8 @@ peak_within() { # BOUND INPUT WORDS..: so many KiB are used at most
 awk 'BEGIN { print "func f"; for (n = 0; n < 40; n++) print "site s" n
     for (n = 0; n < 1400000; n++) print "spawn", n % 40, "0\nstrand 5\nreturn" }' | "$spprof" encode > "$folder/row"
 peak_within 24000 "$folder/row" profile --workers 2
-# Nor does a trace of 1,024 call sites, the most that several workers profile by blocks, need room for its 32 MB.
-{ awk 'BEGIN { print "func f"; for (n = 0; n < 1024; n++) print "site s" n }' && yes 'strand 5' | head -n 2000000; } |
+# Nor does a trace of 4,000 call sites need room for its 32 MB.
+{ awk 'BEGIN { print "func f"; for (n = 0; n < 4000; n++) print "site s" n }' && yes 'strand 5' | head -n 2000000; } |
     "$spprof" encode > "$folder/row"
 peak_within 16000 "$folder/row" profile --workers 2
 size=$(($(stat -c %s "$folder/long") / 1024))
@@ -281,6 +279,9 @@ peaks_within 20000 0 "$folder/long" check "$folder/long"
 size=$(($(stat -c %s "$folder/headed") / 1024))
 peaks_within 24000 0 "$folder/headed" check
 peaks_within 24000 0 "$folder/headed" check "$folder/headed"
+# A profile has the header once more, and the names, and a table.
+peaks_within 50000 0 "$folder/headed" profile --workers 2
+peaks_within 50000 0 "$folder/headed" profile --workers 2 "$folder/headed"
 { echo 'func f' && yes "strand $((2 ** 63 - 1))" | head -n 5800000; } | "$spprof" encode | "$spprof" migrate > "$folder/compact"
 size=$(($(stat -c %s "$folder/compact") / 1024))
 peaks_within 20000 0 "$folder/compact" check

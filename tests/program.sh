@@ -322,7 +322,7 @@ for command in check figures profile advise migrate; do
     in_little 1 "$command of zeros without an end" 1 '' "bad header: magic$lf" /dev/null $command /dev/zero
     in_little 1 "$command of an input that stays open" 1 '' "bad header: limits$lf" <(printf 'SPTRACE1%016d' 0 | tr 0 '\0'; sleep 5) $command
 done
-# Among these is one of so many sites that several workers keep the trace, the last two of which have one name.
+# Among these is one of over a thousand sites, the last two of which have one name.
 { printf 'SPTRACE1\0\0\0\1\0\0\4\6\0\0\0\0\0\0\0\1\0\1f' && printf '\0\4%s' {1000..2028} 2028; } > "$folder/alike"
 in_little 1 'profile of many sites, two of one name' 1 '' "bad header: same name 1030$lf" <(cat "$folder/alike" /dev/zero) profile --workers 4
 in_little 1 'encode of zeros in a file' 1 '' "bad text line 1: word$lf" <(head -c 100 /dev/zero) encode
@@ -416,7 +416,7 @@ judge 'tables of a million nested calls in blocks' 0 "name,*${lf}(root),1,0,1,5,
 (ulimit -v 1200000 && timeout 60 "$spprof" profile --csv --workers 3 "$folder/nested.compact" > "$folder/out" 2> "$folder/err")
 status=$?
 judge 'tables of a million nested calls in blocks of version 2' 0 "name,*${lf}(root),1,0,1,5,5,1,5,5,1,0,1,5,5,1,5,5,1,0,1,5,5,1,5,5${lf}A,1000000,5,1,5,5,1,5,5,1000000,5,1,5,5,1,5,5,1000000,5,1,5,5,1,5,5$lf" ''
-# Of many call sites one worker goes over three blocks, and several read the trace whole: both tell the same, in either version.
+# Of many call sites one worker and several go over three blocks: both tell the same, in either version.
 awk 'BEGIN { print "func f\nfunc g"; for (n = 0; n < 1030; n++) print "site s" n
     for (n = 0; n < 50000; n++) print (n % 3 ? "call" : "spawn"), n * 7 % 1030, n % 2 "\nstrand", n % 11 "\nreturn" (n % 5 ? "" : "\nsync") }' |
     "$spprof" encode > "$folder/many"

@@ -26,10 +26,10 @@ use std::thread::Threads;
 /// besides, for each part, a step for each number of a site and of a function up to the greatest in it. What the parts come to
 /// is joined onto the profile so far one part after the other, under the lock of the desk's book, in constant time, amortized,
 /// for each frame that the part leaves open, for each that closes there and was open before, for each row of calls of each of
-/// its stretches, and for each frame that was on a greatest way as it returned. What a part comes to is kept until all parts
+/// its stretches, and for each frame that a greatest way into one of these enters. What a part comes to is kept until all parts
 /// before it are done: the memory is that of [`PartProfile::of_part`] for parts that wait, at worst all but the first, and that
-/// of `profile_serial`, with 64 bytes more, or 128 where a number needs more than 64 bits, or up to twice that, for each frame on
-/// a greatest way in the part that has most of them; a thread has a stack of its own besides. The work is below 2^92.
+/// of `profile_serial`, with 64 bytes more, or 128 where a number needs more than 64 bits, or up to twice that, for each frame
+/// that such ways enter in the part that has most of them; a thread has a stack of its own besides. The work is below 2^92.
 ///
 /// [`profile`]: crate::profile
 /// [`PartProfile::of_part`]: spp_part::PartProfile::of_part

@@ -10,3 +10,4 @@ pub mod Taking
 pub mod Going
 pub mod Readings
 pub mod RecordParts
+pub mod Pruned

@@ -1,6 +1,6 @@
 //! What a part of a run comes to.
 
-ghost use Rattle.std.specs.Prelude.{◌≡◌, ◌+◌, ◌≤◌, ◌<◌, ℕ, suc, length, IfOk, OnOk};
+ghost use Rattle.std.specs.Prelude.{◌≡◌, ◌+◌, ◌≤◌, ◌<◌, ◌^◌, ℕ, suc, length, IfOk, OnOk};
 ghost use Rattle.spp_event.specs.Recordings.{Recording};
 ghost use Rattle.spp_event.specs.declared.records.Event.{Event as EventValue};
 ghost use Rattle.spp_event.specs.declared.records.Event.TheVariants.{Ret as RetEvent, Sync as SyncEvent};
@@ -137,7 +137,7 @@ impl Reading {
         ensures { OnOk result ((trace : Recording) (burdens : BurdensValue) (first : ℕ) → IsAhead trace burdens first at (end_event end) self.old → IsReading trace burdens first (suc at) self.new) }
     {
         let counted = self.counting.next_stretch(alloc);
-        let logged = self.ways.next_stretch(alloc)?;
+        let logged = self.ways.next_stretch(alloc)?.pruned(alloc)?;
         let calls = self.calls.take(alloc);
         let stored = StoredStretch::of(
             alloc,
@@ -156,9 +156,19 @@ impl Reading {
     }
 
     /// What the part comes to of which so many events were good.
-    pub(crate) fn finish(self, good: u32, fault: Option<EventFault>) -> PartProfile
-        requires { (trace : Recording) × (burdens : BurdensValue) × (first : ℕ) × IsReading trace burdens first good self }
-        ensures { (trace : Recording) (burdens : BurdensValue) (first count : ℕ) → IsReading trace burdens first good self → IsCutOff trace first count good fault → first + count ≤ length trace.records → IsPartProfile trace burdens first count result }
+    ///
+    /// # Errors
+    ///
+    /// Where an allocation failed.
+    pub(crate) fn finish(
+        self,
+        alloc: Global,
+        good: u32,
+        fault: Option<EventFault>,
+    ) -> Result<PartProfile, AllocError>
+        requires is { (trace : Recording) × (burdens : BurdensValue) × (first : ℕ) × IsReading trace burdens first good self }
+        requires few { good ≤ 2 ^ 28 }
+        ensures { IfOk result (λ p. (trace : Recording) (burdens : BurdensValue) (first count : ℕ) → IsReading trace burdens first good self → IsCutOff trace first count good fault → first + count ≤ length trace.records → IsPartProfile trace burdens first count p) }
     {
         let Reading {
             ended,
@@ -167,16 +177,17 @@ impl Reading {
             calls,
             ..
         } = self;
-        PartProfile {
+        let logged = ways.into_stretch().pruned(alloc)?;
+        Ok(PartProfile {
             ended,
             last: Stretch {
                 counted: counting.into_stretch(),
                 calls: calls.into_calls(),
-                logged: ways.into_stretch(),
+                logged,
             },
             good,
             fault,
-        }
+        })
     }
 }
 
@@ -230,10 +241,10 @@ impl PartProfile {
         for at in 0..part.count() {
             match part.read_at(&mut events, at) {
                 Ok(event) => reading.read(alloc, burdens, at, event)?,
-                Err(fault) => return Ok(reading.finish(at, Some(fault))),
+                Err(fault) => return reading.finish(alloc, at, Some(fault)),
             }
         }
-        Ok(reading.finish(part.count(), None))
+        reading.finish(alloc, part.count(), None)
     }
 
     /// What a part comes to that has no events.
@@ -244,7 +255,7 @@ impl PartProfile {
         burdens.are_small();
         part.keeps_limits();
         let reading = Reading::new(alloc)?;
-        Ok(reading.finish(0, None))
+        reading.finish(alloc, 0, None)
     }
 
     /// What a part comes to under these burdens: its events are read once, up to the first record that is no event; a return of
@@ -253,11 +264,12 @@ impl PartProfile {
     ///
     /// For each of its stretches it takes 128 bytes for each pair of a call site and a function that calls by it. Where these are
     /// thousands, each frame that closes in the part, was opened there and is in no row takes 40 instead, or 128 where a number
-    /// needs more than 64 bits. It takes 64 for each of these frames that was on a greatest way, on either path, as it returned, or
-    /// 128 in the same case. A stretch ends at each return of a frame that was open before, and at the first sync of such a frame:
-    /// each takes 24 bytes, and 370 to 490 more if it isn't strands alone. Each frame that the part leaves open takes 224. All that
-    /// is up to twice as much with spare room, and more where stretches have few rows. While the part is read, some 50 bytes more
-    /// are taken for each pair, and 32 KB at most.
+    /// needs more than 64 bits. It takes 64, or 128 in the same case, for each of these frames that a way into a frame still open
+    /// at the stretch's end enters, on either path; until then, and where these are few, for each that was on a greatest way as it
+    /// returned. A stretch ends at each return of a frame that was open before, and at the first sync of such a frame: each takes
+    /// 24 bytes, and 370 to 490 more if it isn't strands alone. Each frame that the part leaves open takes 224. All that is up to
+    /// twice as much with spare room, and more where stretches have few rows. While the part is read, some 50 bytes more are taken
+    /// for each pair, and 32 KB at most.
     ///
     /// # Errors
     ///

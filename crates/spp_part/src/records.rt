@@ -43,10 +43,10 @@ impl PartProfile {
         for at in 0..count {
             match reader.read_in(bytes, at, sites, funcs) {
                 Ok(event) => reading.read(alloc, burdens, at, event)?,
-                Err(fault) => return Ok(reading.finish(at, Some(fault))),
+                Err(fault) => return reading.finish(alloc, at, Some(fault)),
             }
         }
-        Ok(reading.finish(count, None))
+        reading.finish(alloc, count, None)
     }
 
     /// What a part of a trace of version 1 comes to under these burdens, of which these bytes are the records; the trace has so

@@ -2,7 +2,6 @@
 
 ghost use Rattle.std.specs.Prelude.{◌≤◌, length};
 
-use spp_crew::FEW_SITES;
 use spp_event::is_name;
 
 /// The bytes before the names.
@@ -17,10 +16,6 @@ const MOST_EVENTS: u32 = 1 << 28;
 /// A header that names at most so many functions and sites is opened twice where its trace is read whole: once for its
 /// faults, before more is read, and then with the trace. For so few names that takes no time that counts.
 const FEW_NAMES: u64 = 1 << 11;
-
-/// The most events of a trace of more call sites than [`FEW_SITES`] that is kept for its profile where several workers share it, which
-/// is faster than by blocks: 67 MB of version 1.
-const MOST_KEPT: u32 = 1 << 22;
 
 /// A name that begins within so many bytes is judged when it is there, a later one when the header ends.
 const JUDGED: usize = 1 << 16;
@@ -108,15 +103,6 @@ pub(crate) fn front_len(bytes: &[u8]) -> usize
 /// numbers.
 pub(crate) fn is_opened_early(bytes: &[u8]) -> bool {
     names_behind(bytes).is_some_and(|names| names <= FEW_NAMES)
-}
-
-/// Whether a trace with that header is kept for its profile by so many workers; one whose numbers aren't there is. It is advice, as
-/// [`HeaderEnd`] is.
-pub(crate) fn is_kept(bytes: &[u8], workers: u32) -> bool {
-    let (Some(sites), Some(events)) = (word(bytes, 12), word(bytes, 20)) else {
-        return true;
-    };
-    workers > 1 && sites > FEW_SITES && events <= MOST_KEPT
 }
 
 /// What stands at a place.

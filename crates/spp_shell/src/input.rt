@@ -76,7 +76,7 @@ pub(crate) fn read_rest_or_refuse<S: Source>(
 
 /// Refuses bytes that no trace begins with, where their front is worth opening for its faults alone and [`open_front`] shows
 /// them.
-pub(crate) fn refuse_early(alloc: Global, bytes: &[u8]) -> Result<(), Refusal>
+fn refuse_early(alloc: Global, bytes: &[u8]) -> Result<(), Refusal>
     ensures { IfErr result (λ refusal. IfLine refusal (λ line. (more : List ℕ) → TellsHeader (bytes.now ++ more) line)) }
 {
     if is_opened_early(bytes) {

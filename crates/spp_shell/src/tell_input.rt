@@ -13,8 +13,8 @@ ghost use Rattle.spp_shell.specs.Tasks.{IfLine};
 ghost use Rattle.spp_shell.specs.declared.profiled_records.ProfiledRecords.{ProfiledRecords as ProfiledRecordsValue};
 
 use crate::came::Came;
-use crate::header_end::{HeaderEnd, header_len, is_kept};
-use crate::input::{read_front, read_rest_or_refuse, refusal_of_read, refuse_early};
+use crate::header_end::{HeaderEnd, header_len};
+use crate::input::{read_front, read_rest_or_refuse, refusal_of_read};
 use crate::opening::{open_front, open_or_refuse, refusal_of_event, refusal_of_header};
 use crate::place::Place;
 use crate::profile_task::profile_or_refuse;
@@ -201,9 +201,9 @@ fn open_header<'a>(
 /// What is told of the run whose trace an input gives, or why nothing is.
 ///
 /// The events of a trace are profiled as they come, in blocks, and let go; by two workers or more each block is read by a thread of
-/// its own, while the next ones come, but where blocks are slow to join. Read whole first are a trace that is kept ([`is_kept`]), an
-/// input that ends within its header, and one where memory is refused for its header or for the beginning of its profile. Where no
-/// trace begins as it does, it is refused without reading on where [`open_front`] shows that, but for a kept one of many names.
+/// its own, while the next ones come, but where blocks are slow to join. Read whole first are an input that ends within its header,
+/// and one where memory is refused for its header or for the beginning of its profile. Where no trace begins as it does, it is
+/// refused without reading on where [`open_front`] shows that.
 pub(crate) fn tell_input<R: Threads + Wait + Sync, S: Source + Send, T: Telling>(
     rt: &R,
     alloc: Global,
@@ -222,10 +222,6 @@ pub(crate) fn tell_input<R: Threads + Wait + Sync, S: Source + Send, T: Telling>
         Front::Part(came) => came,
     };
     let bytes = came.as_slice();
-    if is_kept(bytes, request.workers.number()) {
-        refuse_early(alloc, bytes)?;
-        return tell_whole(rt, alloc, request, source, place, came, hint, telling);
-    }
     let Ok(header) = header_of(alloc, bytes) else {
         return tell_whole(rt, alloc, request, source, place, came, hint, telling);
     };

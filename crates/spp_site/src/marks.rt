@@ -6,7 +6,7 @@ ghost use Rattle.spp_site.specs.Marks.{is_marked, with_mark, without};
 use std::alloc::{AllocError, Global};
 use std::marker::Model;
 
-/// A set of numbers of sites or of functions, such as those of the frames that are open. It takes a byte for each
+/// A set of numbers, such as those of the sites or the functions of the frames that are open, or of rows. It takes a byte for each
 /// number up to the greatest that was put in, or up to twice that where it grew bit by bit.
 ///
 /// Contracts see a bit for each number; a number behind the last bit isn't in the set.

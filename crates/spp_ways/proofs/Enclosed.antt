@@ -152,7 +152,7 @@ begins_take k [] l h = absurd h
 begins_take zero (r ∷ rs) l h = absurd (omega arith)
 begins_take (suc k) (r ∷ rs) l h = (h.0, plain_take k rs h.1)
 
-begins_put : (rs : List LogRow) (r : LogRow) → BeginsPlain rs → r.merged ≡ None → (r.caller ≡ outer_way → ⊥) → BeginsPlain (rs ++ (r ∷ []))
+pub begins_put : (rs : List LogRow) (r : LogRow) → BeginsPlain rs → r.merged ≡ None → (r.caller ≡ outer_way → ⊥) → BeginsPlain (rs ++ (r ∷ []))
 begins_put [] r h m c = absurd h
 begins_put (x ∷ rs) r h m c = (h.0, plain_put rs r h.1 m c)
 

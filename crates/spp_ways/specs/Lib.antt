@@ -6,3 +6,4 @@ pub mod PathSums
 pub mod OpenWays
 pub mod Enclosures
 pub mod Stretches
+pub mod Pruning

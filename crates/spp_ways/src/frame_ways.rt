@@ -1,6 +1,6 @@
 //! The ways into one open frame of a run, on both paths.
 
-ghost use Rattle.std.specs.Prelude.{◌≡◌, ◌+◌, ◌-◌, ◌*◌, max, min, nat_lt, ◌<◌, ◌≤◌, ◌^◌, ℕ, true, if◌then◌else◌, false};
+ghost use Rattle.std.specs.Prelude.{◌≡◌, ◌+◌, ◌-◌, ◌*◌, max, min, nat_lt, ◌<◌, ◌≤◌, ◌^◌, ℕ, length, true, if◌then◌else◌, false};
 ghost use Rattle.spp_ways.specs.OpenWays.{
   on_path,
   plain_of,
@@ -16,6 +16,7 @@ ghost use Rattle.spp_ways.specs.OpenWays.{
   AreIn,
   StayIn,
 };
+ghost use Rattle.spp_ways.specs.Pruning.{HasCounts, ReachesFrame, marks_of, pruned_frame, pruned_ways};
 ghost use Rattle.spp_ways.specs.Stretches.{
   outer_frame,
   strand_outer_frame,
@@ -27,6 +28,7 @@ ghost use Rattle.spp_ways.specs.Stretches.{
   FitOwn,
 };
 
+use crate::kept_rows::KeptRows;
 use crate::open_ways::OnPaths;
 use crate::place::{Links, linked_to};
 use spp_dag::FrameKind;
@@ -108,6 +110,25 @@ impl LoggedWays {
             FrameKind::Root | FrameKind::Called | FrameKind::Spawned => {
                 self.along.rows.max(self.through.rows)
             }
+        }
+    }
+
+    /// Those of a stretch, in a log without the rows that aren't kept.
+    fn pruned(&self, kept: &KeptRows) -> Self
+        requires counts { HasCounts kept.now }
+        requires along { self.now.along.rows < length kept.now.counts.items }
+        requires through { self.now.through.rows < length kept.now.counts.items }
+        ensures { result ≡ pruned_ways (marks_of kept.now) self.now }
+    {
+        LoggedWays {
+            along: LoggedWay {
+                rows: kept.up_to(self.along.rows),
+                own: self.along.own,
+            },
+            through: LoggedWay {
+                rows: kept.up_to(self.through.rows),
+                own: self.through.own,
+            },
         }
     }
 
@@ -268,6 +289,21 @@ impl FrameWays {
         strand.plain_own = u128::from(count);
         strand.burdened_own = u128::from(count);
         *self == strand
+    }
+
+    /// The frame of a stretch, in a log without the rows that aren't kept.
+    pub(crate) fn pruned(&self, kept: &KeptRows) -> Self
+        requires counts { HasCounts kept.now }
+        requires within { ReachesFrame (length kept.now.counts.items) self.now }
+        ensures { result ≡ pruned_frame (marks_of kept.now) self.now }
+    {
+        FrameWays::of(
+            self.plain().pruned(kept),
+            self.burdened().pruned(kept),
+            kept.up_to(self.start),
+            self.stored,
+            self.limit,
+        )
     }
 
     /// The frame of a stretch, in the log onto which the stretch is joined.

@@ -8,11 +8,13 @@ mod both_ways;
 mod enclosing;
 mod frame_counts;
 mod frame_ways;
+mod kept_rows;
 mod laws;
 mod log;
 mod open_ways;
 mod path_sums;
 mod place;
+mod pruning;
 mod walking;
 
 pub use enclosing::{Enclosing, OUTER_CALLER};

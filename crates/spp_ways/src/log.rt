@@ -6,14 +6,16 @@ ghost use Rattle.spp_dag.specs.Shares.{plus, zero_row};
 ghost use Rattle.spp_site.specs.Rows.{Fits};
 ghost use Rattle.spp_site.specs.Profiles.{key_row};
 ghost use Rattle.spp_ways.specs.LogRows.{frame_counts, logged_row};
-ghost use Rattle.spp_ways.specs.Logs.{AreLinked, IsMergedRow, before_on, within_on, closed_on, merged_on, row_on, row_in};
+ghost use Rattle.spp_ways.specs.Logs.{AreLinked, IsLinked, IsMergedRow, before_on, within_on, closed_on, merged_on, row_on, row_in};
 ghost use Rattle.spp_ways.specs.Enclosures.{enclosure_of};
+ghost use Rattle.spp_ways.specs.Pruning.{HasCounts, marks_of, pruned_row};
 ghost use Rattle.spp_ways.specs.Stretches.{outer_row, joined_row, FitLinks};
 ghost use Rattle.spp_ways.specs.declared.log.LogRow.{LogRow as LogRowValue};
 ghost use Rattle.spp_ways.specs.declared.log.Merged.{Merged as MergedValue};
 
 use crate::enclosing::Enclosing;
 use crate::frame_counts::{FrameCounts, NO_COUNTS, NO_NARROW_COUNTS, NarrowCounts, WideCounts};
+use crate::kept_rows::KeptRows;
 use crate::place::{Links, NO_PLACE, Place};
 use spp_site::{ClosedFrame, EmptySums, NarrowList, NarrowSums};
 use std::alloc::{AllocError, Global};
@@ -265,6 +267,19 @@ impl Log {
         }
     }
 
+    /// No rows, and room for so many.
+    ///
+    /// # Errors
+    ///
+    /// Where an allocation failed.
+    pub(crate) fn with_room(alloc: Global, rows: u32) -> Result<Log, AllocError>
+        ensures { IfOk result (λ log. log.rows.items ≡ []) }
+    {
+        Ok(Log {
+            rows: Vec::with_capacity(alloc, rows as usize)?,
+        })
+    }
+
     /// How many rows there are.
     #[inline(always)]
     pub(crate) fn len(&self) -> u32
@@ -382,6 +397,39 @@ impl Log {
         Ok(self.rows.len() as u32)
     }
 
+    /// Puts the row of a frame with these counts behind the others.
+    ///
+    /// # Errors
+    ///
+    /// Where an allocation failed.
+    #[inline(always)]
+    fn put_counts(&mut self, place: Place, counts: &Counts) -> Result<(), AllocError>
+        ensures { OnOk result (self.new.rows.items ≡ self.old.rows.items ++ (logged_row place (frame_counts counts.now) None ∷ [])) }
+    {
+        match counts {
+            Counts::Narrow(narrow) => self.put(LogRow {
+                place,
+                counts: Counts::Narrow(*narrow),
+            }),
+            // No row of a stretch was merged: see `IsStretch`.
+            counts => self.put_wide(place, counts.of_frame()),
+        }
+    }
+
+    /// Puts a row of a stretch that is kept behind the others.
+    ///
+    /// # Errors
+    ///
+    /// Where an allocation failed.
+    #[inline(always)]
+    pub(crate) fn put_pruned(&mut self, row: &LogRow, kept: &KeptRows) -> Result<(), AllocError>
+        requires counts { HasCounts kept.now }
+        requires linked { (n : ℕ) × IsLinked n row.now × (n < length kept.now.counts.items) }
+        ensures { OnOk result (self.new.rows.items ≡ self.old.rows.items ++ (pruned_row (marks_of kept.now) row.now ∷ [])) }
+    {
+        self.put_counts(row.place.pruned(kept), &row.counts)
+    }
+
     /// Puts a row of a stretch behind the others.
     ///
     /// # Errors
@@ -397,15 +445,7 @@ impl Log {
         requires few { FitLinks links row.now }
         ensures { OnOk result (self.new.rows.items ≡ self.old.rows.items ++ (joined_row links (enclosure_of enclosing.now) row.now ∷ [])) }
     {
-        let place = row.place.joined(links, enclosing);
-        match &row.counts {
-            Counts::Narrow(narrow) => self.put(LogRow {
-                place,
-                counts: Counts::Narrow(*narrow),
-            }),
-            // No row of a stretch was merged: see `IsStretch`.
-            counts => self.put_wide(place, counts.of_frame()),
-        }
+        self.put_counts(row.place.joined(links, enclosing), &row.counts)
     }
 
     /// Puts the rows of a stretch behind the others, but for the one that stands for the way into its outer frame.

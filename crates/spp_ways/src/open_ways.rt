@@ -67,12 +67,13 @@ pub struct OnPaths {
 #[derive(Drop)]
 pub struct LoggedStretch {
     /// Into the frame in which it begins.
-    outer: FrameWays,
+    pub(crate) outer: FrameWays,
     /// The first isn't used, and those into the frames that it leaves open follow it; where there are none, that one alone or
     /// nothing.
-    frames: Vec<FrameWays>,
-    /// The rows, the first of which stands for the way into the outer frame before the stretch; none where there is no other.
-    log: Log,
+    pub(crate) frames: Vec<FrameWays>,
+    /// The rows, the first of which stands for the way into the outer frame before the stretch; none, or that one alone, where
+    /// there is no other.
+    pub(crate) log: Log,
 }
 
 impl LoggedStretch {

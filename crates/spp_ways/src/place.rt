@@ -1,10 +1,12 @@
 //! Where a closed frame stands among the ways.
 
 ghost use Rattle.std.specs.Prelude.{◌≡◌, ◌+◌, ◌<◌, ◌^◌};
+ghost use Rattle.spp_ways.specs.Pruning.{HasCounts, ReachesPlace, marks_of, pruned_place};
 ghost use Rattle.spp_ways.specs.Enclosures.{enclosure_of};
 ghost use Rattle.spp_ways.specs.Stretches.{linked_to, joined_place, FitPlace};
 
 use crate::enclosing::Enclosing;
+use crate::kept_rows::KeptRows;
 
 /// How the ways of a stretch are told in the log onto which it is joined. In the stretch the first row stands for the way into
 /// its outer frame.
@@ -85,6 +87,22 @@ pub(crate) const NO_PLACE: Place = Place {
 };
 
 impl Place {
+    /// The place of the same frame in a log without the rows that aren't kept.
+    #[inline(always)]
+    pub(crate) fn pruned(&self, kept: &KeptRows) -> Self
+        requires counts { HasCounts kept.now }
+        requires within { ReachesPlace kept.now self.now }
+        ensures { result ≡ pruned_place (marks_of kept.now) self.now }
+    {
+        Place {
+            before: kept.up_to(self.before),
+            within: kept.up_to(self.within),
+            burdened_before: kept.up_to(self.burdened_before),
+            burdened_within: kept.up_to(self.burdened_within),
+            ..*self
+        }
+    }
+
     /// The place of the same frame in the log onto which its stretch is joined.
     #[inline(always)]
     pub(crate) fn joined(&self, links: Links, enclosing: &Enclosing<'_>) -> Self

@@ -31,15 +31,8 @@ returns-in_err-head-clause-refused g c =
     (front_checked g.S.Source.answered g.S.Source.failed g.S.Source.failures came.reads c.args.source.now c.read_front.new.input (take came.filled came.bytes.items) (rw c.in-Part.is at c.in_ok-front.ensures.read) came.turns
     c.args.place c.in_err-head.field-0.0 (rw c.as_slice-bytes.ensures at c.in_err-head.ensures.refused))
 
-pub returns-in_err-refuse_early-clause-refused : goal.returns-in_err-refuse_early-clause-refused
-returns-in_err-refuse_early-clause-refused g c =
-    let came = c.in-Part.came in
-    err_again _ c.in_err-refuse_early.field-0.0 _ c.from_residual-in_err-refuse_early.ensures.1
-    (front_checked g.S.Source.answered g.S.Source.failed g.S.Source.failures came.reads c.args.source.now c.read_front.new.input (take came.filled came.bytes.items) (rw c.in-Part.is at c.in_ok-front.ensures.read) came.turns
-    c.args.place c.in_err-refuse_early.field-0.0 (rw c.as_slice-bytes.ensures at c.in_err-refuse_early.ensures))
-
 pub returns-in_default-clause-told : goal.returns-in_default-clause-told
-returns-in_default-clause-told g c = c.tell_whole-in_default.ensures.told c.args.source.now (rw c.in-Part.is at c.in_ok-front.ensures.read)
+returns-in_default-clause-told g c = c.tell_whole.ensures.told c.args.source.now (rw c.in-Part.is at c.in_ok-front.ensures.read)
 
 pub returns-in_default-2-clause-told : goal.returns-in_default-2-clause-told
 returns-in_default-2-clause-told g c =

@@ -1,4 +1,5 @@
 use Rattle.std.proofs.Common.{◌≡◌, ◌+◌, ◌≤◌, ◌<◌, ℕ, suc, length, sym, subst, ◌∙◌, arith}
+use Rattle.std.proofs.lemmas.Result.{IfOk-weaker}
 use Rattle.spp_event.specs.Recordings.{Recording}
 use Rattle.spp_pass.proofs.Passed.{light_of}
 use Rattle.spp_part.specs.Readings.{IsReading, IsAhead}
@@ -54,19 +55,22 @@ finish-requires g c =
     let version = g.B.BytesReader.version in
     let n : ℕ = c.args.count in
     let trace : Recording = part_alone version c.args.sites c.args.funcs n c.args.bytes.now in
-    (trace, c.args.burdens, 0, c.loop-at.invariant.is trace 0 (alone_has version c.args.sites c.args.funcs n c.args.bytes.now c.requires.few))
+    record {
+      is = (trace, c.args.burdens, 0, c.loop-at.invariant.is trace 0 (alone_has version c.args.sites c.args.funcs n c.args.bytes.now c.requires.few));
+      few = omega (arith, c.loop-at-test.true, c.requires.few);
+    }
 
 pub returns-in-Err : goal.returns-in-Err
-returns-in-Err g c trace first h =
+returns-in-Err g c = IfOk-weaker c.finish.result _ _ (λ p is trace first h.
     let version = g.B.BytesReader.version in
     let n : ℕ = c.args.count in
     let at : ℕ = c.loop-at.at in
     let lt : at < n = omega (arith, c.loop-at-test.true) in
-    c.finish.ensures trace c.args.burdens first n (c.loop-at.invariant.is trace first h) (
+    is trace c.args.burdens first n (c.loop-at.invariant.is trace first h) (
       lt,
       part_record version c.args.sites c.args.funcs n c.args.bytes.now trace first h at lt ∙ sym c.read_in.ensures.said ∙ c.in-Err.is,
     )
-    (part_within version c.args.sites c.args.funcs n c.args.bytes.now trace first h)
+    (part_within version c.args.sites c.args.funcs n c.args.bytes.now trace first h)) c.finish.ensures
 
 pub finish-requires-2 : goal.finish-requires-2
 finish-requires-2 g c =
@@ -74,12 +78,15 @@ finish-requires-2 g c =
     let n : ℕ = c.args.count in
     let trace : Recording = part_alone version c.args.sites c.args.funcs n c.args.bytes.now in
     let end : c.loop-at.at ≡ n = omega (arith, c.loop-at-test.false, c.loop-at.auto.at-end) in
-    (trace, c.args.burdens, 0, subst (λ k. IsReading trace c.args.burdens 0 k c.loop-at.reading) end (c.loop-at.invariant.is trace 0 (alone_has version c.args.sites c.args.funcs n c.args.bytes.now c.requires.few)))
+    record {
+      is = (trace, c.args.burdens, 0, subst (λ k. IsReading trace c.args.burdens 0 k c.loop-at.reading) end (c.loop-at.invariant.is trace 0 (alone_has version c.args.sites c.args.funcs n c.args.bytes.now c.requires.few)));
+      few = c.requires.few;
+    }
 
 pub returns : goal.returns
-returns g c trace first h =
+returns g c = IfOk-weaker c.finish-2.result _ _ (λ p is trace first h.
     let version = g.B.BytesReader.version in
     let n : ℕ = c.args.count in
     let end : c.loop-at.at ≡ n = omega (arith, c.loop-at-test.false, c.loop-at.auto.at-end) in
-    c.finish-2.ensures trace c.args.burdens first n (subst (λ k. IsReading trace c.args.burdens first k c.loop-at.reading) end (c.loop-at.invariant.is trace first h))
-    (let z : n ≡ n = omega arith in z) (part_within version c.args.sites c.args.funcs n c.args.bytes.now trace first h)
+    is trace c.args.burdens first n (subst (λ k. IsReading trace c.args.burdens first k c.loop-at.reading) end (c.loop-at.invariant.is trace first h))
+    (let z : n ≡ n = omega arith in z) (part_within version c.args.sites c.args.funcs n c.args.bytes.now trace first h)) c.finish-2.ensures

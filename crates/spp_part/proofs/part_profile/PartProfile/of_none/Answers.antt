@@ -1,4 +1,5 @@
 use Rattle.std.proofs.Common.{◌≤◌, ℕ, length, sym, arith}
+use Rattle.std.proofs.lemmas.Result.{IfOk-weaker}
 use Rattle.spp_event.specs.Recordings.{Recording}
 use Rattle.spp_pass.proofs.Passed.{light_of}
 use Rattle.spp_part.specs.Readings.{InBounds}
@@ -11,7 +12,10 @@ finish-requires c =
     let limits = c.keeps_limits.ensures.limits in
     let bounds : InBounds trace c.args.burdens =
     record { light = light_of c.args.burdens c.are_small.ensures.continuation c.are_small.ensures.join; short = limits.events; sites = limits.sites; funcs = limits.funcs } in
-    (trace, c.args.burdens, first, c.in_ok-reading.ensures trace c.args.burdens first bounds (let z = c.keeps_limits.ensures.within in let y : first ≤ length trace.records = omega arith in y))
+    record {
+      is = (trace, c.args.burdens, first, c.in_ok-reading.ensures trace c.args.burdens first bounds (let z = c.keeps_limits.ensures.within in let y : first ≤ length trace.records = omega arith in y));
+      few = omega arith;
+    }
 
 pub returns : goal.returns
 returns c =
@@ -20,5 +24,5 @@ returns c =
     let limits = c.keeps_limits.ensures.limits in
     let bounds : InBounds trace c.args.burdens =
     record { light = light_of c.args.burdens c.are_small.ensures.continuation c.are_small.ensures.join; short = limits.events; sites = limits.sites; funcs = limits.funcs } in
-    c.finish.ensures trace c.args.burdens first c.args.part.now.count
-    (c.in_ok-reading.ensures trace c.args.burdens first bounds (let z = c.keeps_limits.ensures.within in let y : first ≤ length trace.records = omega arith in y)) (sym c.requires) c.keeps_limits.ensures.within
+    IfOk-weaker c.finish.result _ _ (λ p is. is trace c.args.burdens first c.args.part.now.count
+    (c.in_ok-reading.ensures trace c.args.burdens first bounds (let z = c.keeps_limits.ensures.within in let y : first ≤ length trace.records = omega arith in y)) (sym c.requires) c.keeps_limits.ensures.within) c.finish.ensures

@@ -1,4 +1,5 @@
 use Rattle.std.proofs.Common.{◌≡◌, ◌+◌, ◌≤◌, ◌<◌, ℕ, suc, length, sym, subst, ◌∙◌, arith}
+use Rattle.std.proofs.lemmas.Result.{IfOk-weaker}
 use Rattle.spp_event.specs.Recordings.{Recording}
 use Rattle.spp_pass.proofs.Passed.{light_of, is_read}
 use Rattle.spp_part.specs.Readings.{IsReading, IsAhead}
@@ -34,20 +35,23 @@ loop-at-preserved g c =
 
 pub returns-in-Err : goal.returns-in-Err
 returns-in-Err g c =
-    c.finish.ensures c.args.part.now.trace c.args.burdens c.args.part.now.first c.args.part.now.count c.loop-at.invariant.is
-    (omega (arith, c.count-at-end.ensures), sym c.read_at.ensures.said ∙ c.in-Err.is) c.keeps_limits.ensures.within
+    IfOk-weaker c.finish.result _ _ (λ p is. is c.args.part.now.trace c.args.burdens c.args.part.now.first c.args.part.now.count c.loop-at.invariant.is
+    (omega (arith, c.count-at-end.ensures), sym c.read_at.ensures.said ∙ c.in-Err.is) c.keeps_limits.ensures.within) c.finish.ensures
 
 pub finish-requires-2 : goal.finish-requires-2
 finish-requires-2 g c =
     let trace : Recording = c.args.part.now.trace in
     let first : ℕ = c.args.part.now.first in
     let end : c.loop-at.at ≡ c.count.result = omega (arith, c.count-at-end.ensures, c.count.ensures) in
-    (trace, c.args.burdens, first, subst (λ n. IsReading trace c.args.burdens first n c.loop-at.reading) end c.loop-at.invariant.is)
+    record {
+      is = (trace, c.args.burdens, first, subst (λ n. IsReading trace c.args.burdens first n c.loop-at.reading) end c.loop-at.invariant.is);
+      few = (let z = c.keeps_limits.ensures.within in let y = c.keeps_limits.ensures.limits.events in let x = c.count.ensures in omega arith);
+    }
 
 pub returns : goal.returns
 returns g c =
     let trace : Recording = c.args.part.now.trace in
     let first : ℕ = c.args.part.now.first in
     let end : c.loop-at.at ≡ c.count.result = omega (arith, c.count-at-end.ensures, c.count.ensures) in
-    c.finish-2.ensures trace c.args.burdens first c.args.part.now.count (subst (λ n. IsReading trace c.args.burdens first n c.loop-at.reading) end c.loop-at.invariant.is)
-    c.count.ensures c.keeps_limits.ensures.within
+    IfOk-weaker c.finish-2.result _ _ (λ p is. is trace c.args.burdens first c.args.part.now.count (subst (λ n. IsReading trace c.args.burdens first n c.loop-at.reading) end c.loop-at.invariant.is)
+    c.count.ensures c.keeps_limits.ensures.within) c.finish-2.ensures
