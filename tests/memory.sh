@@ -99,9 +99,9 @@ each_refused() { # NAME STATUS STARTS OUT ERR INPUT PROGRAM WORDS..: what the pr
 # Each call twice: of the crew figures, profile, the same in three rounds, and marks by two workers, with 1, 1, 4 and 3 threads.
 each_refused 'the calls' 0 18 "$(cat "$tests/../crates/memory_probe/stdout")" '' /dev/null "$probe"
 
-# A round has a thread for each worker but one, and three rounds settle their paths on two threads. What goes by blocks has a
-# thread for each block that the first doesn't read itself, and a profile of many call sites one for the rows of a block that
-# are kept aside. With one worker it has none.
+# A round has a thread for each worker but one, and three rounds settle their paths on two threads. What goes by blocks has at
+# most a thread for each worker but one at a time; where one has ended, since no block waited, another is started for the next
+# block. A profile of many call sites has one for the rows of a block that are kept aside. With one worker there is none.
 examples=$tests/../examples
 head -c 23 "$examples/small.sptrace" > "$folder/short"
 { head -c 100 "$examples/small.sptrace"; head -c 16 /dev/zero | tr '\0' '\5'; } > "$folder/tag"
@@ -132,19 +132,19 @@ each_refused 'profile of many call sites' 0 1 'name,count*' '' "$folder/many" "$
 "$spprof" migrate < "$folder/two" > "$folder/two.compact"
 each_refused 'figures by workers, version 2' 0 1 'work 10*' '' "$folder/two.compact" "$spprof" figures --workers 2
 each_refused 'profile by workers, version 2' 0 1 'name,count*' '' "$folder/two.compact" "$spprof" profile --csv --workers 2
-# Three blocks of up to 65,536 events, each of which a thread reads, in frames that are open at their ends.
+# Three blocks of up to 65,536 events, in frames that are open at their ends.
 awk 'BEGIN { print "func main\nsite A"; for (n = 0; n < 50; n++) print "spawn 0 0\nstrand 3"
     for (n = 0; n < 140000; n++) print "strand 1"; for (n = 0; n < 50; n++) print "return\nsync" }' | "$spprof" encode \
     > "$folder/blocks"
-each_refused 'figures over blocks' 0 3 'work 140150*' '' "$folder/blocks" "$spprof" figures
-each_refused 'profile over blocks' 0 3 'name,count*' '' "$folder/blocks" "$spprof" profile --csv --workers 2
+each_refused 'figures over blocks' 0 '[123]' 'work 140150*' '' "$folder/blocks" "$spprof" figures
+each_refused 'profile over blocks' 0 '[123]' 'name,count*' '' "$folder/blocks" "$spprof" profile --csv --workers 2
 # Blocks that come in many short reads: another thread reads the next one meanwhile. Whether the reads of the first are short
 # depends on how fast the pipe is filled.
-each_refused 'figures over blocks through a pipe' 0 '[45]' 'work 140150*' '' "|$folder/blocks" "$spprof" figures
-each_refused 'profile over blocks through a pipe' 0 '[45]' 'name,count*' '' "|$folder/blocks" "$spprof" profile --csv --workers 2
+each_refused 'figures over blocks through a pipe' 0 '[2345]' 'work 140150*' '' "|$folder/blocks" "$spprof" figures
+each_refused 'profile over blocks through a pipe' 0 '[2345]' 'name,count*' '' "|$folder/blocks" "$spprof" profile --csv --workers 2
 # Two blocks of 131,072 bytes, and one that is less.
 "$spprof" migrate < "$folder/blocks" > "$folder/blocks.compact"
-each_refused 'profile over blocks, version 2' 0 3 'name,count*' '' "$folder/blocks.compact" "$spprof" profile --csv --workers 2
+each_refused 'profile over blocks, version 2' 0 '[123]' 'name,count*' '' "$folder/blocks.compact" "$spprof" profile --csv --workers 2
 # Blocks of so many call sites that other threads add up the rows of the first three and of the fifth; the fourth has none,
 # and the sixth is slow to join.
 { awk 'BEGIN { print "func f"; for (n = 0; n < 5000; n++) print "site s" n
@@ -152,7 +152,7 @@ each_refused 'profile over blocks, version 2' 0 3 'name,count*' '' "$folder/bloc
     for (n = 0; n < 65536; n++) print "strand 1"
     for (n = 0; n < 21900; n++) print "spawn", n % 5000, "0\nstrand 1\nreturn"
     for (n = 0; n < 40000; n++) print "call", n % 5000, "0\nreturn" }' | "$spprof" encode; } > "$folder/adders"
-each_refused 'profile by threads that add rows up' 0 11 'work 92436*' '' "$folder/adders" "$spprof" profile --workers 2
+each_refused 'profile by threads that add rows up' 0 '@([5-9]|1[01])' 'work 92436*' '' "$folder/adders" "$spprof" profile --workers 2
 # Of over 8,192 call sites the rows of frames that return are kept aside, and added up hundreds at a time; one frame takes more
 # than 64 bits.
 { awk 'BEGIN { print "func f"; for (n = 0; n < 8200; n++) print "site s" n

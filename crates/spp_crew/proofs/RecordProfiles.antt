@@ -15,6 +15,7 @@ use Rattle.spp_frame.specs.declared.profile_fault.ProfileFault.TheVariants.{Bad}
 use Rattle.spp_maxplus.specs.declared.state.Burdens.{Burdens}
 use Rattle.spp_part.specs.RecordParts.{HasPart}
 use Rattle.spp_crew.specs.declared.block.Block.{Block}
+use Rattle.spp_crew.specs.declared.block.SoFar.{Ghosts}
 use Rattle.spp_crew.specs.declared.joining.Joining.{Joining}
 use Rattle.spp_crew.specs.declared.record_head.RecordHead.{RecordHead}
 use Rattle.spp_crew.specs.declared.shown.Shown.{Shown}
@@ -121,18 +122,18 @@ module _ (t : Recording) (head : RecordHead) (rs ss : List Record) (h : BeginsWi
 
 -- ---- what is shown
 
-module _ {A P T : Type 0} (block_of : T → Block) (is_so_far : Recording → Burdens → ℕ → A → Type 0) (t : Recording) (b : Burdens) where
-  pub come_if : (k : ℕ) (s : Shown A P T) (j : Joining A P T) → s ≡ Good j → IsShown block_of is_so_far t b k s → HasCome block_of is_so_far t b k j
-  come_if k s j is = subst (λ (x : Shown A P T). IsShown block_of is_so_far t b k x) is
+module _ {A P : Type 0} {G : Ghosts A P} (is_so_far : Recording → Burdens → ℕ → A → Type 0) (t : Recording) (b : Burdens) where
+  pub come_if : (k : ℕ) (s : Shown A P G) (j : Joining A P G) → s ≡ Good j → IsShown is_so_far t b k s → HasCome is_so_far t b k j
+  come_if k s j is = subst (λ (x : Shown A P G). IsShown is_so_far t b k x) is
 
-  pub fault_if : (k : ℕ) (s : Shown A P T) (f : Fault) → s ≡ BadEvent f → IsShown block_of is_so_far t b k s → IsFaultOf t.records (Bad f)
-  fault_if k s f is = subst (λ (x : Shown A P T). IsShown block_of is_so_far t b k x) is
+  pub fault_if : (k : ℕ) (s : Shown A P G) (f : Fault) → s ≡ BadEvent f → IsShown is_so_far t b k s → IsFaultOf t.records (Bad f)
+  fault_if k s f is = subst (λ (x : Shown A P G). IsShown is_so_far t b k x) is
 
-  pub shown_good : (k : ℕ) (s : Shown A P T) (j : Joining A P T) → s ≡ Good j → HasCome block_of is_so_far t b k j → IsShown block_of is_so_far t b k s
-  shown_good k s j is = subst (λ (x : Shown A P T). IsShown block_of is_so_far t b k x) (sym is)
+  pub shown_good : (k : ℕ) (s : Shown A P G) (j : Joining A P G) → s ≡ Good j → HasCome is_so_far t b k j → IsShown is_so_far t b k s
+  shown_good k s j is = subst (λ (x : Shown A P G). IsShown is_so_far t b k x) (sym is)
 
-  pub shown_bad : (k : ℕ) (s : Shown A P T) (f : Fault) → s ≡ BadEvent f → IsFaultOf t.records (Bad f) → IsShown block_of is_so_far t b k s
-  shown_bad k s f is = subst (λ (x : Shown A P T). IsShown block_of is_so_far t b k x) (sym is)
+  pub shown_bad : (k : ℕ) (s : Shown A P G) (f : Fault) → s ≡ BadEvent f → IsFaultOf t.records (Bad f) → IsShown is_so_far t b k s
+  shown_bad k s f is = subst (λ (x : Shown A P G). IsShown is_so_far t b k x) (sym is)
 
 pub events_nil : (sites funcs : ℕ) → AreEventsOf sites funcs []
 events_nil sites funcs i lt = absurd (let z : ⊥ = omega (arith, lt) in z)
@@ -165,13 +166,13 @@ module _ (block : Block) (rs : List Record) (at : block.first ≡ length rs) whe
     pub block_within : block.first + count_of block ≤ head.count
     block_within = omega (arith, at, begins_within t head rs (records_in block) b, length-records_of block.version block.sites block.funcs (count_of block) (bytes_of block))
 
-  module _ {A P T : Type 0} (block_of : T → Block) (is_so_far : Recording → Burdens → ℕ → A → Type 0) (s : Shown A P T) where
+  module _ {A P : Type 0} {G : Ghosts A P} (is_so_far : Recording → Burdens → ℕ → A → Type 0) (s : Shown A P G) where
     -- what is shown of a trace that begins with the records before
-    pub shown_before : (t : Recording) → IsShown block_of is_so_far t block.burdens (length rs) s → IsShown block_of is_so_far t block.burdens block.first s
-    shown_before t = subst (λ (k : ℕ). IsShown block_of is_so_far t block.burdens k s) (sym at)
+    pub shown_before : (t : Recording) → IsShown is_so_far t block.burdens (length rs) s → IsShown is_so_far t block.burdens block.first s
+    shown_before t = subst (λ (k : ℕ). IsShown is_so_far t block.burdens k s) (sym at)
 
-    pub shown_behind : (t : Recording) → IsShown block_of is_so_far t block.burdens (block.first + count_of block) s → IsShown block_of is_so_far t block.burdens (length (rs ++ records_in block)) s
-    shown_behind t = subst (λ (k : ℕ). IsShown block_of is_so_far t block.burdens k s) count_more
+    pub shown_behind : (t : Recording) → IsShown is_so_far t block.burdens (block.first + count_of block) s → IsShown is_so_far t block.burdens (length (rs ++ records_in block)) s
+    shown_behind t = subst (λ (k : ℕ). IsShown is_so_far t block.burdens k s) count_more
 
 -- ---- the end
 

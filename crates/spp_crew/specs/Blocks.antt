@@ -7,10 +7,6 @@ use Rattle.spp_part.specs.declared.part_profile.PartProfile.{PartProfile}
 use Rattle.spp_part.specs.Parts.{IsPartProfile}
 use Rattle.spp_part.specs.RecordParts.{HasPart}
 use Rattle.spp_crew.specs.declared.block.Block.{Block}
-use Rattle.spp_crew.specs.declared.block.BlockRead.{BlockRead}
-use Rattle.spp_crew.specs.declared.profiled_blocks.PartOf.{PartOf}
-use Rattle.spp_crew.specs.declared.figured_blocks.SummaryOf.{SummaryOf}
-use Rattle.std.specs.declared.thread.PromisedHandle.{PromisedHandle}
 
 -- the bytes of a block's events
 abbrev pub bytes_of : Block → List ℕ
@@ -49,11 +45,3 @@ IsSummaryOf block summary = summary ≡ account_of block.burdens block.first (re
 -- that is the summary of the first k records of the trace
 abbrev pub IsSummaryOfFirst : Recording → Burdens → ℕ → Account → Type 0
 IsSummaryOfFirst trace burdens k summary = summary ≡ account_of burdens 0 (take k trace.records)
-
--- the block that a thread reads for a profile
-abbrev pub profiled_by : PromisedHandle (BlockRead PartProfile) PartOf → Block
-profiled_by thread = thread.promise.0.value
-
--- and for figures
-abbrev pub summed_by : PromisedHandle (BlockRead Account) SummaryOf → Block
-summed_by thread = thread.promise.0.value

@@ -3,8 +3,7 @@ use Rattle.std.specs.Prelude.{◌≡◌, ℕ, ◌<◌, List, ◌++◌, length, E
 use Rattle.spp_event.specs.declared.records.EventFault.TheVariants.{Truncated}
 use Rattle.spp_event.specs.Recordings.{Record, Recording, InLimits, AreEventsOf, record_at}
 use Rattle.spp_crew.specs.Shared.{IsShared}
-use Rattle.spp_crew.specs.Blocks.{profiled_by}
-use Rattle.spp_crew.specs.Joinings.{IsShown, threads_in}
+use Rattle.spp_crew.specs.Joinings.{IsShown, threads_in, waiting_in}
 use Rattle.spp_crew.specs.declared.record_head.RecordHead.{RecordHead}
 use Rattle.spp_crew.specs.declared.record_profile.RecordProfile.{RecordProfile}
 
@@ -23,15 +22,19 @@ pub record BeginsWith (t : Recording) (head : RecordHead) (rs : List Record) : T
 abbrev pub seen_by : RecordProfile → ℕ
 seen_by p = p.at
 
--- how many threads still read records
+-- how many threads that read records are still to be joined
 abbrev pub threads_of : RecordProfile → ℕ
 threads_of p = threads_in p.shown
+
+-- how many blocks of records wait to be joined
+abbrev pub waiting_of : RecordProfile → ℕ
+waiting_of p = waiting_in p.shown
 
 -- these have come: that is shown of each trace that begins with them
 pub record HasSeen (p : RecordProfile) (rs : List Record) : Type 0 where
   pub count : p.at ≡ length rs
   pub good : AreEventsOf p.head.sites p.head.funcs rs
-  pub found : (t : Recording) → BeginsWith t p.head rs → IsShown profiled_by IsShared t p.burdens (length rs) p.shown
+  pub found : (t : Recording) → BeginsWith t p.head rs → IsShown IsShared t p.burdens (length rs) p.shown
 
 -- these have come of the trace, and of the others, if there are any, the first is cut off
 pub record EndsWith (p : RecordProfile) (t : Recording) : Type 0 where

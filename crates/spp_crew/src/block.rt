@@ -36,26 +36,12 @@ pub(crate) struct Block {
     pub(crate) burdens: Burdens,
 }
 
-/// What a thread brings that has read a block.
-#[derive(Drop)]
-pub(crate) struct BlockRead<P> {
-    /// What the block comes to.
-    pub(crate) part: Result<P, AllocError>,
-    /// Its bytes, as room for those of another.
-    pub(crate) room: Vec<u8>,
-}
-
 /// What the first events of a run come to, onto which blocks are joined.
-///
-/// A type says by its [`SoFar::start`] how a thread is started, since what goes to a thread must be known to the borrow checker.
 pub(crate) trait SoFar: Drop {
     ghost use Rattle.spp_crew.specs.declared.block.Block.{Block};
 
     /// What a block comes to.
     type Part: Drop;
-
-    /// A thread that reads a block.
-    type Thread: Drop;
 
     // that is what the block comes to, in whichever trace it stands
     ghost is_part: { Block → Self.Part → Type 0 };
@@ -63,22 +49,14 @@ pub(crate) trait SoFar: Drop {
     // that is what so many events come to, which are the first of a trace, under these burdens
     ghost is_so_far: { Recording → BurdensValue → ℕ → Self → Type 0 };
 
-    // the block that a thread reads
-    ghost block_of: { Self.Thread → Block };
-
-    /// Starts a thread that reads a block. Where none can be started, this one reads it.
-    fn start<R: Threads>(
-        rt: &R,
-        alloc: Global,
-        block: Block,
-    ) -> Result<Self::Thread, BlockRead<Self::Part>>
-        requires { IsReadable block }
-        ensures thread { IfOk result (λ t. block_of t ≡ block) }
-        ensures read { IfErr result (λ read. IfOk read.part (is_part block)) };
-
-    /// What a thread brings, for which this one waits.
-    fn wait<R: Threads>(rt: &R, thread: Self::Thread) -> BlockRead<Self::Part>
-        ensures { IfOk result.part (is_part (block_of thread)) };
+    /// What a block comes to.
+    ///
+    /// # Errors
+    ///
+    /// Where an allocation failed.
+    fn part_of(alloc: Global, block: &Block) -> Result<Self::Part, AllocError>
+        requires { IsReadable block.now }
+        ensures { IfOk result (is_part block.now) };
 
     /// Waits for the threads that it has, and lets go of all.
     fn let_go<R: Threads>(self, rt: &R);

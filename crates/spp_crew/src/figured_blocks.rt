@@ -4,25 +4,16 @@ ghost use Rattle.std.specs.Prelude.{◌≡◌, ◌+◌, ℕ, IfOk, IfErr};
 ghost use Rattle.spp_event.specs.Recordings.{Recording};
 ghost use Rattle.spp_frame.specs.Answers.{IsFaultOf};
 ghost use Rattle.spp_maxplus.specs.declared.state.Burdens.{Burdens as BurdensValue};
-ghost use Rattle.spp_crew.specs.Blocks.{IsBlockAt, IsSummaryOf, IsSummaryOfFirst, IsReadable, count_of, summed_by};
+ghost use Rattle.spp_crew.specs.Blocks.{IsBlockAt, IsSummaryOf, IsSummaryOfFirst, IsReadable, count_of};
 ghost use Rattle.spp_crew.specs.declared.block.Block.{Block as BlockValue};
 
-use crate::block::{Block, BlockRead, SoFar};
+use crate::block::{Block, SoFar};
 use spp_event::Version;
 use spp_frame::ProfileFault;
 use spp_maxplus::Burdens;
 use spp_summary::Summary;
 use std::alloc::{AllocError, Global};
-use std::snapshot::Snapshot;
-use std::thread::{Promise, PromisedHandle, Threads, spawn_with};
-
-/// That a thread brings the summary of this block. Contracts alone see the block.
-#[derive(Drop)]
-pub(crate) struct SummaryOf(pub(crate) Snapshot<Block>);
-
-impl Promise<BlockRead<Summary>> for SummaryOf {
-    ghost kept_by = { λ p read. IfOk read.part (IsSummaryOf p.0.value) };
-}
+use std::thread::Threads;
 
 /// The summary of a block.
 ///
@@ -79,38 +70,12 @@ fn both(left: Summary, right: Summary) -> Result<Summary, ProfileFault>
 impl SoFar for Summary {
     type Part = Summary;
 
-    type Thread = PromisedHandle<BlockRead<Summary>, SummaryOf>;
-
     ghost is_part = { IsSummaryOf };
 
     ghost is_so_far = { IsSummaryOfFirst };
 
-    ghost block_of = { summed_by };
-
-    fn start<R: Threads>(
-        rt: &R,
-        alloc: Global,
-        block: Block,
-    ) -> Result<Self::Thread, BlockRead<Summary>> {
-        let promise = SummaryOf(Snapshot::of(&block));
-        let reading = move || -> BlockRead<Summary>
-            requires { IsReadable block }
-            ensures { IfOk result.part (IsSummaryOf block) }
-        {
-            let part = summary_of(alloc, &block);
-            BlockRead {
-                part,
-                room: block.bytes,
-            }
-        };
-        match spawn_with(rt, promise, reading) {
-            Ok(thread) => Ok(thread),
-            Err(refused) => Err((refused.value)()),
-        }
-    }
-
-    fn wait<R: Threads>(rt: &R, thread: Self::Thread) -> BlockRead<Summary> {
-        thread.join(rt)
+    fn part_of(alloc: Global, block: &Block) -> Result<Summary, AllocError> {
+        summary_of(alloc, block)
     }
 
     fn let_go<R: Threads>(self, _rt: &R) {}

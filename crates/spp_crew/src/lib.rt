@@ -9,10 +9,11 @@
 //! Where there are three, little is done between them, and that by one thread or two: after the first it finds the frames
 //! that are open where each part begins, and before the last it settles the paths.
 //!
-//! A trace of either version can also come block by block, and need not be kept: [`RecordFigures`], [`RecordProfile`]. Each block
-//! is read by a thread of its own, whose handle promises that what it brings is of that block, and the calling thread joins
-//! in order what they bring, or reads the block itself: where there is one worker, and where blocks are slow to join. There
-//! is no desk and no round.
+//! A trace of either version can also come block by block, and need not be kept: [`RecordFigures`], [`RecordProfile`]. With
+//! several workers each block is posted to a pool of threads, one fewer than the workers; whoever reads one leaves in it what it
+//! comes to, in a place whose type promises that it is of that block. The calling thread joins the blocks in order, and reads
+//! posted ones too while it waits. Where there is one worker, and where blocks are slow to join, it reads each block itself.
+//! There is no desk and no round.
 #![tactic(auto)]
 
 mod block;
@@ -21,6 +22,8 @@ mod gate;
 mod joining;
 mod marking;
 mod once;
+mod pool;
+mod posted;
 mod profiled_blocks;
 mod profiling;
 mod record_figures;

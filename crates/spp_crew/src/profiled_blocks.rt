@@ -4,47 +4,17 @@ ghost use Rattle.std.specs.Prelude.{◌+◌, ℕ, IfOk, IfErr, OnOk};
 ghost use Rattle.spp_event.specs.Recordings.{Recording};
 ghost use Rattle.spp_frame.specs.Answers.{IsFaultOf};
 ghost use Rattle.spp_part.specs.Parts.{IsSoFar};
-ghost use Rattle.spp_crew.specs.Blocks.{IsBlockAt, IsPartOf, IsReadable, count_of, profiled_by};
+ghost use Rattle.spp_crew.specs.Blocks.{IsBlockAt, IsPartOf, IsReadable, count_of};
 ghost use Rattle.spp_crew.specs.Shared.{IsShared};
 
-use crate::block::{Block, BlockRead, SoFar};
+use crate::block::{Block, SoFar};
 use crate::shared_profile::SharedProfile;
 use spp_event::Version;
 use spp_frame::ProfileFault;
 use spp_maxplus::Burdens;
 use spp_part::{PartProfile, ProfileSoFar};
-use std::alloc::Global;
-use std::snapshot::Snapshot;
-use std::thread::{Promise, PromisedHandle, Threads, spawn_with};
-
-/// That a thread brings what this block comes to. Contracts alone see the block.
-#[derive(Drop)]
-pub(crate) struct PartOf(pub(crate) Snapshot<Block>);
-
-impl Promise<BlockRead<PartProfile>> for PartOf {
-    ghost kept_by = { λ p read. IfOk read.part (IsPartOf p.0.value) };
-}
-
-/// Reads a block.
-fn read(alloc: Global, block: Block) -> BlockRead<PartProfile>
-    requires { IsReadable block }
-    ensures { IfOk result.part (IsPartOf block) }
-{
-    let Block {
-        version,
-        bytes,
-        len,
-        sites,
-        funcs,
-        burdens,
-        ..
-    } = block;
-    let part = match version {
-        Version::One => PartProfile::of_records(alloc, &bytes[..len], sites, funcs, burdens),
-        Version::Two => PartProfile::of_items(alloc, &bytes[..len], sites, funcs, burdens),
-    };
-    BlockRead { part, room: bytes }
-}
+use std::alloc::{AllocError, Global};
+use std::thread::Threads;
 
 /// Goes on by the events of a block.
 ///
@@ -68,32 +38,17 @@ fn read_on(so_far: &mut ProfileSoFar, alloc: Global, block: &Block) -> Result<()
 impl SoFar for SharedProfile {
     type Part = PartProfile;
 
-    type Thread = PromisedHandle<BlockRead<PartProfile>, PartOf>;
-
     ghost is_part = { IsPartOf };
 
     ghost is_so_far = { IsShared };
 
-    ghost block_of = { profiled_by };
-
-    fn start<R: Threads>(
-        rt: &R,
-        alloc: Global,
-        block: Block,
-    ) -> Result<Self::Thread, BlockRead<PartProfile>> {
-        let promise = PartOf(Snapshot::of(&block));
-        let reading = move || -> BlockRead<PartProfile>
-            requires { IsReadable block }
-            ensures { IfOk result.part (IsPartOf block) }
-        { read(alloc, block) };
-        match spawn_with(rt, promise, reading) {
-            Ok(thread) => Ok(thread),
-            Err(refused) => Err((refused.value)()),
+    fn part_of(alloc: Global, block: &Block) -> Result<PartProfile, AllocError> {
+        let bytes = &block.bytes[..block.len];
+        let (sites, funcs, burdens) = (block.sites, block.funcs, block.burdens);
+        match block.version {
+            Version::One => PartProfile::of_records(alloc, bytes, sites, funcs, burdens),
+            Version::Two => PartProfile::of_items(alloc, bytes, sites, funcs, burdens),
         }
-    }
-
-    fn wait<R: Threads>(rt: &R, thread: Self::Thread) -> BlockRead<PartProfile> {
-        thread.join(rt)
     }
 
     fn joins_slowly(part: &PartProfile) -> bool {

@@ -8,9 +8,13 @@ ghost use Rattle.spp_dag.specs.Figures.{AreFigures};
 ghost use Rattle.spp_frame.specs.Answers.{IsFaultOf};
 ghost use Rattle.spp_frame.specs.Nesting.{IsFirstBad, IsWellFormed};
 ghost use Rattle.spp_crew.specs.RecordHeads.{IsHead};
+ghost use Rattle.spp_maxplus.specs.declared.state.Burdens.{Burdens as BurdensValue};
+ghost use Rattle.spp_crew.specs.Joinings.{IsShown, threads_in, waiting_in};
+ghost use Rattle.spp_crew.specs.Blocks.{IsSummaryOfFirst};
 
 use crate::block::{Block, RECORD};
 use crate::joining::Joining;
+use crate::pool::Opening;
 use crate::record_head::RecordHead;
 use crate::record_profile::are_bytes;
 use crate::shown::Shown;
@@ -20,10 +24,10 @@ use spp_frame::{Fault, ProfileFault, Why};
 use spp_maxplus::Burdens;
 use spp_summary::Summary;
 use std::alloc::{AllocError, Global};
-use std::thread::Threads;
+use std::thread::{Threads, spawn};
 
 /// The figures of a run whose events come block by block, in a trace of either version: what those that have come show. It
-/// keeps none but the blocks that threads still have.
+/// keeps none but the blocks that wait to be read or joined.
 #[derive(Drop)]
 pub struct RecordFigures {
     /// What the trace's header says. The function of the root doesn't matter.
@@ -49,8 +53,30 @@ fn cut_off(found: Result<Figures, Fault>, at: u32) -> Fault
     }
 }
 
+/// What is shown, with a thread more that reads blocks, where one waits and there are fewer of them than workers but this one. It is here,
+/// since what goes to a thread must be known to the borrow checker.
+fn with_thread<R: Threads>(
+    rt: &R,
+    alloc: Global,
+    shown: Shown<Summary>,
+    workers: u32,
+) -> Shown<Summary>
+    ensures same { (trace : Recording) (burdens : BurdensValue) (k : ℕ) → IsShown IsSummaryOfFirst trace burdens k shown → IsShown IsSummaryOfFirst trace burdens k result }
+    ensures waiting { waiting_in result ≡ waiting_in shown }
+    ensures threads { threads_in shown ≤ workers → threads_in result ≤ workers }
+    ensures fewer { threads_in shown < workers → threads_in result < workers }
+{
+    let mut shown = shown;
+    if let Some(Opening { task, life }) = shown.opening(rt, alloc, workers) {
+        if let Ok(thread) = spawn(rt, move || task.run(alloc)) {
+            shown.take_on(rt, thread, life);
+        }
+    }
+    shown
+}
+
 impl RecordFigures {
-    ghost use Rattle.spp_crew.specs.RecordFigures.{HasSeen, EndsWith, seen_by, threads_of};
+    ghost use Rattle.spp_crew.specs.RecordFigures.{HasSeen, EndsWith, seen_by, threads_of, waiting_of};
 
     /// Before the first record of a trace with that header.
     ///
@@ -63,12 +89,13 @@ impl RecordFigures {
         ensures head { IfOk result (λ f. f.head ≡ head) }
         ensures burdens { IfOk result (λ f. f.burdens ≡ burdens) }
         ensures threads { IfOk result (λ f. threads_of f ≡ 0) }
+        ensures waiting { IfOk result (λ f. waiting_of f ≡ 0) }
     {
         let summary = Summary::of_records(alloc, &[], head.sites, head.funcs, burdens, 0)?;
         Ok(RecordFigures {
             head,
             burdens,
-            shown: Shown::Good(Joining::behind(alloc, summary)),
+            shown: Shown::Good(Joining::behind(alloc, summary)?),
             at: 0,
         })
     }
@@ -79,7 +106,7 @@ impl RecordFigures {
     ///
     /// # Errors
     ///
-    /// Where an allocation failed. A thread that can't be started is no error: this one reads the records.
+    /// Where an allocation failed. A thread that can't be started is no error: the others read the records, or this one.
     pub fn followed_by_block<R: Threads>(
         self,
         rt: &R,
@@ -95,6 +122,8 @@ impl RecordFigures {
         ensures head { IfOk result (λ f. f.0.head ≡ self.head) }
         ensures burdens { IfOk result (λ f. f.0.burdens ≡ self.burdens) }
         ensures threads { IfOk result (λ f. threads_of self ≤ workers → threads_of f.0 ≤ workers) }
+        ensures fewer { IfOk result (λ f. threads_of self < workers → threads_of f.0 < workers) }
+        ensures waiting { IfOk result (λ f. waiting_of self < 2 * workers → waiting_of f.0 < 2 * workers) }
         ensures seen { IfOk result (λ f. (rs : List Record) → HasSeen self rs → HasSeen f.0 (rs ++ records_of One self.head.sites self.head.funcs (len / 16) (take len bytes.items))) }
     {
         let count = (len / RECORD) as u32;
@@ -106,7 +135,7 @@ impl RecordFigures {
     ///
     /// # Errors
     ///
-    /// Where an allocation failed; no thread is left then. One that can't be started is no error: this one reads the events.
+    /// Where an allocation failed; no thread is left then. One that can't be started is no error: the others read the events, or this one.
     pub fn followed_by_events<R: Threads>(
         self,
         rt: &R,
@@ -125,6 +154,8 @@ impl RecordFigures {
         ensures head { IfOk result (λ f. f.0.head ≡ self.head) }
         ensures burdens { IfOk result (λ f. f.0.burdens ≡ self.burdens) }
         ensures threads { IfOk result (λ f. threads_of self ≤ workers → threads_of f.0 ≤ workers) }
+        ensures fewer { IfOk result (λ f. threads_of self < workers → threads_of f.0 < workers) }
+        ensures waiting { IfOk result (λ f. waiting_of self < 2 * workers → waiting_of f.0 < 2 * workers) }
         ensures seen { IfOk result (λ f. (rs : List Record) → HasSeen self rs → HasSeen f.0 (rs ++ records_of version self.head.sites self.head.funcs count (take len bytes.items))) }
     {
         let RecordFigures {
@@ -145,6 +176,7 @@ impl RecordFigures {
             burdens,
         };
         let (shown, room) = shown.followed_by(rt, alloc, block, head.count, workers)?;
+        let shown = with_thread(rt, alloc, shown, workers);
         let figures = RecordFigures {
             head,
             burdens,

@@ -7,9 +7,13 @@ ghost use Rattle.spp_dag.specs.Figures.{AreFigures};
 ghost use Rattle.spp_frame.specs.Answers.{IsFaultOf};
 ghost use Rattle.spp_site.specs.Profiles.{IsProfileOf};
 ghost use Rattle.spp_crew.specs.RecordHeads.{IsHead};
+ghost use Rattle.spp_maxplus.specs.declared.state.Burdens.{Burdens as BurdensValue};
+ghost use Rattle.spp_crew.specs.Joinings.{IsShown, threads_in, waiting_in};
+ghost use Rattle.spp_crew.specs.Shared.{IsShared};
 
 use crate::block::{Block, RECORD};
 use crate::joining::Joining;
+use crate::pool::Opening;
 use crate::record_head::RecordHead;
 use crate::shared_profile::SharedProfile;
 use crate::shown::Shown;
@@ -19,10 +23,10 @@ use spp_maxplus::Burdens;
 use spp_site::Profile;
 use std::alloc::{AllocError, Global};
 use std::sync::Wait;
-use std::thread::Threads;
+use std::thread::{Threads, spawn};
 
 /// The profile of a run whose events come block by block, in a trace of either version: what those that have come show. It
-/// keeps none but the blocks that threads still have.
+/// keeps none but the blocks that wait to be read or joined.
 #[derive(Drop)]
 pub struct RecordProfile {
     /// What the trace's header says.
@@ -40,8 +44,30 @@ pub(crate) fn are_bytes(bytes: &[u8])
     ensures { (i : ℕ) → slice_index bytes.now i < 256 }
 {}
 
+/// What is shown, with a thread more that reads blocks, where one waits and there are fewer of them than workers but this one. It is here,
+/// since what goes to a thread must be known to the borrow checker.
+fn with_thread<R: Threads>(
+    rt: &R,
+    alloc: Global,
+    shown: Shown<SharedProfile>,
+    workers: u32,
+) -> Shown<SharedProfile>
+    ensures same { (trace : Recording) (burdens : BurdensValue) (k : ℕ) → IsShown IsShared trace burdens k shown → IsShown IsShared trace burdens k result }
+    ensures waiting { waiting_in result ≡ waiting_in shown }
+    ensures threads { threads_in shown ≤ workers → threads_in result ≤ workers }
+    ensures fewer { threads_in shown < workers → threads_in result < workers }
+{
+    let mut shown = shown;
+    if let Some(Opening { task, life }) = shown.opening(rt, alloc, workers) {
+        if let Ok(thread) = spawn(rt, move || task.run(alloc)) {
+            shown.take_on(rt, thread, life);
+        }
+    }
+    shown
+}
+
 impl RecordProfile {
-    ghost use Rattle.spp_crew.specs.RecordProfiles.{HasSeen, EndsWith, seen_by, threads_of};
+    ghost use Rattle.spp_crew.specs.RecordProfiles.{HasSeen, EndsWith, seen_by, threads_of, waiting_of};
 
     /// Before the first record of a trace with that header.
     ///
@@ -54,16 +80,15 @@ impl RecordProfile {
         ensures head { IfOk result (λ p. p.head ≡ head) }
         ensures burdens { IfOk result (λ p. p.burdens ≡ burdens) }
         ensures threads { IfOk result (λ p. threads_of p ≡ 0) }
+        ensures waiting { IfOk result (λ p. waiting_of p ≡ 0) }
     {
         // For what it states: each is a number of 32 bits.
         burdens.are_small();
+        let so_far = SharedProfile::start(alloc, head.root, head.sites)?;
         Ok(RecordProfile {
             head,
             burdens,
-            shown: Shown::Good(Joining::behind(
-                alloc,
-                SharedProfile::start(alloc, head.root, head.sites)?,
-            )),
+            shown: Shown::Good(Joining::behind(alloc, so_far)?),
             at: 0,
         })
     }
@@ -72,7 +97,7 @@ impl RecordProfile {
     ///
     /// # Errors
     ///
-    /// Where an allocation failed. A thread that can't be started is no error: this one reads the records.
+    /// Where an allocation failed. A thread that can't be started is no error: the others read the records, or this one.
     pub fn followed_by<R: Threads + Wait + Sync>(
         self,
         rt: &R,
@@ -86,6 +111,8 @@ impl RecordProfile {
         ensures head { IfOk result (λ p. p.head ≡ self.head) }
         ensures burdens { IfOk result (λ p. p.burdens ≡ self.burdens) }
         ensures threads { IfOk result (λ p. threads_of self ≤ workers → threads_of p ≤ workers) }
+        ensures fewer { IfOk result (λ p. threads_of self < workers → threads_of p < workers) }
+        ensures waiting { IfOk result (λ p. waiting_of self < 2 * workers → waiting_of p < 2 * workers) }
         ensures seen { IfOk result (λ p. (rs : List Record) → HasSeen self rs → HasSeen p (rs ++ records_of One self.head.sites self.head.funcs (length bytes.now / 16) bytes.now)) }
     {
         let block = bytes.to_vec(alloc)?;
@@ -94,20 +121,21 @@ impl RecordProfile {
     }
 
     /// The profile behind the whole records of the first `len` of these bytes as well, and room for the bytes of other records:
-    /// a list of any bytes, mostly as long. Where so many workers, 1 to 64, are several, a new thread reads the records, by
-    /// `PartProfile::of_records`, while this one goes on; what it finds is joined, by `ProfileSoFar::join` or, where threads
-    /// add rows up, by `join_aside`, once so many threads are at work, or at the end. So the time is that of starting a thread,
-    /// of waiting for an earlier one, and of joining what that found. This thread reads them itself, by
-    /// `ProfileSoFar::read_records`, where there is one worker, and for some calls behind records that were slow to join
-    /// (`PartProfile::joins_slowly`). How many workers there are doesn't show in the profile. The time is constant where a bad
-    /// event was met before, or where more records have come than the header claims. The memory, besides that of the profile so
-    /// far, is for each thread, and for one block more, which is joined while all of them read, that of the bytes and of what
-    /// they come to. Where a trace has many call sites, two threads more add rows up, in tables of their own (`RowsAside`), and
-    /// a join waits for the earlier of them.
+    /// a list of any bytes, mostly as long. Where so many workers, 1 to 64, are several, the records are posted: a thread, of which
+    /// there are fewer than workers, reads them, by `PartProfile::of_records`, while this one goes on. Each call joins at most
+    /// the records of one call before it, the first that weren't joined, by `ProfileSoFar::join` or, where threads add rows up,
+    /// by `join_aside`: where a thread has read them, or where those of twice as many calls as workers wait. So the time is
+    /// that of joining them, and in the second case of reading other records meanwhile, or of waiting for the threads; and that
+    /// of starting a thread, where one is wanting. This thread reads the records itself, by `ProfileSoFar::read_records`, where
+    /// there is one worker, and for some calls behind records that were slow to join (`PartProfile::joins_slowly`). How many
+    /// workers there are doesn't show in the profile. The time is constant where a bad event was met before, or where more
+    /// records have come than the header claims. The memory, besides that of the profile so far, is at most that of the bytes
+    /// of twice as many calls as there are workers, and of what they come to. Where a trace has many call sites, two threads
+    /// more add rows up, in tables of their own (`RowsAside`), and a join waits for the earlier of them.
     ///
     /// # Errors
     ///
-    /// Where an allocation failed. A thread that can't be started is no error: this one reads the records.
+    /// Where an allocation failed. A thread that can't be started is no error: the others read the records, or this one.
     pub fn followed_by_block<R: Threads>(
         self,
         rt: &R,
@@ -123,6 +151,8 @@ impl RecordProfile {
         ensures head { IfOk result (λ p. p.0.head ≡ self.head) }
         ensures burdens { IfOk result (λ p. p.0.burdens ≡ self.burdens) }
         ensures threads { IfOk result (λ p. threads_of self ≤ workers → threads_of p.0 ≤ workers) }
+        ensures fewer { IfOk result (λ p. threads_of self < workers → threads_of p.0 < workers) }
+        ensures waiting { IfOk result (λ p. waiting_of self < 2 * workers → waiting_of p.0 < 2 * workers) }
         ensures seen { IfOk result (λ p. (rs : List Record) → HasSeen self rs → HasSeen p.0 (rs ++ records_of One self.head.sites self.head.funcs (len / 16) (take len bytes.items))) }
     {
         let count = (len / RECORD) as u32;
@@ -134,7 +164,7 @@ impl RecordProfile {
     ///
     /// # Errors
     ///
-    /// Where an allocation failed; no thread is left then. One that can't be started is no error: this one reads the events.
+    /// Where an allocation failed; no thread is left then. One that can't be started is no error: the others read the events, or this one.
     pub fn followed_by_events<R: Threads>(
         self,
         rt: &R,
@@ -153,6 +183,8 @@ impl RecordProfile {
         ensures head { IfOk result (λ p. p.0.head ≡ self.head) }
         ensures burdens { IfOk result (λ p. p.0.burdens ≡ self.burdens) }
         ensures threads { IfOk result (λ p. threads_of self ≤ workers → threads_of p.0 ≤ workers) }
+        ensures fewer { IfOk result (λ p. threads_of self < workers → threads_of p.0 < workers) }
+        ensures waiting { IfOk result (λ p. waiting_of self < 2 * workers → waiting_of p.0 < 2 * workers) }
         ensures seen { IfOk result (λ p. (rs : List Record) → HasSeen self rs → HasSeen p.0 (rs ++ records_of version self.head.sites self.head.funcs count (take len bytes.items))) }
     {
         let RecordProfile {
@@ -173,6 +205,7 @@ impl RecordProfile {
             burdens,
         };
         let (shown, room) = shown.followed_by(rt, alloc, block, head.count, workers)?;
+        let shown = with_thread(rt, alloc, shown, workers);
         let profile = RecordProfile {
             head,
             burdens,

@@ -1,15 +1,18 @@
 //! What the events that have come of a run show.
 
-ghost use Rattle.std.specs.Prelude.{◌≡◌, ◌+◌, ◌≤◌, ◌<◌, ◌^◌, ℕ, length, IfOk};
+ghost use Rattle.std.specs.Prelude.{◌≡◌, ◌+◌, ◌*◌, ◌≤◌, ◌<◌, ◌^◌, ℕ, length, IfOk, IfSome};
 ghost use Rattle.spp_event.specs.Recordings.{Recording, count_in};
+ghost use Rattle.spp_maxplus.specs.declared.state.Burdens.{Burdens as BurdensValue};
 ghost use Rattle.spp_crew.specs.Blocks.{IsBlockAt, bytes_of, count_of};
 ghost use Rattle.spp_crew.specs.declared.shown.Shown.TheVariants.{Good as IsGood};
 
 use crate::block::{Block, SoFar};
 use crate::joining::Joining;
+use crate::pool::Opening;
 use spp_frame::{Fault, ProfileFault};
 use std::alloc::{AllocError, Global};
-use std::thread::Threads;
+use std::sync::Arc;
+use std::thread::{JoinHandle, Threads};
 
 /// What the events that have come of a run show.
 #[derive(Drop)]
@@ -21,7 +24,7 @@ pub(crate) enum Shown<A: SoFar> {
 }
 
 impl<A: SoFar> Shown<A> {
-    ghost use Rattle.spp_crew.specs.Joinings.{HasCome, IsShown, threads_in};
+    ghost use Rattle.spp_crew.specs.Joinings.{HasCome, IsShown, threads_in, waiting_in};
     ghost use Rattle.spp_crew.specs.declared.joining.Joining.{Joining as JoiningValue};
 
     /// What they show with those of the next block, and room for another one's bytes, in a trace whose header claims so many
@@ -44,9 +47,10 @@ impl<A: SoFar> Shown<A> {
         requires counted { count_of block ≡ count_in block.version (bytes_of block) }
         requires room { block.first + count_of block < 2 ^ 32 }
         requires few { count ≤ 2 ^ 28 }
-        requires come { (joining : JoiningValue A A.Part A.Thread) → self ≡ IsGood joining → block.first + count_of block ≤ count → (trace : Recording) × HasCome A.block_of A.is_so_far trace block.burdens block.first joining × IsBlockAt trace block.burdens block.first block }
-        ensures shown { IfOk result (λ r. (trace : Recording) → block.first + count_of block ≤ count → IsShown A.block_of A.is_so_far trace block.burdens block.first self → IsBlockAt trace block.burdens block.first block → IsShown A.block_of A.is_so_far trace block.burdens (block.first + count_of block) r.0) }
-        ensures threads { IfOk result (λ r. threads_in self ≤ workers → threads_in r.0 ≤ workers) }
+        requires come { (joining : JoiningValue A A.Part A.SoFar) → self ≡ IsGood joining → block.first + count_of block ≤ count → (trace : Recording) × HasCome A.is_so_far trace block.burdens block.first joining × IsBlockAt trace block.burdens block.first block }
+        ensures shown { IfOk result (λ r. (trace : Recording) → block.first + count_of block ≤ count → IsShown A.is_so_far trace block.burdens block.first self → IsBlockAt trace block.burdens block.first block → IsShown A.is_so_far trace block.burdens (block.first + count_of block) r.0) }
+        ensures threads { IfOk result (λ r. threads_in r.0 ≤ threads_in self) }
+        ensures few { IfOk result (λ r. waiting_in self < 2 * workers → waiting_in r.0 < 2 * workers) }
     {
         if block.first + block.count > count {
             return Ok((self, block.bytes));
@@ -66,6 +70,38 @@ impl<A: SoFar> Shown<A> {
         match self {
             Shown::Good(joining) => joining.reads_here(),
             Shown::Bad(_) => false,
+        }
+    }
+
+    /// A thread to be started, where a block waits for one and there are fewer than the workers but this one.
+    pub(crate) fn opening<R: Threads>(
+        &mut self,
+        rt: &R,
+        alloc: Global,
+        workers: u32,
+    ) -> Option<Opening<A>>
+        ensures same { (trace : Recording) (burdens : BurdensValue) (k : ℕ) → IsShown A.is_so_far trace burdens k self.old → IsShown A.is_so_far trace burdens k self.new }
+        ensures waiting { waiting_in self.new ≡ waiting_in self.old }
+        ensures fewer { threads_in self.new ≤ threads_in self.old }
+        ensures room { IfSome result (λ opening. threads_in self.new + 1 < workers) }
+    {
+        match self {
+            Shown::Good(joining) => joining
+                .pool
+                .opening(rt, alloc, workers.saturating_sub(1) as usize),
+            Shown::Bad(_) => None,
+        }
+    }
+
+    /// With a thread more that reads blocks.
+    pub(crate) fn take_on<R: Threads>(&mut self, rt: &R, thread: JoinHandle<()>, life: Arc<()>)
+        ensures same { (trace : Recording) (burdens : BurdensValue) (k : ℕ) → IsShown A.is_so_far trace burdens k self.old → IsShown A.is_so_far trace burdens k self.new }
+        ensures waiting { waiting_in self.new ≡ waiting_in self.old }
+        ensures more { threads_in self.new ≤ threads_in self.old + 1 }
+    {
+        match self {
+            Shown::Good(joining) => joining.pool.take_on(rt, thread, life),
+            Shown::Bad(_) => thread.join(rt),
         }
     }
 

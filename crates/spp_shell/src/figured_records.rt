@@ -13,7 +13,7 @@ use std::thread::Threads;
 pub(crate) struct FiguredRecords {
     pub(crate) figures: RecordFigures,
     pub(crate) alloc: Global,
-    /// How many workers there are, each of which reads a block.
+    /// How many workers there are, which share the blocks.
     pub(crate) workers: u32,
 }
 

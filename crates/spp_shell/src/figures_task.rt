@@ -150,8 +150,8 @@ fn figure_whole<R: Threads + Wait + Sync, S: Source>(
 
 /// The figures of the run whose trace an input gives, as a text, or why there is none.
 ///
-/// The events of a trace are read in blocks as they come, and let go; by two workers or more each block is read by a thread of
-/// its own, while the next ones come. An input of which [`Head::of`] finds no header is read whole, and cut into parts; where no
+/// The events of a trace are read in blocks as they come, and let go; by two workers or more, threads go over the blocks while the
+/// next ones come, and this one goes over some where it would wait for them. An input of which [`Head::of`] finds no header is read whole, and cut into parts; where no
 /// trace begins as it does, it is refused without reading on where [`Head::of`] shows that.
 pub(crate) fn figures_input<R: Threads + Wait + Sync, S: Source + Send>(
     rt: &R,

@@ -200,8 +200,8 @@ fn open_header<'a>(
 
 /// What is told of the run whose trace an input gives, or why nothing is.
 ///
-/// The events of a trace are profiled as they come, in blocks, and let go; by two workers or more each block is read by a thread of
-/// its own, while the next ones come, but where blocks are slow to join. Read whole first are an input that ends within its header,
+/// The events of a trace are profiled as they come, in blocks, and let go; by two workers or more, threads go over the blocks while
+/// the next ones come, and this one goes over some where it would wait for them, or where blocks are slow to join. Read whole first are an input that ends within its header,
 /// and one where memory is refused for its header or for the beginning of its profile. Where no trace begins as it does, it is
 /// refused without reading on where [`open_front`] shows that.
 pub(crate) fn tell_input<R: Threads + Wait + Sync, S: Source + Send, T: Telling>(

@@ -1,18 +1,18 @@
+use Rattle.std.proofs.Common.{◌+◌}
+use Rattle.spp_crew.specs.Blocks.{count_of}
 use Rattle.spp_crew.proofs.Profiled.{if_ok}
 use Rattle.spp_crew.proofs.RecordProfiles.{if_err}
 use Rattle.spp_crew.proofs.joining.Joining.go_on.Goals as goal
 
-pub returns-in-Err-first_brought-clause-fault : goal.returns-in-Err-first_brought-clause-fault
-returns-in-Err-first_brought-clause-fault g c trace k come at = c.in-Err-first_brought.ensures.fault trace.records
+pub join_first-requires-clause-come : goal.join_first-requires-clause-come
+join_first-requires-clause-come g c =
+    let come = c.requires.come in
+    (come.0, come.1 + count_of c.args.block, c.in-Ok.ensures.come come.0 c.args.block.burdens come.1 come.2 come.3)
 
-pub returns-then-threads-eq0-2-clause-come : goal.returns-then-threads-eq0-2-clause-come
-returns-then-threads-eq0-2-clause-come g c =
-    if_ok c.join_and_read.result (λ j h. λ trace k come at. h trace k (c.in-Ok-first_brought.ensures.brought trace c.args.block.burdens k come) at) c.join_and_read.ensures.come
+pub returns-clause-come : goal.returns-clause-come
+returns-clause-come g c =
+    if_ok c.join_first.result (λ j h. λ trace k come at. h trace (k + count_of c.args.block) (c.in-Ok.ensures.come trace c.args.block.burdens k come at)) c.join_first.ensures.come
 
-pub returns-then-threads-eq0-2-clause-fault : goal.returns-then-threads-eq0-2-clause-fault
-returns-then-threads-eq0-2-clause-fault g c =
-    if_err c.join_and_read.result (λ f h. λ trace k come at. h trace k (c.in-Ok-first_brought.ensures.brought trace c.args.block.burdens k come) at) c.join_and_read.ensures.fault
-
-pub returns-in-Err-join_beside-clause-fault : goal.returns-in-Err-join_beside-clause-fault
-returns-in-Err-join_beside-clause-fault g c trace k come at =
-    c.in-Err-join_beside.ensures.fault trace k (c.in-Ok-first_brought.ensures.brought trace c.args.block.burdens k come) at
+pub returns-clause-fault : goal.returns-clause-fault
+returns-clause-fault g c =
+    if_err c.join_first.result (λ f h. λ trace k come at. h trace (k + count_of c.args.block) (c.in-Ok.ensures.come trace c.args.block.burdens k come at)) c.join_first.ensures.fault

@@ -1,5 +1,7 @@
-use Rattle.std.proofs.Common.{◌+◌}
+use Rattle.std.proofs.Common.{◌+◌, refl}
+use Rattle.std.proofs.lemmas.List.{nil_from_length}
 use Rattle.spp_crew.specs.Blocks.{count_of}
+use Rattle.spp_crew.proofs.Joinings.{no_blocks}
 use Rattle.spp_crew.proofs.joining.Joining.read_here.Goals as goal
 
 pub returns-in-Err-clause-fault : goal.returns-in-Err-clause-fault
@@ -12,8 +14,8 @@ read-requires-clause-so_far g c =
 
 pub returns-in-Ok-read-clause-come : goal.returns-in-Ok-read-clause-come
 returns-in-Ok-read-clause-come g c trace k come at =
-    let then = c.in-Ok-read.ensures.so_far trace k (c.in-Ok.ensures.so_far trace k come) at in
-    c.read_by.ensures.come trace c.args.block.burdens (k + count_of c.args.block) then
+    let behind = k + count_of c.args.block in
+    (behind, c.in-Ok-read.ensures.so_far trace k (c.in-Ok.ensures.so_far trace k come) at, no_blocks trace c.args.block.burdens behind c.in-Ok.joined.waiting.items (nil_from_length _ c.in-Ok.ensures.none))
 
 pub returns-in-Err-read-clause-fault : goal.returns-in-Err-read-clause-fault
 returns-in-Err-read-clause-fault g c trace k come at = c.in-Err-read.ensures.fault trace k (c.in-Ok.ensures.so_far trace k come) at

@@ -9,5 +9,5 @@ returns-clause-seen c =
     record {
       count = refl;
       good = events_nil c.args.head.sites c.args.head.funcs;
-      found = λ t b. c.behind.ensures.come t c.args.burdens 0 none;
+      found = λ t b. c.in_ok-behind.ensures.come t c.args.burdens 0 none;
     }

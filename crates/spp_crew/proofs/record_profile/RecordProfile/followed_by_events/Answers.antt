@@ -1,7 +1,6 @@
-use Rattle.std.proofs.Common.{◌++◌, ◌<◌, ℕ, List, take, get_or, refl, subst, arith}
+use Rattle.std.proofs.Common.{◌+◌, ◌++◌, ◌<◌, ℕ, List, take, get_or, refl, subst, arith}
 use Rattle.spp_event.specs.Recordings.{Record, records_of}
 use Rattle.spp_crew.specs.Shared.{IsShared}
-use Rattle.spp_crew.specs.Blocks.{profiled_by}
 use Rattle.spp_crew.specs.declared.block.Block.{Block}
 use Rattle.spp_crew.proofs.RecordProfiles.{come_if, sample_of, sample_begins, count_more, good_more, block_at, before_block, block_within, shown_before, shown_behind}
 use Rattle.spp_crew.proofs.record_profile.RecordProfile.followed_by_events.Goals as goal
@@ -16,8 +15,8 @@ followed_by-requires-clause-come g c joining is few =
     let all : List Record = rs ++ records_of c.args.version p.head.sites p.head.funcs c.args.count (take c.args.len c.args.bytes.items) in
     let t = sample_of p.head all in
     let b = sample_begins p.head p.limits all (good_more block rs seen.count fits seen.good) (omega (arith, few, count_more block rs seen.count)) in
-    let shown = shown_before block rs seen.count profiled_by IsShared p.shown t (seen.found t (before_block block rs seen.count t p.head refl refl b)) in
-    (t, come_if profiled_by IsShared t p.burdens p.at p.shown joining is shown, block_at block rs seen.count t p.head refl refl b)
+    let shown = shown_before block rs seen.count IsShared p.shown t (seen.found t (before_block block rs seen.count t p.head refl refl b)) in
+    (t, come_if IsShared t p.burdens p.at p.shown joining is shown, block_at block rs seen.count t p.head refl refl b)
 
 pub returns-clause-seen : goal.returns-clause-seen
 returns-clause-seen g c rs seen =
@@ -28,7 +27,7 @@ returns-clause-seen g c rs seen =
       count = count_more block rs seen.count;
       good = good_more block rs seen.count fits seen.good;
       found = λ t b.
-          let before = shown_before block rs seen.count profiled_by IsShared p.shown t (seen.found t (before_block block rs seen.count t p.head refl refl b)) in
-          shown_behind block rs seen.count profiled_by IsShared c.in_ok-shown.shown t
-          (c.in_ok-shown.ensures.shown t (block_within block rs seen.count t p.head refl refl b) before (block_at block rs seen.count t p.head refl refl b));
+          let before = shown_before block rs seen.count IsShared p.shown t (seen.found t (before_block block rs seen.count t p.head refl refl b)) in
+          shown_behind block rs seen.count IsShared c.with_thread-shown.result t
+          (c.with_thread-shown.ensures.same t p.burdens (p.at + c.args.count) (c.in_ok-shown.ensures.shown t (block_within block rs seen.count t p.head refl refl b) before (block_at block rs seen.count t p.head refl refl b)));
     }

@@ -7,5 +7,5 @@ returns-clause-seen c =
     record {
       count = refl;
       good = events_nil c.args.head.sites c.args.head.funcs;
-      found = λ t b. c.behind.ensures.come t c.args.burdens 0 (c.in_ok-start.ensures t c.args.burdens b.root_is b.limits b.good c.are_small.ensures.continuation c.are_small.ensures.join);
+      found = λ t b. c.in_ok-behind.ensures.come t c.args.burdens 0 (c.in_ok-so_far.ensures t c.args.burdens b.root_is b.limits b.good c.are_small.ensures.continuation c.are_small.ensures.join);
     }

@@ -11,5 +11,5 @@ go_on-requires-clause-come g c =
 
 pub returns-in-Err-Bad-clause-shown : goal.returns-in-Err-Bad-clause-shown
 returns-in-Err-Bad-clause-shown g c = λ trace few shown at.
-    let come = come_if g.A.SoFar.block_of g.A.SoFar.is_so_far trace c.args.block.burdens c.args.block.first c.args.self c.in-Good.joining c.in-Good.is shown in
+    let come = come_if g.A.SoFar.is_so_far trace c.args.block.burdens c.args.block.first c.args.self c.in-Good.joining c.in-Good.is shown in
     subst (λ (f : ProfileFault). IsFaultOf trace.records f) c.in-Err-Bad.field-0-is (c.in-Err-Bad.ensures.fault trace c.args.block.first come at)
