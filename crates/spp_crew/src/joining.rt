@@ -1,6 +1,6 @@
 //! Joining what blocks of events come to, which threads read.
 
-ghost use Rattle.std.specs.Prelude.{◌≡◌, ◌+◌, ◌-◌, ◌*◌, ◌≤◌, ◌<◌, ◌++◌, ◌∷◌, [], ℕ, List, length, IfOk, IfErr, OnOk};
+ghost use Rattle.std.specs.Prelude.{◌≡◌, ◌+◌, ◌-◌, ◌*◌, ◌≤◌, ◌<◌, ◌++◌, ◌∷◌, [], ℕ, List, length, IfOk, IfErr, IsTrue, OnOk};
 ghost use Rattle.spp_event.specs.Recordings.{Record, Recording};
 ghost use Rattle.spp_frame.specs.Answers.{IsFaultOf};
 ghost use Rattle.spp_maxplus.specs.declared.state.Burdens.{Burdens as BurdensValue};
@@ -27,7 +27,7 @@ enum Readers {
     All,
     /// This thread.
     Here {
-        /// So many blocks. Then one is posted, which shows whether they are still slow to join.
+        /// So many blocks. Then one is posted, a sample: it shows whether they are still slow to join.
         left: u32,
         /// How many they were at first.
         all: u32,
@@ -119,6 +119,16 @@ impl<A: SoFar> Joining<A> {
         }
     }
 
+    /// Whether a block waits that shows whether blocks are still slow to join.
+    fn awaits_sample(&self) -> bool
+        ensures { IsTrue result → 0 < length self.now.waiting.items }
+    {
+        match self.readers {
+            Readers::Here { left: 0, .. } => !self.waiting.is_empty(),
+            _ => false,
+        }
+    }
+
     /// Waits for the threads, and lets go of all.
     pub(crate) fn let_go<R: Threads>(self, rt: &R) {
         self.pool.let_go(rt);
@@ -152,7 +162,7 @@ impl<A: SoFar> Joining<A> {
         let Some(posted) = waiting.pop_front() else {
             unreachable!();
         };
-        let Ok(part) = pool.found(rt, alloc, &posted) else {
+        let Ok(part) = pool.wait_for(rt, alloc, &posted) else {
             pool.let_go(rt);
             so_far.let_go(rt);
             return Err(ProfileFault::Memory);
@@ -173,6 +183,32 @@ impl<A: SoFar> Joining<A> {
                 pool.let_go(rt);
                 Err(fault)
             }
+        }
+    }
+
+    /// With the block joined, if one waits, that shows whether blocks are still slow to join.
+    ///
+    /// # Errors
+    ///
+    /// The first bad event, if it was met, or `Memory` where an allocation failed. No thread is left then.
+    fn join_sample<R: Threads>(
+        self,
+        rt: &R,
+        alloc: Global,
+        burdens: Burdens,
+    ) -> Result<Self, ProfileFault>
+        requires { (trace : Recording) × (k : ℕ) × HasCome A.is_so_far trace burdens k self }
+        ensures come { IfOk result (λ j. (trace : Recording) (k : ℕ) → HasCome A.is_so_far trace burdens k self → HasCome A.is_so_far trace burdens k j) }
+        ensures fewer { IfOk result (λ j. length j.waiting.items ≤ length self.waiting.items) }
+        ensures threads { IfOk result (λ j. length j.pool.threads.items ≤ length self.pool.threads.items) }
+        ensures fault { IfErr result (λ f. (trace : Recording) (k : ℕ) → HasCome A.is_so_far trace burdens k self → IsFaultOf trace.records f) }
+    {
+        if !self.awaits_sample() {
+            return Ok(self);
+        }
+        match self.join_first(rt, alloc, burdens) {
+            Ok((joining, _)) => Ok(joining),
+            Err(fault) => Err(fault),
         }
     }
 
@@ -310,12 +346,15 @@ impl<A: SoFar> Joining<A> {
         ensures threads { IfOk result (λ j. length j.0.pool.threads.items ≤ length self.pool.threads.items) }
         ensures few { IfOk result (λ j. length self.waiting.items < 2 * workers → length j.0.waiting.items < 2 * workers) }
     {
-        let most = self.readers.most_waiting(workers);
-        if most == 0 {
-            return self.read_here(rt, alloc, block);
-        }
         let burdens = block.burdens;
-        let mut joining = self;
+        let mut joining = match self.join_sample(rt, alloc, burdens) {
+            Ok(joining) => joining,
+            Err(fault) => return Err(fault),
+        };
+        let most = joining.readers.most_waiting(workers);
+        if most == 0 {
+            return joining.read_here(rt, alloc, block);
+        }
         let Ok(()) = joining.post(alloc, block) else {
             joining.let_go(rt);
             return Err(ProfileFault::Memory);

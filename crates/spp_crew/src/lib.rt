@@ -10,7 +10,7 @@
 //! that are open where each part begins, and before the last it settles the paths.
 //!
 //! A trace of either version can also come block by block, and need not be kept: [`RecordFigures`], [`RecordProfile`]. With
-//! several workers each block is posted to a pool of threads, one fewer than the workers; whoever reads one leaves in it what it
+//! several workers each block is posted to a pool of threads, fewer than the workers; whoever reads one leaves in it what it
 //! comes to, in a place whose type promises that it is of that block. The calling thread joins the blocks in order, and reads
 //! posted ones too while it waits. Where there is one worker, and where blocks are slow to join, it reads each block itself.
 //! There is no desk and no round.

@@ -19,21 +19,21 @@ const ROOM: usize = 16;
 #[derive(Drop)]
 struct Reader {
     thread: JoinHandle<()>,
-    /// Shared with the thread until either lets go of it: the thread as it ends, the pool where it wants no more.
-    life: Arc<()>,
+    /// Shared with the thread until either lets go of it: the thread as it ends, the pool where it wants it to end.
+    alive: Arc<()>,
 }
 
 impl Reader {
     /// Waits for the thread, which ends once nothing is posted.
     fn join<R: Threads>(self, rt: &R) {
-        let Reader { thread, life } = self;
-        drop(life);
+        let Reader { thread, alive } = self;
+        drop(alive);
         thread.join(rt);
     }
 
     /// Whether the thread has ended, or is about to.
     fn has_ended(&self) -> bool {
-        Arc::strong_count(&self.life) == 1
+        Arc::strong_count(&self.alive) == 1
     }
 }
 
@@ -42,17 +42,18 @@ impl Reader {
 pub(crate) struct Task<A: SoFar> {
     posted: Stealer<Arc<Posted<A>>>,
     /// Shared with the pool: see [`Reader`].
-    life: Arc<()>,
+    alive: Arc<()>,
 }
 
 impl<A: SoFar> Task<A> {
     /// Whether the pool still wants the thread where nothing is posted.
     fn is_wanted(&self) -> bool {
-        Arc::strong_count(&self.life) > 1
+        Arc::strong_count(&self.alive) > 1
     }
 
     pub(crate) fn run(self, alloc: Global) {
         let mut looks = 0;
+        // Bounded, so that it is proved to end.
         for _ in 0..u64::MAX {
             match self.posted.steal() {
                 Steal::Success(block) => {
@@ -72,16 +73,17 @@ impl<A: SoFar> Task<A> {
 
 /// A thread that is to be started.
 #[derive(Drop)]
-pub(crate) struct Opening<A: SoFar> {
+pub(crate) struct NewThread<A: SoFar> {
     /// What it does.
     pub(crate) task: Task<A>,
     /// What it shares with the pool.
-    pub(crate) life: Arc<()>,
+    pub(crate) alive: Arc<()>,
 }
 
-/// Threads that read the blocks that are posted, and those that no thread has begun to read.
+/// The posted blocks that no thread has begun to read, and the threads that read them.
 ///
-/// A thread ends where none is posted, so threads wait for nothing, and to join one waits at most for the blocks that are posted.
+/// A thread that finds no block looks some times more, and ends then. So threads don't block, and to join one waits at most for the
+/// blocks that are posted.
 #[derive(Drop)]
 pub(crate) struct Pool<A: SoFar> {
     posted: Worker<Arc<Posted<A>>>,
@@ -123,15 +125,16 @@ impl<A: SoFar> Pool<A> {
         }
     }
 
-    /// A thread to be started, where a block waits for one and there are fewer than `most`; none where an allocation failed.
-    pub(crate) fn opening<R: Threads>(
+    /// A thread to be started, where a posted block is still to be read and there are fewer threads than `most`; none where an
+    /// allocation failed.
+    pub(crate) fn new_thread<R: Threads>(
         &mut self,
         rt: &R,
         alloc: Global,
         most: usize,
-    ) -> Option<Opening<A>>
+    ) -> Option<NewThread<A>>
         ensures fewer { length self.new.threads.items ≤ length self.old.threads.items }
-        ensures room { IfSome result (λ opening. length self.new.threads.items < most) }
+        ensures room { IfSome result (λ new_thread. length self.new.threads.items < most) }
     {
         if self.posted.is_empty() {
             return None;
@@ -142,30 +145,30 @@ impl<A: SoFar> Pool<A> {
         if self.threads.len() >= most {
             return None;
         }
-        let life = Arc::new(alloc, ()).ok()?;
+        let alive = Arc::new(alloc, ()).ok()?;
         let task = Task {
             posted: self.posted.stealer().ok()?,
-            life: Arc::try_clone(&life).ok()?,
+            alive: Arc::try_clone(&alive).ok()?,
         };
-        Some(Opening { task, life })
+        Some(NewThread { task, alive })
     }
 
     /// With a thread more. Where there is no room to note it, this one waits for it.
-    pub(crate) fn take_on<R: Threads>(&mut self, rt: &R, thread: JoinHandle<()>, life: Arc<()>)
+    pub(crate) fn add_thread<R: Threads>(&mut self, rt: &R, thread: JoinHandle<()>, alive: Arc<()>)
         ensures { length self.new.threads.items ≤ length self.old.threads.items + 1 }
     {
-        if let Err(refused) = self.threads.push(Reader { thread, life }) {
+        if let Err(refused) = self.threads.push(Reader { thread, alive }) {
             refused.value.join(rt);
         }
     }
 
-    /// What a block comes to that was posted. Where no thread has found it, this one reads what is posted meanwhile, perhaps that
-    /// block; where nothing is, it waits for the threads.
+    /// What a posted block comes to. While no thread has found it, this one reads posted blocks, perhaps that one; where none is
+    /// left, it joins threads until one has.
     ///
     /// # Errors
     ///
     /// Where an allocation failed.
-    pub(crate) fn found<R: Threads>(
+    pub(crate) fn wait_for<R: Threads>(
         &mut self,
         rt: &R,
         alloc: Global,
@@ -174,6 +177,7 @@ impl<A: SoFar> Pool<A> {
         ensures found { IfOk result (A.is_part block.now.block) }
         ensures fewer { length self.new.threads.items ≤ length self.old.threads.items }
     {
+        // Bounded, so that it is proved to end.
         for _ in 0..u64::MAX {
             if let Some(found) = block.take() {
                 return found.part;
@@ -189,6 +193,7 @@ impl<A: SoFar> Pool<A> {
                 return found.part;
             }
         }
+        // Not reached: whoever took the block has left its part by now. No clause says so, so it is read here.
         A::part_of(alloc, &block.block)
     }
 

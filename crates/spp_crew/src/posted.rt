@@ -47,11 +47,12 @@ impl<A: SoFar> Posted<A> {
     /// Reads the block, and leaves there what it comes to.
     pub(crate) fn read(&self, alloc: Global) {
         let part = A::part_of(alloc, &self.block);
-        let (word, right) = self.found.turn(FREE, TAKEN);
+        let (word, claim) = self.found.turn(FREE, TAKEN);
         if word == FREE {
-            drop(right.put(Some(Found { part }), PRESENT));
+            drop(claim.put(Some(Found { part }), PRESENT));
         } else {
-            right.done();
+            // It was read before.
+            claim.done();
         }
     }
 
@@ -64,11 +65,11 @@ impl<A: SoFar> Posted<A> {
     pub(crate) fn take(&self) -> Option<Found<A>>
         ensures { IfSome result (λ found. IfOk found.part (A.is_part self.now.block)) }
     {
-        let (word, right) = self.found.turn(PRESENT, TAKEN);
+        let (word, claim) = self.found.turn(PRESENT, TAKEN);
         if word == PRESENT {
-            right.put(None, FREE)
+            claim.put(None, FREE)
         } else {
-            right.done();
+            claim.done();
             None
         }
     }

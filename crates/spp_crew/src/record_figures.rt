@@ -14,7 +14,7 @@ ghost use Rattle.spp_crew.specs.Blocks.{IsSummaryOfFirst};
 
 use crate::block::{Block, RECORD};
 use crate::joining::Joining;
-use crate::pool::Opening;
+use crate::pool::NewThread;
 use crate::record_head::RecordHead;
 use crate::record_profile::are_bytes;
 use crate::shown::Shown;
@@ -53,8 +53,8 @@ fn cut_off(found: Result<Figures, Fault>, at: u32) -> Fault
     }
 }
 
-/// What is shown, with a thread more that reads blocks, where one waits and there are fewer of them than workers but this one. It is here,
-/// since what goes to a thread must be known to the borrow checker.
+/// What is shown, with a thread more where a posted block is still to be read and there are fewer threads than workers but one. It
+/// is here, since what goes to a thread must be known to the borrow checker.
 fn with_thread<R: Threads>(
     rt: &R,
     alloc: Global,
@@ -67,9 +67,9 @@ fn with_thread<R: Threads>(
     ensures fewer { threads_in shown < workers → threads_in result < workers }
 {
     let mut shown = shown;
-    if let Some(Opening { task, life }) = shown.opening(rt, alloc, workers) {
+    if let Some(NewThread { task, alive }) = shown.new_thread(rt, alloc, workers) {
         if let Ok(thread) = spawn(rt, move || task.run(alloc)) {
-            shown.take_on(rt, thread, life);
+            shown.add_thread(rt, thread, alive);
         }
     }
     shown
@@ -198,8 +198,8 @@ impl RecordFigures {
     }
 
     /// The work, span and burdened span of the run, where all records of its trace have come. Where fewer have than the header
-    /// claims, the bytes end before the next one does, and it is told as cut off. The time is that of waiting for the threads
-    /// that still read records, and of joining what they find, by `Summary::join`.
+    /// claims, the bytes end before the next one does, and it is told as cut off. The time is that of reading the records that
+    /// no thread has begun, of waiting for the threads that still read, and of joining what is found, by `Summary::join`.
     ///
     /// # Errors
     ///

@@ -13,7 +13,7 @@ ghost use Rattle.spp_crew.specs.Shared.{IsShared};
 
 use crate::block::{Block, RECORD};
 use crate::joining::Joining;
-use crate::pool::Opening;
+use crate::pool::NewThread;
 use crate::record_head::RecordHead;
 use crate::shared_profile::SharedProfile;
 use crate::shown::Shown;
@@ -44,8 +44,8 @@ pub(crate) fn are_bytes(bytes: &[u8])
     ensures { (i : ℕ) → slice_index bytes.now i < 256 }
 {}
 
-/// What is shown, with a thread more that reads blocks, where one waits and there are fewer of them than workers but this one. It is here,
-/// since what goes to a thread must be known to the borrow checker.
+/// What is shown, with a thread more where a posted block is still to be read and there are fewer threads than workers but one. It
+/// is here, since what goes to a thread must be known to the borrow checker.
 fn with_thread<R: Threads>(
     rt: &R,
     alloc: Global,
@@ -58,9 +58,9 @@ fn with_thread<R: Threads>(
     ensures fewer { threads_in shown < workers → threads_in result < workers }
 {
     let mut shown = shown;
-    if let Some(Opening { task, life }) = shown.opening(rt, alloc, workers) {
+    if let Some(NewThread { task, alive }) = shown.new_thread(rt, alloc, workers) {
         if let Ok(thread) = spawn(rt, move || task.run(alloc)) {
-            shown.take_on(rt, thread, life);
+            shown.add_thread(rt, thread, alive);
         }
     }
     shown
@@ -122,12 +122,13 @@ impl RecordProfile {
 
     /// The profile behind the whole records of the first `len` of these bytes as well, and room for the bytes of other records:
     /// a list of any bytes, mostly as long. Where so many workers, 1 to 64, are several, the records are posted: a thread, of which
-    /// there are fewer than workers, reads them, by `PartProfile::of_records`, while this one goes on. Each call joins at most
-    /// the records of one call before it, the first that weren't joined, by `ProfileSoFar::join` or, where threads add rows up,
-    /// by `join_aside`: where a thread has read them, or where those of twice as many calls as workers wait. So the time is
+    /// there are fewer than workers, reads them, by `PartProfile::of_records`, while this one goes on. Such a call joins at
+    /// most the records of one call before it, the first that weren't joined, by `ProfileSoFar::join` or, where threads add rows
+    /// up, by `join_aside`: where a thread has read them, or where those of twice as many calls as workers wait. So the time is
     /// that of joining them, and in the second case of reading other records meanwhile, or of waiting for the threads; and that
-    /// of starting a thread, where one is wanting. This thread reads the records itself, by `ProfileSoFar::read_records`, where
-    /// there is one worker, and for some calls behind records that were slow to join (`PartProfile::joins_slowly`). How many
+    /// of starting a thread, where one is wanting. This thread joins all that wait, and reads the records itself, by
+    /// `ProfileSoFar::read_records`, where there is one worker, and for some calls behind records that were slow to join
+    /// (`PartProfile::joins_slowly`). How many
     /// workers there are doesn't show in the profile. The time is constant where a bad event was met before, or where more
     /// records have come than the header claims. The memory, besides that of the profile so far, is at most that of the bytes
     /// of twice as many calls as there are workers, and of what they come to. Where a trace has many call sites, two threads
@@ -227,8 +228,9 @@ impl RecordProfile {
     }
 
     /// The profile of the run, where all records of its trace have come. Where fewer have than the header claims, the bytes end
-    /// before the next one does, and it is told as cut off. The time is that of waiting for the threads that still read
-    /// records, of joining what they find, by `ProfileSoFar::join`, and then of `ProfileSoFar::finish`.
+    /// before the next one does, and it is told as cut off. The time is that of reading the records that no thread has
+    /// begun, of waiting for the threads that still read, of joining what is found, by `ProfileSoFar::join`, and then of
+    /// `ProfileSoFar::finish`.
     ///
     /// # Errors
     ///

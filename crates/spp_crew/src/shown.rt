@@ -8,7 +8,7 @@ ghost use Rattle.spp_crew.specs.declared.shown.Shown.TheVariants.{Good as IsGood
 
 use crate::block::{Block, SoFar};
 use crate::joining::Joining;
-use crate::pool::Opening;
+use crate::pool::NewThread;
 use spp_frame::{Fault, ProfileFault};
 use std::alloc::{AllocError, Global};
 use std::sync::Arc;
@@ -73,35 +73,38 @@ impl<A: SoFar> Shown<A> {
         }
     }
 
-    /// A thread to be started, where a block waits for one and there are fewer than the workers but this one.
-    pub(crate) fn opening<R: Threads>(
+    /// A thread to be started, where a posted block is still to be read and there are fewer threads than workers but one.
+    pub(crate) fn new_thread<R: Threads>(
         &mut self,
         rt: &R,
         alloc: Global,
         workers: u32,
-    ) -> Option<Opening<A>>
+    ) -> Option<NewThread<A>>
         ensures same { (trace : Recording) (burdens : BurdensValue) (k : ℕ) → IsShown A.is_so_far trace burdens k self.old → IsShown A.is_so_far trace burdens k self.new }
         ensures waiting { waiting_in self.new ≡ waiting_in self.old }
         ensures fewer { threads_in self.new ≤ threads_in self.old }
-        ensures room { IfSome result (λ opening. threads_in self.new + 1 < workers) }
+        ensures room { IfSome result (λ new_thread. threads_in self.new + 1 < workers) }
     {
         match self {
             Shown::Good(joining) => joining
                 .pool
-                .opening(rt, alloc, workers.saturating_sub(1) as usize),
+                .new_thread(rt, alloc, workers.saturating_sub(1) as usize),
             Shown::Bad(_) => None,
         }
     }
 
     /// With a thread more that reads blocks.
-    pub(crate) fn take_on<R: Threads>(&mut self, rt: &R, thread: JoinHandle<()>, life: Arc<()>)
+    pub(crate) fn add_thread<R: Threads>(&mut self, rt: &R, thread: JoinHandle<()>, alive: Arc<()>)
         ensures same { (trace : Recording) (burdens : BurdensValue) (k : ℕ) → IsShown A.is_so_far trace burdens k self.old → IsShown A.is_so_far trace burdens k self.new }
         ensures waiting { waiting_in self.new ≡ waiting_in self.old }
         ensures more { threads_in self.new ≤ threads_in self.old + 1 }
     {
         match self {
-            Shown::Good(joining) => joining.pool.take_on(rt, thread, life),
-            Shown::Bad(_) => thread.join(rt),
+            Shown::Good(joining) => joining.pool.add_thread(rt, thread, alive),
+            Shown::Bad(_) => {
+                drop(alive);
+                thread.join(rt);
+            }
         }
     }
 

@@ -1,5 +1,5 @@
 use Rattle.std.proofs.Common.{ℕ, length, ◌≤◌, ◌≡◌}
-use Rattle.spp_crew.proofs.pool.Pool.found.Given as goal
+use Rattle.spp_crew.proofs.pool.Pool.wait_for.Given as goal
 
 abbrev pub invariant-loop-reader : goal.invariant-loop-reader
 invariant-loop-reader g l = length l.self.threads.items ≤ length l.fn.self.threads.items
