@@ -302,7 +302,7 @@ peaks_within 32000 0 "$folder/long" migrate "$folder/long"
 { yes 'call 0 0' | head -n 500000 && yes return | head -n 500000; } > "$folder/tower"
 { printf 'func f\nsite A\n' && for tower in 1 2 3 4 5 6; do cat "$folder/tower"; done; } | "$spprof" encode > "$folder/deep"
 peak_within 160000 "$folder/deep" profile --workers 4
-# While it goes over a block another thread reads the next one: for each of its 92 blocks at most one is started. Over the leaves
+# While it goes over a block another thread reads the next one: for each of its 92 blocks one, or one of the pool. Over the leaves
 # behind a tower threads go that last for many blocks.
 starts_within() { # LEAST MOST NAME INPUT WORDS..: so many threads are started
     local least=$1 most=$2 name=$3 input=$4 status requests starts
@@ -315,7 +315,7 @@ starts_within() { # LEAST MOST NAME INPUT WORDS..: so many threads are started
         fails "$name: $starts threads, and not $least to $most, status $status"
     fi
 }
-starts_within 60 90 'a deep run' "$folder/deep" profile --workers 4
+starts_within 60 100 'a deep run' "$folder/deep" profile --workers 4
 { printf 'func f\nsite A\n' && cat "$folder/tower" && yes $'spawn 0 0\nstrand 3\nreturn' | head -n 4500000; } | "$spprof" encode > "$folder/leaves"
 starts_within 8 84 'leaves behind a deep run' "$folder/leaves" profile --workers 4
 # The first run's bytes are let go before the second is read: the peak is that of the larger run, and not of both.
